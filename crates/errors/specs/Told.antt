@@ -1,0 +1,25 @@
+-- What a call comes to, in document 01's numbers: the form in which every contract says its answer.
+use Prim.Native.Nat.{ℕ}
+
+-- a value, or the number of the refusal
+pub data Told (A : Type 0) : Type 0 where
+  gives : A → Told A
+  refuses : ℕ → Told A
+
+-- a builder's call: 0 or the number of its refusal, and the builder that it hands back
+pub record Step (B : Type 0) : Type 0 where
+  pub number : ℕ
+  pub builder : B
+
+abbrev pub accepted : {B : Type 0} → B → Step B
+accepted b = record { number = 0; builder = b }
+
+-- a refusal hands the builder back as it came in
+abbrev pub refused : {B : Type 0} → ℕ → B → Step B
+refused n b = record { number = n; builder = b }
+
+-- a builder's last call: 0 or the number of its refusal, the item, and the builder as it came in
+pub record Built (I B : Type 0) : Type 0 where
+  pub number : ℕ
+  pub item : I
+  pub builder : B

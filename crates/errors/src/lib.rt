@@ -1,0 +1,73 @@
+// The refusals (errors.rs), each with document 01's number ('Who can cause which answer').
+// The Rust's names; `Gpio` is left out, since no ported operation drives a pin; `NotAnImage` and `OutOfTurn` are added.
+// `I2c` carries the bus's own failure code. Proved: `number` is document 01's list. Left out: the texts for printing.
+ghost use mathlib.Core.Path.{_≡_};
+ghost use Rattle.errors.specs.Number.{errorNumber, answerNumber};
+
+pub enum Error {
+    I2c(u8),
+    VariantMismatch,
+    InvalidValue,
+    NotSupported,
+    NotConfigured,
+    WrongMode,
+    MissingTriggerConfigInEtwmMode,
+    WaveformMemoryFull,
+    TooManySnippets,
+    TooManySequences,
+    InvalidSnippetId,
+    InvalidTimebase,
+    InvalidAmplitude,
+    InvalidFrequency,
+    InvalidLoopCount,
+    EmptySnippet,
+    EmptySequence,
+    NotAnImage,
+    OutOfTurn,
+}
+
+// What a builder's call answers beside the builder.
+pub enum Answer {
+    Done,
+    Refused(Error),
+}
+
+impl Error {
+    pub fn number(self) -> u8
+        ensures { λ r. ⌜ r ≡ errorNumber self ⌝ }
+    {
+        match self {
+            Error::InvalidTimebase => 1,
+            Error::InvalidAmplitude => 2,
+            Error::InvalidSnippetId => 3,
+            Error::InvalidLoopCount => 4,
+            Error::InvalidFrequency => 5,
+            Error::TooManySnippets => 6,
+            Error::TooManySequences => 7,
+            Error::WaveformMemoryFull => 8,
+            Error::EmptySnippet => 9,
+            Error::EmptySequence => 10,
+            Error::InvalidValue => 11,
+            Error::WrongMode => 12,
+            Error::MissingTriggerConfigInEtwmMode => 13,
+            Error::NotSupported => 14,
+            Error::NotConfigured => 15,
+            Error::VariantMismatch => 16,
+            Error::I2c(_) => 17,
+            Error::NotAnImage => 18,
+            Error::OutOfTurn => 19,
+        }
+    }
+}
+
+impl Answer {
+    // The refusal's number, or 0.
+    pub fn number(self) -> u8
+        ensures { λ r. ⌜ r ≡ answerNumber self ⌝ }
+    {
+        match self {
+            Answer::Done => 0,
+            Answer::Refused(e) => e.number(),
+        }
+    }
+}

@@ -1,0 +1,34 @@
+-- Lists that show a part of an array.
+-- Assumes nothing.
+use mathlib.Core.Path.{_≡_, ap, sym, _∙_}
+use mathlib.Core.List.{List, map}
+use Prim.Native.Nat.{ℕ, _≤_, min}
+use native.Mathlib.Decide.{decLe}
+use native.Mathlib.Nat.{min-eq-left, min-eq-right}
+use native.Mathlib.Omega.{arith}
+use lib.ListN.{length, take, length-map, length-take}
+use lib.Seq.{take-all, take-length}
+
+-- a list shows no more than its length
+pub take-shown : {A : Type 0} (l : List A) (n k : ℕ) → k ≡ min n (length l) → take k l ≡ take n l
+take-shown {A} l n k e = ap (λ (m : ℕ). take m l) e ∙ go (decLe n (length l)) where
+  go : Dec (n ≤ length l) → take (min n (length l)) l ≡ take n l
+  go (yes h) = ap (λ (m : ℕ). take m l) (min-eq-left h)
+  go (no h) =
+      let g : length l ≤ n = omega arith in
+      ap (λ (m : ℕ). take m l) (min-eq-right g) ∙ take-length l ∙ sym (take-all n l g)
+
+-- a count n of what a list shows, k of its elements or all where it has fewer
+module _ {A : Type 0} (l : List A) (k n : ℕ) (e : n ≡ length (take k l)) where
+  pub shown-fits : n ≤ length l
+  shown-fits = omega (arith, e ∙ length-take k l)
+
+  pub shown-length : n ≡ length (take n l)
+  shown-length = simp length-take (omega (arith, e ∙ length-take k l))
+
+  pub shown-part : take n l ≡ take k l
+  shown-part = take-shown l k n (e ∙ length-take k l)
+
+-- what is known of a field that is an array of structs stands at a `map` of it
+pub length-of-map : (X Y : Type 0) (f : X → Y) (l : List X) (n : ℕ) → length (map f l) ≡ n → length l ≡ n
+length-of-map X Y f l n e = sym (length-map l f) ∙ e

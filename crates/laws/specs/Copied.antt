@@ -1,0 +1,8 @@
+-- What a lent buffer holds after bytes were copied into it.
+use Prim.Native.Nat.{ℕ}
+use mathlib.Core.List.{List, _++_}
+use lib.ListN.{length, take, drop}
+
+-- as many of the bytes as fit, then the buffer's other bytes
+abbrev pub copied : List ℕ → List ℕ → List ℕ
+copied buffer bytes = take (length buffer) bytes ++ drop (length bytes) buffer

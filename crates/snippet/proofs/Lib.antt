@@ -1,0 +1,3 @@
+pub mod Packed
+pub mod Points
+pub mod Sizes

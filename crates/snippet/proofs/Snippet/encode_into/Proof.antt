@@ -1,0 +1,40 @@
+-- `Snippet::encode_into` meets its contract: the part that is copied is what the snippet shows. Assumes nothing.
+use borrow.Author.Needs.{needs}
+use mathlib.Core.Path.{ap, _∙_}
+use mathlib.Core.List.{List, map}
+use Prim.Native.Nat.{ℕ}
+use denote.Ref.{now}
+use lib.ListN.{length, take}
+use Rattle.laws.specs.Copied.{copied}
+use Rattle.laws.proofs.Lists.{shown-fits, shown-length, shown-part}
+use Rattle.snippet.specs.Snippet.{byteOf}
+use Rattle.snippet.proofs.Snippet.encode_into.Statement.{statement}
+use Rattle.snippet.proofs.Snippet.encode_into.Tie as tie
+
+prefix : tie.Need-array-share-prefix-bytes
+prefix c =
+    let s = c .before .before .before .before .args .self in
+    let n = c .before .byte-len in
+    rw (c .before .before .bytes .ensures) (shown-fits (map byteOf (s .points)) (s .len) (n .result) (n .ensures))
+
+aggregate : tie.Need-slice-aggregate-copy-into
+aggregate c =
+    let s = c .before .before .before .before .before .args .self in
+    let n = c .before .before .byte-len in
+    rw (c .before .before .before .bytes .ensures) (shown-length (map byteOf (s .points)) (s .len) (n .result) (n .ensures))
+
+returns : tie.Need-returns
+returns c =
+    let a = c .before .before .before .before .before .before .before .before .args in
+    let n = c .before .before .before .before .before .byte-len in
+    let bytes = c .before .before .before .before .before .before .bytes in (
+      n .ensures,
+      c .before .before .copy-into .ensures .1
+          ∙ ap (λ (l : List ℕ). copied (now (a .buffer)) (take (n .result) l)) (bytes .ensures)
+          ∙ ap (copied (now (a .buffer))) (shown-part (map byteOf (a .self .points)) (a .self .len) (n .result) (n .ensures)),
+    )
+
+pub encode-into-spec : {M : Type 1} → statement M
+encode-into-spec =
+    tie.close
+    (tie.spec (λ c κs. search needs) (λ c κs. search needs) prefix aggregate (λ c κs. search needs) (λ c. search needs) returns)

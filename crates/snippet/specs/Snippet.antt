@@ -1,0 +1,56 @@
+-- Snippets and their builder: document 01, 'Points, frames, sequences' and 'Who can cause which answer'.
+-- A count can be any byte; sixteen points at most are shown, and a builder with sixteen or more is full.
+use Prim.Native.Nat.{ℕ, _+_}
+use mathlib.Core.Bool.{cond}
+use mathlib.Core.List.{List, map}
+use lib.Dec.{ltb, leb}
+use lib.ListN.{take, set, replicate}
+use Rattle.errors.specs.Number.{answerNumber}
+use Rattle.errors.specs.Told.{Told, gives, refuses, Step, accepted, refused, Built}
+use Rattle.snippet.specs.declared.PwlPoint.{PwlPoint}
+use Rattle.snippet.specs.declared.Snippet.{Snippet}
+use Rattle.snippet.specs.declared.SnippetBuilder.{SnippetBuilder}
+use Rattle.snippet.specs.declared.AddedPoint.{AddedPoint}
+use Rattle.snippet.specs.declared.BuiltSnippet.{BuiltSnippet}
+
+-- the point with a byte, and the byte of a point
+abbrev pub pointOf : ℕ → PwlPoint
+pointOf b = record { byte = b }
+
+abbrev pub byteOf : PwlPoint → ℕ
+byteOf p = p .byte
+
+-- the bytes of a snippet's points, in order
+abbrev pub snippetBytes : Snippet → List ℕ
+snippetBytes s = take (s .len) (map byteOf (s .points))
+
+-- a builder that holds nothing
+abbrev pub newSnippet : SnippetBuilder
+newSnippet = record { points = replicate 16 (pointOf 0); len = 0 }
+
+-- a point more, or 6 for a 17th
+abbrev pub withPoint : SnippetBuilder → PwlPoint → Step SnippetBuilder
+withPoint b p =
+    cond (leb 16 (b .len)) (refused 6 b)
+    (accepted (record { points = set (b .points) (b .len) p; len = b .len + 1 }))
+
+-- a point that was asked for by its fields: its own refusal comes first
+abbrev pub withMade : SnippetBuilder → Told ℕ → Step SnippetBuilder
+withMade b (gives byte) = withPoint b (pointOf byte)
+withMade b (refuses n) = refused n b
+
+abbrev pub addedTold : AddedPoint → Step SnippetBuilder
+addedTold r = record { number = answerNumber (r .answer); builder = r .builder }
+
+abbrev pub noSnippet : Snippet
+noSnippet = record { points = replicate 16 (pointOf 0); len = 0 }
+
+-- the snippet of the builder's points, or 9 where there is none
+abbrev pub builtSnippet : SnippetBuilder → Built Snippet SnippetBuilder
+builtSnippet b =
+    cond (ltb (b .len) 1)
+    (record { number = 9; item = noSnippet; builder = b })
+    (record { number = 0; item = record { points = b .points; len = b .len }; builder = b })
+
+abbrev pub builtTold : BuiltSnippet → Built Snippet SnippetBuilder
+builtTold r = record { number = answerNumber (r .answer); item = r .snippet; builder = r .builder }
