@@ -1,0 +1,84 @@
+-- The calls on a frame's builder: document 01, 'Who can cause which answer'. A field is what the last accepted call gave, else the default.
+use Prim.Native.Nat.{ℕ}
+use mathlib.Core.Bool.{cond}
+use lib.Dec.{ltb}
+use Rattle.errors.specs.Number.{errorNumber, answerNumber}
+use Rattle.errors.specs.Told.{Told, gives, refuses, Step, accepted, refused}
+use Rattle.frame.specs.declared.Gain.{Gain}
+use Rattle.frame.specs.declared.Gain.the-variants.{Full}
+use Rattle.frame.specs.declared.Timebase.{Timebase}
+use Rattle.frame.specs.declared.Timebase.the-variants.{«Ms5_44»}
+use Rattle.frame.specs.declared.LoopCount.the-variants as LoopCount
+use Rattle.frame.specs.declared.Frequency.the-variants as Frequency
+use Rattle.frame.specs.declared.FrameBuilder.{FrameBuilder}
+use Rattle.frame.specs.declared.NewFrame.{NewFrame}
+use Rattle.frame.specs.declared.NewFrame.the-variants as NewFrame
+use Rattle.frame.specs.declared.SetFrame.{SetFrame}
+
+-- the Rust's defaults: full gain, 5.44 ms, no loop count, no frequency
+abbrev pub plainFrame : ℕ → FrameBuilder
+plainFrame n =
+    record {
+      «snippet_id» = n;
+      gain = Full;
+      timebase = «Ms5_44»;
+      «loop_count» = LoopCount.Absent;
+      frequency = Frequency.Absent;
+    }
+
+-- 3 for a number that is 0 or above 15
+abbrev pub newFrame : ℕ → Told FrameBuilder
+newFrame n = cond (ltb n 1) (refuses 3) (cond (ltb 15 n) (refuses 3) (gives (plainFrame n)))
+
+abbrev pub newTold : NewFrame → Told FrameBuilder
+newTold (NewFrame.Builder b) = gives b
+newTold (NewFrame.Refused e) = refuses (errorNumber e)
+
+abbrev pub withGain : FrameBuilder → Gain → FrameBuilder
+withGain b g =
+    record {
+      «snippet_id» = b .«snippet_id»;
+      gain = g;
+      timebase = b .timebase;
+      «loop_count» = b .«loop_count»;
+      frequency = b .frequency;
+    }
+
+abbrev pub withTimebase : FrameBuilder → Timebase → FrameBuilder
+withTimebase b t =
+    record {
+      «snippet_id» = b .«snippet_id»;
+      gain = b .gain;
+      timebase = t;
+      «loop_count» = b .«loop_count»;
+      frequency = b .frequency;
+    }
+
+-- 4 for a count above 15
+abbrev pub withLoopCount : FrameBuilder → ℕ → Step FrameBuilder
+withLoopCount b k =
+    cond (ltb 15 k) (refused 4 b)
+    (accepted
+    (record {
+      «snippet_id» = b .«snippet_id»;
+      gain = b .gain;
+      timebase = b .timebase;
+      «loop_count» = LoopCount.Given k;
+      frequency = b .frequency;
+    }))
+
+-- 5 for a frequency above 511
+abbrev pub withFrequency : FrameBuilder → ℕ → Step FrameBuilder
+withFrequency b f =
+    cond (ltb 511 f) (refused 5 b)
+    (accepted
+    (record {
+      «snippet_id» = b .«snippet_id»;
+      gain = b .gain;
+      timebase = b .timebase;
+      «loop_count» = b .«loop_count»;
+      frequency = Frequency.Given f;
+    }))
+
+abbrev pub setTold : SetFrame → Step FrameBuilder
+setTold r = record { number = answerNumber (r .answer); builder = r .builder }

@@ -1,0 +1,280 @@
+// Frames and their builder (waveform/frame.rs; document 01, 'Points, frames, sequences').
+// Proved: each function answers what specs/ says of its arguments, whatever the builder's fields hold, and a refusal hands the
+// builder back as it came in. proofs/Frames.antt: frames agree, in the user's words, exactly when their bytes are the same.
+// `build` gives the frame itself, since it cannot refuse; `as_bytes` gives the array, of which the first `byte_len` are the
+// frame's; no function here takes a closure.
+ghost use mathlib.Core.Path.{_≡_};
+ghost use Prim.Native.Nat.{min, _%_};
+ghost use lib.ListN.{length};
+ghost use Rattle.laws.specs.Copied.{copied};
+ghost use Rattle.frame.specs.Builder.{plainFrame, newFrame, newTold, withGain, withTimebase, withLoopCount, withFrequency, setTold};
+ghost use Rattle.frame.specs.Frame.{gainCode, timebaseCode, loops, frameBytes, builtFrame};
+use errors::Answer;
+use errors::Error;
+
+mod bits;
+
+pub enum Gain {
+    Full,
+    Half,
+    Quarter,
+    Eighth,
+}
+
+pub enum Timebase {
+    Ms5_44,
+    Ms21_76,
+    Ms43_52,
+    Ms87_04,
+}
+
+pub enum LoopCount {
+    Absent,
+    Given(u8),
+}
+
+pub enum Frequency {
+    Absent,
+    Given(u16),
+}
+
+pub struct Frame {
+    bytes: [u8; 3],
+    len: u8,
+}
+
+pub struct FrameBuilder {
+    snippet_id: u8,
+    gain: Gain,
+    timebase: Timebase,
+    loop_count: LoopCount,
+    frequency: Frequency,
+}
+
+// What `new` answers.
+pub enum NewFrame {
+    Builder(FrameBuilder),
+    Refused(Error),
+}
+
+// What setting a field answers, with the builder to go on with.
+pub struct SetFrame {
+    pub answer: Answer,
+    pub builder: FrameBuilder,
+}
+
+impl Gain {
+    pub fn code(self) -> u8
+        ensures { λ r. ⌜ r ≡ gainCode self ⌝ }
+    {
+        match self {
+            Gain::Full => 0,
+            Gain::Half => 1,
+            Gain::Quarter => 2,
+            Gain::Eighth => 3,
+        }
+    }
+}
+
+impl Timebase {
+    pub fn code(self) -> u8
+        ensures { λ r. ⌜ r ≡ timebaseCode self ⌝ }
+    {
+        match self {
+            Timebase::Ms5_44 => 0,
+            Timebase::Ms21_76 => 1,
+            Timebase::Ms43_52 => 2,
+            Timebase::Ms87_04 => 3,
+        }
+    }
+}
+
+impl Frame {
+    pub fn byte_len(self) -> usize
+        ensures { λ r. ⌜ r ≡ length (frameBytes self) ⌝ }
+    {
+        if self.len < 3 { self.len as usize } else { 3 }
+    }
+
+    // The bytes, in an array; the frame's are the first `byte_len`.
+    pub fn as_bytes(self) -> [u8; 3]
+        ensures { λ r. ⌜ r ≡ self .bytes ⌝ }
+    {
+        self.bytes
+    }
+
+    // Copies as much as fits, and answers the bytes copied.
+    pub fn encode_into(self, buffer: &mut [u8]) -> usize
+        ensures { λ r. ⌜ r ≡ min (length (frameBytes self)) (length (now (buffer .entry))) ⌝ }
+        ensures { λ _. ⌜ now (buffer .exit) ≡ copied (now (buffer .entry)) (frameBytes self) ⌝ }
+    {
+        let bytes = self.bytes;
+        let n = self.byte_len();
+        laws::copy_into(buffer, &bytes[..n])
+    }
+}
+
+impl FrameBuilder {
+    pub fn new(snippet_id: u8) -> NewFrame
+        ensures { λ r. ⌜ newTold r ≡ newFrame «snippet_id» ⌝ }
+    {
+        if snippet_id < 1 {
+            return NewFrame::Refused(Error::InvalidSnippetId);
+        }
+        if 15 < snippet_id {
+            return NewFrame::Refused(Error::InvalidSnippetId);
+        }
+        NewFrame::Builder(FrameBuilder {
+            snippet_id: snippet_id,
+            gain: Gain::Full,
+            timebase: Timebase::Ms5_44,
+            loop_count: LoopCount::Absent,
+            frequency: Frequency::Absent,
+        })
+    }
+
+    // The built-in silence, number 0.
+    pub fn silence() -> FrameBuilder
+        ensures { λ r. ⌜ r ≡ plainFrame 0 ⌝ }
+    {
+        FrameBuilder {
+            snippet_id: 0,
+            gain: Gain::Full,
+            timebase: Timebase::Ms5_44,
+            loop_count: LoopCount::Absent,
+            frequency: Frequency::Absent,
+        }
+    }
+
+    pub fn gain(self, gain: Gain) -> FrameBuilder
+        ensures { λ r. ⌜ r ≡ withGain self gain ⌝ }
+    {
+        let timebase = self.timebase;
+        let loop_count = self.loop_count;
+        let frequency = self.frequency;
+        FrameBuilder {
+            snippet_id: self.snippet_id,
+            gain: gain,
+            timebase: timebase,
+            loop_count: loop_count,
+            frequency: frequency,
+        }
+    }
+
+    pub fn timebase(self, timebase: Timebase) -> FrameBuilder
+        ensures { λ r. ⌜ r ≡ withTimebase self timebase ⌝ }
+    {
+        let gain = self.gain;
+        let loop_count = self.loop_count;
+        let frequency = self.frequency;
+        FrameBuilder {
+            snippet_id: self.snippet_id,
+            gain: gain,
+            timebase: timebase,
+            loop_count: loop_count,
+            frequency: frequency,
+        }
+    }
+
+    pub fn loop_count(self, count: u8) -> SetFrame
+        ensures { λ r. ⌜ setTold r ≡ withLoopCount self count ⌝ }
+    {
+        if 15 < count {
+            return SetFrame {
+                answer: Answer::Refused(Error::InvalidLoopCount),
+                builder: self,
+            };
+        }
+        let gain = self.gain;
+        let timebase = self.timebase;
+        let frequency = self.frequency;
+        SetFrame {
+            answer: Answer::Done,
+            builder: FrameBuilder {
+                snippet_id: self.snippet_id,
+                gain: gain,
+                timebase: timebase,
+                loop_count: LoopCount::Given(count),
+                frequency: frequency,
+            },
+        }
+    }
+
+    pub fn frequency_hz(self, freq_hz: u16) -> SetFrame
+        ensures { λ r. ⌜ setTold r ≡ withFrequency self «freq_hz» ⌝ }
+    {
+        if 511 < freq_hz {
+            return SetFrame {
+                answer: Answer::Refused(Error::InvalidFrequency),
+                builder: self,
+            };
+        }
+        let gain = self.gain;
+        let timebase = self.timebase;
+        let loop_count = self.loop_count;
+        SetFrame {
+            answer: Answer::Done,
+            builder: FrameBuilder {
+                snippet_id: self.snippet_id,
+                gain: gain,
+                timebase: timebase,
+                loop_count: loop_count,
+                frequency: Frequency::Given(freq_hz),
+            },
+        }
+    }
+
+    pub fn build(self) -> Frame
+        ensures { λ r. ⌜ r ≡ builtFrame self ⌝ }
+    {
+        let id = self.snippet_id;
+        let gain = self.gain;
+        let timebase = self.timebase;
+        let loop_count = self.loop_count;
+        let frequency = self.frequency;
+        let b1 = bits::first(gain.code(), timebase.code(), id);
+        match frequency {
+            Frequency::Given(f) => {
+                let b2 = bits::second(loop_code(loop_count), bits::frequency(f), id);
+                let b3 = bits::low_byte(f);
+                Frame {
+                    bytes: [b1, b2, b3],
+                    len: 3,
+                }
+            }
+            Frequency::Absent => match loop_count {
+                LoopCount::Given(n) => {
+                    let b2 = bits::second(n, 0, id);
+                    Frame {
+                        bytes: [b1, b2, 0],
+                        len: 2,
+                    }
+                }
+                LoopCount::Absent => {
+                    if bits::low1(id >> 3) == 0 {
+                        Frame {
+                            bytes: [b1, 0, 0],
+                            len: 1,
+                        }
+                    } else {
+                        let b2 = bits::second(0, 0, id);
+                        Frame {
+                            bytes: [b1, b2, 0],
+                            len: 2,
+                        }
+                    }
+                }
+            },
+        }
+    }
+}
+
+// A loop count, 0 if absent; only its low four bits count.
+fn loop_code(c: LoopCount) -> u8
+    ensures { λ r. ⌜ r % 16 ≡ loops c ⌝ }
+{
+    match c {
+        LoopCount::Absent => 0,
+        LoopCount::Given(n) => n,
+    }
+}
