@@ -1,2 +1,6 @@
 pub mod Built
+pub mod Canon
+pub mod Frames
 pub mod Packed
+pub mod Reading
+pub mod Written

@@ -1,3 +1,4 @@
 pub mod Agreement
 pub mod Builder
 pub mod Frame
+pub mod Read

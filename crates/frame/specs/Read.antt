@@ -1,0 +1,77 @@
+-- The frame that a list of bytes begins with, if a builder makes one: document 01, 'The hundred bytes'.
+use Prim.Native.Nat.{ℕ, zero, suc, _+_, _*_, _/_, _%_}
+use mathlib.Core.Bool.{cond}
+use mathlib.Core.List.{List, [], _∷_}
+use mathlib.Core.Option.{Option, none, some}
+use lib.Dec.{ltb}
+use Rattle.frame.specs.declared.Gain.{Gain}
+use Rattle.frame.specs.declared.Gain.the-variants.{Full, Half, Quarter, Eighth}
+use Rattle.frame.specs.declared.Timebase.{Timebase}
+use Rattle.frame.specs.declared.Timebase.the-variants.{«Ms5_44», «Ms21_76», «Ms43_52», «Ms87_04»}
+use Rattle.frame.specs.declared.LoopCount.{LoopCount}
+use Rattle.frame.specs.declared.LoopCount.the-variants as LoopCount
+use Rattle.frame.specs.declared.Frequency.{Frequency}
+use Rattle.frame.specs.declared.Frequency.the-variants as Frequency
+use Rattle.frame.specs.declared.FrameBuilder.{FrameBuilder}
+
+-- a code past the last counts as the last
+abbrev pub gainAt : ℕ → Gain
+gainAt zero = Full
+gainAt (suc zero) = Half
+gainAt (suc (suc zero)) = Quarter
+gainAt (suc (suc (suc n))) = Eighth
+
+abbrev pub timebaseAt : ℕ → Timebase
+timebaseAt zero = «Ms5_44»
+timebaseAt (suc zero) = «Ms21_76»
+timebaseAt (suc (suc zero)) = «Ms43_52»
+timebaseAt (suc (suc (suc n))) = «Ms87_04»
+
+-- the fields that the first byte a tells, with the others
+abbrev pub fieldsIn : ℕ → ℕ → LoopCount → Frequency → FrameBuilder
+fieldsIn a n k f =
+    record {
+      «snippet_id» = n;
+      gain = gainAt (a / 32 % 4);
+      timebase = timebaseAt (a / 8 % 4);
+      «loop_count» = k;
+      frequency = f;
+    }
+
+-- "an absent loop count for a one-byte frame, a present one otherwise"
+abbrev pub oneByte : ℕ → FrameBuilder
+oneByte a = fieldsIn a (a % 8) LoopCount.Absent Frequency.Absent
+
+abbrev pub twoBytes : ℕ → ℕ → FrameBuilder
+twoBytes a b = fieldsIn a (b % 2 * 8 + a % 8) (LoopCount.Given (b / 8 % 16)) Frequency.Absent
+
+abbrev pub threeBytes : ℕ → ℕ → ℕ → FrameBuilder
+threeBytes a b c = fieldsIn a (b % 2 * 8 + a % 8) (LoopCount.Given (b / 8 % 16)) (Frequency.Given (b / 2 % 2 * 256 + c))
+
+-- a frame and the bytes after it
+pub record Parsed : Type 0 where
+  pub frame : FrameBuilder
+  pub rest : List ℕ
+
+abbrev pub parsed : FrameBuilder → List ℕ → Option Parsed
+parsed f r = some (record { frame = f; rest = r })
+
+abbrev pub readThird : ℕ → ℕ → List ℕ → Option Parsed
+readThird a b [] = none
+readThird a b (c ∷ r) = parsed (threeBytes a b c) r
+
+-- bit 2 of the second byte says whether a third follows; "bit 2 clear and bit 1 set is made by no builder"
+abbrev pub readSecond : ℕ → ℕ → List ℕ → Option Parsed
+readSecond a b r =
+    cond (ltb (b / 4 % 2) 1)
+    (cond (ltb (b / 2 % 2) 1) (parsed (twoBytes a b) r) none)
+    (readThird a b r)
+
+-- a byte with bit 7 set belongs to the frame, one with bit 7 clear begins the next
+abbrev pub readAfter : ℕ → List ℕ → Option Parsed
+readAfter a [] = parsed (oneByte a) []
+readAfter a (b ∷ r) = cond (ltb b 128) (parsed (oneByte a) (b ∷ r)) (readSecond a b r)
+
+unfoldable pub readFrame : List ℕ → Option Parsed
+readFrame [] = none
+readFrame (a ∷ r) = cond (ltb a 128) (readAfter a r) none
