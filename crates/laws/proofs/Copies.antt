@@ -1,14 +1,16 @@
 -- Copying byte by byte from the front is `copied`.
 -- Assumes nothing.
 use mathlib.Core.Path.{_≡_, ap, sym, _∙_}
-use mathlib.Core.List.{List, _++_}
-use Prim.Native.Nat.{ℕ, _≤_, min}
+use mathlib.Core.List.{List, [], _++_, append-assoc, append-nil}
+use Prim.Native.Nat.{ℕ, _+_, _-_, _≤_, min}
 use native.Mathlib.Decide.{decLe}
 use native.Mathlib.Nat.{zero-add, le-refl}
 use native.Mathlib.Omega.{arith}
-use lib.ListN.{length, take, drop, drop-of-length-le}
-use lib.Seq.{paste, take-all}
-use Rattle.laws.specs.Copied.{copied}
+use lib.ListN.{length, take, drop, length-drop, drop-of-length-le}
+use lib.Seq.{paste, take-all, drop-drop}
+use borrow.Rule.Slice.PartMut.{midOf, postOf, putMid}
+use borrow.Rule.Slice.PartAt.{part-to-end}
+use Rattle.laws.specs.Copied.{copied, over}
 
 -- the first k of xs laid over the front of d, k being as many as there are of both
 pub paste-copied : (d xs : List ℕ) (k : ℕ) → k ≡ min (length xs) (length d) → paste d 0 xs k ≡ copied d xs
@@ -23,3 +25,20 @@ paste-copied d xs k e = ap (λ (j : ℕ). take k xs ++ drop j d) (zero-add k) �
       let g : length d ≤ length xs = omega arith in
       ap (λ (j : ℕ). take j xs ++ drop j d) f
       ∙ ap (λ (l : List ℕ). take (length d) xs ++ l) (drop-of-length-le d (le-refl (length d)) ∙ sym (drop-of-length-le d g))
+
+-- what fits from an index on, copied there, is laid over the list
+pub copied-over : (d xs : List ℕ) (at : ℕ) → at + length xs ≤ length d → take at d ++ copied (drop at d) xs ≡ over d at xs
+copied-over d xs at h =
+    ap (λ (l : List ℕ). take at d ++ (l ++ drop (length xs) (drop at d))) (take-all (length (drop at d)) xs (simp length-drop (omega arith)))
+    ∙ ap (λ (l : List ℕ). take at d ++ (xs ++ l)) (drop-drop (length xs) at d)
+    ∙ sym (append-assoc (take at d) xs (drop (at + length xs) d))
+
+-- the same, where the list's end from the index on was lent to the copying
+pub put-over : (d xs : List ℕ) (at n : ℕ) → length d ≡ n → at + length xs ≤ n → putMid at (n - at) d (copied (midOf at (n - at) d) xs) ≡ over d at xs
+put-over d xs at n e h =
+    let m : midOf at (n - at) d ≡ drop at d = ap (λ (k : ℕ). midOf at (k - at) d) (sym e) ∙ part-to-end d at in
+    let p : postOf at (n - at) d ≡ [] = drop-of-length-le (drop at d) {i = n - at} (simp length-drop (omega arith)) in
+    ap (λ (l : List ℕ). take at d ++ (copied l xs ++ postOf at (n - at) d)) m
+    ∙ ap (λ (l : List ℕ). take at d ++ (copied (drop at d) xs ++ l)) p
+    ∙ ap (λ (l : List ℕ). take at d ++ l) (append-nil (copied (drop at d) xs))
+    ∙ copied-over d xs at (omega arith)

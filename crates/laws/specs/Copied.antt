@@ -1,8 +1,12 @@
 -- What a lent buffer holds after bytes were copied into it.
-use Prim.Native.Nat.{ℕ}
+use Prim.Native.Nat.{ℕ, _+_}
 use mathlib.Core.List.{List, _++_}
 use lib.ListN.{length, take, drop}
 
 -- as many of the bytes as fit, then the buffer's other bytes
 abbrev pub copied : List ℕ → List ℕ → List ℕ
 copied buffer bytes = take (length buffer) bytes ++ drop (length bytes) buffer
+
+-- bytes laid over a list from an index on
+abbrev pub over : List ℕ → ℕ → List ℕ → List ℕ
+over l at bytes = take at l ++ bytes ++ drop (at + length bytes) l
