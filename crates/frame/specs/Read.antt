@@ -1,9 +1,10 @@
 -- The frame that a list of bytes begins with, if a builder makes one: document 01, 'The hundred bytes'.
-use Prim.Native.Nat.{ℕ, zero, suc, _+_, _*_, _/_, _%_}
+use Prim.Native.Nat.{ℕ, _+_, _*_, _/_, _%_}
 use mathlib.Core.Bool.{cond}
 use mathlib.Core.List.{List, [], _∷_}
 use mathlib.Core.Option.{Option, none, some}
 use lib.Dec.{ltb}
+use lib.ListN.{getD}
 use Rattle.frame.specs.declared.Gain.{Gain}
 use Rattle.frame.specs.declared.Gain.the-variants.{Full, Half, Quarter, Eighth}
 use Rattle.frame.specs.declared.Timebase.{Timebase}
@@ -16,16 +17,10 @@ use Rattle.frame.specs.declared.FrameBuilder.{FrameBuilder}
 
 -- a code past the last counts as the last
 abbrev pub gainAt : ℕ → Gain
-gainAt zero = Full
-gainAt (suc zero) = Half
-gainAt (suc (suc zero)) = Quarter
-gainAt (suc (suc (suc n))) = Eighth
+gainAt code = getD (Full ∷ Half ∷ Quarter ∷ []) code Eighth
 
 abbrev pub timebaseAt : ℕ → Timebase
-timebaseAt zero = «Ms5_44»
-timebaseAt (suc zero) = «Ms21_76»
-timebaseAt (suc (suc zero)) = «Ms43_52»
-timebaseAt (suc (suc (suc n))) = «Ms87_04»
+timebaseAt code = getD («Ms5_44» ∷ «Ms21_76» ∷ «Ms43_52» ∷ []) code «Ms87_04»
 
 -- the fields that the first byte a tells, with the others
 abbrev pub fieldsIn : ℕ → ℕ → LoopCount → Frequency → FrameBuilder

@@ -8,6 +8,7 @@ ghost use Prim.Native.Nat.{min, _%_};
 ghost use lib.ListN.{length};
 ghost use Rattle.laws.specs.Copied.{copied};
 ghost use Rattle.frame.specs.Builder.{plainFrame, newFrame, newTold, withGain, withTimebase, withLoopCount, withFrequency, setTold};
+ghost use Rattle.frame.specs.Read.{gainAt, timebaseAt};
 ghost use Rattle.frame.specs.Frame.{gainCode, timebaseCode, loops, frameBytes, builtFrame};
 use errors::Answer;
 use errors::Error;
@@ -64,6 +65,18 @@ pub struct SetFrame {
 }
 
 impl Gain {
+    // A code past the last counts as the last.
+    pub fn from_code(code: u8) -> Gain
+        ensures { λ r. ⌜ r ≡ gainAt code ⌝ }
+    {
+        match code {
+            0 => Gain::Full,
+            1 => Gain::Half,
+            2 => Gain::Quarter,
+            _ => Gain::Eighth,
+        }
+    }
+
     pub fn code(self) -> u8
         ensures { λ r. ⌜ r ≡ gainCode self ⌝ }
     {
@@ -77,6 +90,18 @@ impl Gain {
 }
 
 impl Timebase {
+    // A code past the last counts as the last.
+    pub fn from_code(code: u8) -> Timebase
+        ensures { λ r. ⌜ r ≡ timebaseAt code ⌝ }
+    {
+        match code {
+            0 => Timebase::Ms5_44,
+            1 => Timebase::Ms21_76,
+            2 => Timebase::Ms43_52,
+            _ => Timebase::Ms87_04,
+        }
+    }
+
     pub fn code(self) -> u8
         ensures { λ r. ⌜ r ≡ timebaseCode self ⌝ }
     {
