@@ -1,3 +1,4 @@
+pub mod Answers
 pub mod Copies
 pub mod Lists
 pub mod Tests

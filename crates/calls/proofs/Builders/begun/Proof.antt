@@ -1,0 +1,20 @@
+-- Each arm by the equation that names its variant. Assumes nothing.
+use borrow.Author.Needs.{needs}
+use Rattle.calls.proofs.Builders.begun.Statement.{statement}
+use Rattle.calls.proofs.Builders.begun.Tie as tie
+
+returns : tie.Need-returns
+returns c = simp (c .before .before .r .given .1) (c .with-frame .ensures)
+
+returns-2 : tie.Need-returns-2
+returns-2 c = simp (c .before .r2 .given .1)
+
+pub begun-spec : {M : Type 1} → statement M
+begun-spec =
+    tie.close
+    (tie.spec
+    (λ c. search needs)
+    (λ c κs. search needs)
+    (λ c. search needs)
+    returns
+    returns-2)
