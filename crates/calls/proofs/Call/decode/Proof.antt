@@ -1,8 +1,5 @@
 -- The codes by their arms; the last arm is past the list. Assumes nothing.
-use mathlib.Core.Path.{sym}
-use native.Mathlib.Omega.{arith}
-use lib.ListN.{List·getD-eq-default}
-use Rattle.laws.proofs.Tests.{past}
+use Rattle.laws.proofs.Tests.{past-list}
 use Rattle.calls.specs.declared.Call.the-variants as Call
 use Rattle.calls.specs.Calls.{codes}
 use borrow.Author.Needs.{needs}
@@ -34,10 +31,7 @@ returns-11 : tie.Need-returns-11
 returns-11 c = simp (c .wide .ensures, c .before .match .keys11)
 
 returns-14 : tie.Need-returns-14
-returns-14 c =
-    let r = c .match .rest in
-    let n = c .before .args .code in
-    sym (List·getD-eq-default (codes (c .before .args .a) (c .before .args .b)) Call.Nothing (past 12 n (past 11 n (past 10 n (past 9 n (past 8 n (past 7 n (past 6 n (past 5 n (past 4 n (past 3 n (past 2 n (past 1 n (past 0 n (omega arith) (r .0 .0 .0 .0 .0 .0 .0 .0 .0 .0 .0 .0 .1)) (r .0 .0 .0 .0 .0 .0 .0 .0 .0 .0 .0 .1)) (r .0 .0 .0 .0 .0 .0 .0 .0 .0 .0 .1)) (r .0 .0 .0 .0 .0 .0 .0 .0 .0 .1)) (r .0 .0 .0 .0 .0 .0 .0 .0 .1)) (r .0 .0 .0 .0 .0 .0 .0 .1)) (r .0 .0 .0 .0 .0 .0 .1)) (r .0 .0 .0 .0 .0 .1)) (r .0 .0 .0 .0 .1)) (r .0 .0 .0 .1)) (r .0 .0 .1)) (r .0 .1)) (r .1)))
+returns-14 c = past-list (codes (c .before .args .a) (c .before .args .b)) Call.Nothing (c .before .args .code) (c .match .rest)
 
 pub decode-spec : {M : Type 1} → statement M
 decode-spec =
