@@ -9,7 +9,7 @@ use Rattle.snippet.specs.declared.SnippetBuilder.{SnippetBuilder}
 use Rattle.snippet.specs.Point.{point}
 use Rattle.snippet.specs.Snippet.{pointOf, newSnippet, withPoint, withMade}
 use Rattle.frame.specs.declared.FrameBuilder.{FrameBuilder}
-use Rattle.frame.specs.Builder.{plainFrame, newFrame, withGain, withTimebase, withLoopCount, withFrequency}
+use Rattle.frame.specs.Builder.{silentFrame, newFrame, withGain, withTimebase, withLoopCount, withFrequency}
 use Rattle.frame.specs.Frame.{builtFrame}
 use Rattle.frame.specs.Read.{gainAt, timebaseAt}
 use Rattle.sequence.specs.declared.SequenceBuilder.{SequenceBuilder}
@@ -43,7 +43,7 @@ called b (Call.Ramp t a) = onSnippet b (withMade (b .snippet) (point true t a))
 called b (Call.Step t a) = onSnippet b (withMade (b .snippet) (point false t a))
 called b (Call.Point byte) = onSnippet b (withPoint (b .snippet) (pointOf byte))
 called b (Call.FrameNew n) = begun b (newFrame n)
-called b Call.Silence = onFrame b (accepted (plainFrame 0))
+called b Call.Silence = onFrame b (accepted silentFrame)
 called b (Call.Gain g) = onFrame b (accepted (withGain (b .frame) (gainAt g)))
 called b (Call.Timebase t) = onFrame b (accepted (withTimebase (b .frame) (timebaseAt t)))
 called b (Call.LoopCount k) = onFrame b (withLoopCount (b .frame) k)
@@ -58,7 +58,7 @@ steppedTold r = record { number = answerNumber (r .answer); builder = r .builder
 -- ---- a list of calls
 
 abbrev pub started : Builders
-started = record { snippet = newSnippet; frame = plainFrame 0; sequence = newSequence }
+started = record { snippet = newSnippet; frame = silentFrame; sequence = newSequence }
 
 -- the builders after the calls, and the calls' numbers
 unfoldable pub after : Builders → List Call → Builders

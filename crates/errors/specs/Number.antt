@@ -22,13 +22,14 @@ errorNumber Error.InvalidValue = 11
 errorNumber Error.WrongMode = 12
 errorNumber Error.MissingTriggerConfigInEtwmMode = 13
 errorNumber Error.NotSupported = 14
--- the calling program
+-- the calling program (8 as well, for `from_bytes`)
 errorNumber Error.NotConfigured = 15
 -- the board
 errorNumber Error.VariantMismatch = 16
 errorNumber (Error.I2c code) = 17
--- whoever hands in an image to read, and the calling program again
+-- whoever hands in an image to read
 errorNumber Error.NotAnImage = 18
+-- the calling program
 errorNumber Error.OutOfTurn = 19
 
 -- 0 where nothing was refused

@@ -1,7 +1,7 @@
--- What a call comes to, in document 01's numbers: the form in which every contract says its answer.
+-- What a call that can refuse comes to, in document 01's numbers: the form in which its contract says the answer.
 use Prim.Native.Nat.{ℕ}
 
--- a value, or the number of the refusal
+-- a value, or the number of the refusal, 1 to 19
 pub data Told (A : Type 0) : Type 0 where
   gives : A → Told A
   refuses : ℕ → Told A
@@ -18,7 +18,7 @@ accepted b = record { number = 0; builder = b }
 abbrev pub refused : {B : Type 0} → ℕ → B → Step B
 refused n b = record { number = n; builder = b }
 
--- a builder's last call: 0 or the number of its refusal, the item, and the builder as it came in
+-- building: 0 or the number of its refusal, the item, and the builder as it came in
 pub record Built (I B : Type 0) : Type 0 where
   pub number : ℕ
   pub item : I

@@ -8,7 +8,7 @@ use Rattle.frame.specs.declared.LoopCount.{LoopCount}
 use Rattle.frame.specs.declared.LoopCount.the-variants as LoopCount
 use Rattle.frame.specs.declared.Frequency.{Frequency}
 use Rattle.frame.specs.declared.FrameBuilder.{FrameBuilder}
-use Rattle.frame.specs.Agreement.{equalsZero, LoopsAgree, Agree}
+use Rattle.frame.specs.Agreement.{absentIsZero, LoopsAgree, Agree}
 
 -- the loop count that stands in the bytes
 abbrev pub written : Bool → LoopCount → LoopCount
@@ -21,7 +21,7 @@ canon f =
       «snippet_id» = f .«snippet_id»;
       gain = f .gain;
       timebase = f .timebase;
-      «loop_count» = written (equalsZero (f .«snippet_id») (f .frequency)) (f .«loop_count»);
+      «loop_count» = written (absentIsZero (f .«snippet_id») (f .frequency)) (f .«loop_count»);
       frequency = f .frequency;
     }
 
@@ -46,22 +46,22 @@ unfolding canon
 canon-agree f g e =
     let n : f .«snippet_id» ≡ g .«snippet_id» = ap (λ (h : FrameBuilder). h .«snippet_id») e in
     let q : f .frequency ≡ g .frequency = ap (λ (h : FrameBuilder). h .frequency) e in
-    let z : equalsZero (f .«snippet_id») (f .frequency) ≡ equalsZero (g .«snippet_id») (g .frequency) = λ i. equalsZero (n i) (q i) in
+    let z : absentIsZero (f .«snippet_id») (f .frequency) ≡ absentIsZero (g .«snippet_id») (g .frequency) = λ i. absentIsZero (n i) (q i) in
     record {
       gains = ap (λ (h : FrameBuilder). h .gain) e;
       timebases = ap (λ (h : FrameBuilder). h .timebase) e;
       numbers = n;
       frequencies = q;
-      loopCounts = loops-agree (equalsZero (f .«snippet_id») (f .frequency)) (f .«loop_count») (g .«loop_count»)
+      loopCounts = loops-agree (absentIsZero (f .«snippet_id») (f .frequency)) (f .«loop_count») (g .«loop_count»)
           (ap (λ (h : FrameBuilder). h .«loop_count») e ∙ ap (λ (b : Bool). written b (g .«loop_count»)) (sym z));
     }
 
 pub agree-canon : (f g : FrameBuilder) → Agree f g → canon f ≡ canon g
 unfolding canon
 agree-canon f g a =
-    let z : equalsZero (f .«snippet_id») (f .frequency) ≡ equalsZero (g .«snippet_id») (g .frequency) = λ i. equalsZero (a .numbers i) (a .frequencies i) in
-    let k : written (equalsZero (f .«snippet_id») (f .frequency)) (f .«loop_count») ≡ written (equalsZero (g .«snippet_id») (g .frequency)) (g .«loop_count») =
-    loops-written (equalsZero (f .«snippet_id») (f .frequency)) (f .«loop_count») (g .«loop_count») (a .loopCounts) ∙ ap (λ (b : Bool). written b (g .«loop_count»)) z in
+    let z : absentIsZero (f .«snippet_id») (f .frequency) ≡ absentIsZero (g .«snippet_id») (g .frequency) = λ i. absentIsZero (a .numbers i) (a .frequencies i) in
+    let k : written (absentIsZero (f .«snippet_id») (f .frequency)) (f .«loop_count») ≡ written (absentIsZero (g .«snippet_id») (g .frequency)) (g .«loop_count») =
+    loops-written (absentIsZero (f .«snippet_id») (f .frequency)) (f .«loop_count») (g .«loop_count») (a .loopCounts) ∙ ap (λ (b : Bool). written b (g .«loop_count»)) z in
     λ i. record {
       «snippet_id» = a .numbers i;
       gain = a .gains i;

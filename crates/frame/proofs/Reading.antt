@@ -18,7 +18,7 @@ use Rattle.frame.specs.declared.LoopCount.the-variants as LoopCount
 use Rattle.frame.specs.declared.Frequency.{Frequency}
 use Rattle.frame.specs.declared.Frequency.the-variants as Frequency
 use Rattle.frame.specs.declared.FrameBuilder.{FrameBuilder}
-use Rattle.frame.specs.Agreement.{FrameAdmitted, LoopAdmitted, FrequencyAdmitted, equalsZero}
+use Rattle.frame.specs.Agreement.{FrameAdmitted, LoopAdmitted, FrequencyAdmitted, absentIsZero}
 use Rattle.frame.specs.Frame.{gainCode, timebaseCode, firstByte, secondByte, thirdByte, loopGiven, loops, bytesOf}
 use Rattle.frame.specs.Read.{gainAt, timebaseAt, fieldsIn, oneByte, twoBytes, threeBytes, Parsed, parsed, readThird, readSecond, readAfter, readFrame}
 use Rattle.frame.proofs.Canon.{written, canon}
@@ -53,7 +53,7 @@ module _ (f : FrameBuilder) where
   pub first-small : firstByte f < 128
   first-small = first-back (gainCode (f .gain)) (timebaseCode (f .timebase)) (f .«snippet_id») (gain-back (f .gain) .1) (timebase-back (f .timebase) .1) .0
 
-  fields-back : (n : ℕ) (k : LoopCount) (q : Frequency) → n ≡ f .«snippet_id» → k ≡ written (equalsZero (f .«snippet_id») (f .frequency)) (f .«loop_count») → q ≡ f .frequency
+  fields-back : (n : ℕ) (k : LoopCount) (q : Frequency) → n ≡ f .«snippet_id» → k ≡ written (absentIsZero (f .«snippet_id») (f .frequency)) (f .«loop_count») → q ≡ f .frequency
       → fieldsIn (firstByte f) n k q ≡ canon f
   unfolding canon
   fields-back n k q en ek eq =
@@ -109,7 +109,7 @@ module _ (f : FrameBuilder) (h : FrameAdmitted f) (r : List ℕ) where
       ap readFrame e
       ∙ read-two (firstByte f) _ r (first-small f) (b .0) (b .1) (b .2)
       ∙ ap (λ (g : FrameBuilder). parsed g r)
-      (fields-back f _ _ _ (number-back _ _ _ (h .number) (b .4) first-low) (ap LoopCount.Given (b .3) ∙ sym ew ∙ simp eq) (sym eq))
+      (fields-back f _ _ _ (number-back _ _ _ (h .numberFits) (b .4) first-low) (ap LoopCount.Given (b .3) ∙ sym ew ∙ simp eq) (sym eq))
 
   three-complete : (k q : ℕ) → k ≤ 15 → q ≤ 511 → f .frequency ≡ Frequency.Given q → loops (f .«loop_count») ≡ k
       → written true (f .«loop_count») ≡ LoopCount.Given k
@@ -121,16 +121,16 @@ module _ (f : FrameBuilder) (h : FrameAdmitted f) (r : List ℕ) where
       ap readFrame e
       ∙ read-three (firstByte f) _ (q % 256) r (first-small f) (b .0) (b .1)
       ∙ ap (λ (g : FrameBuilder). parsed g r)
-      (fields-back f _ _ _ (number-back _ _ _ (h .number) (b .4) first-low) (ap LoopCount.Given (b .3) ∙ sym ew ∙ simp eq)
+      (fields-back f _ _ _ (number-back _ _ _ (h .numberFits) (b .4) first-low) (ap LoopCount.Given (b .3) ∙ sym ew ∙ simp eq)
       (ap Frequency.Given (ap (λ (x : ℕ). x * 256 + q % 256) (b .2) ∙ d) ∙ sym eq))
 
   pub complete : Starts r → readFrame (bytesOf f ++ r) ≡ parsed (canon f) r
-  complete s = go (f .«loop_count») (f .frequency) refl refl (h .loopCount) (h .frequencyHz) where
+  complete s = go (f .«loop_count») (f .frequency) refl refl (h .loopFits) (h .frequencyFits) where
     high : (t : Bool) → leb 8 (f .«snippet_id») ≡ t → f .«loop_count» ≡ LoopCount.Absent → f .frequency ≡ Frequency.Absent → readFrame (bytesOf f ++ r) ≡ parsed (canon f) r
     high false e ek eq = one-complete eq ek e s
     high true e ek eq =
         let l : 8 ≤ f .«snippet_id» = leb-true 8 (f .«snippet_id») e in
-        let m : leb 8 (f .«snippet_id» % 16) ≡ true = le-leb 8 (f .«snippet_id» % 16) (omega (arith, h .number)) in
+        let m : leb 8 (f .«snippet_id» % 16) ≡ true = le-leb 8 (f .«snippet_id» % 16) (omega (arith, h .numberFits)) in
         two-complete 0 (omega arith) eq (simp (ek, m)) (simp ek) (simp (ek, e))
 
     go : (k : LoopCount) (q : Frequency) → f .«loop_count» ≡ k → f .frequency ≡ q → LoopAdmitted (f .«loop_count») → FrequencyAdmitted (f .frequency)

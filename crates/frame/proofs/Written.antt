@@ -51,7 +51,7 @@ Sound l p = FrameAdmitted (p .frame) × (bytesOf (p .frame) ++ p .rest ≡ l)
 one-sound : (a : ℕ) (r : List ℕ) → a < 128 → Sound (a ∷ r) (record { frame = oneByte a; rest = r })
 one-sound a r h =
     let e : leb 8 (a % 8 % 16) ≡ false = lt-leb 8 (a % 8 % 16) (omega arith) in (
-      record { number = omega arith; loopCount = tt; frequencyHz = tt },
+      record { numberFits = omega arith; loopFits = tt; frequencyFits = tt },
       simp e (ap (λ (x : ℕ). x ∷ r) (first-there a (a % 8) LoopCount.Absent Frequency.Absent h (omega arith))),
     )
 
@@ -60,7 +60,7 @@ two-sound : (a b : ℕ) (r : List ℕ) → a < 128 → 128 ≤ b → b < 256 →
 two-sound a b r h l u p q =
     let f = first-there a (b % 2 * 8 + a % 8) (LoopCount.Given (b / 8 % 16)) Frequency.Absent h (omega arith) in
     let s : secondByte (twoBytes a b) ≡ b = second-there a b 0 l u (omega arith) in (
-      record { number = omega arith; loopCount = omega arith; frequencyHz = tt },
+      record { numberFits = omega arith; loopFits = omega arith; frequencyFits = tt },
       λ i. f i ∷ s i ∷ r,
     )
 
@@ -70,7 +70,7 @@ three-sound a b c r h l u v p =
     let f = first-there a (b % 2 * 8 + a % 8) (LoopCount.Given (b / 8 % 16)) (Frequency.Given (b / 2 % 2 * 256 + c)) h (omega arith) in
     let s : secondByte (threeBytes a b c) ≡ b = second-there a b _ l u (omega arith) in
     let t : (b / 2 % 2 * 256 + c) % 256 ≡ c = omega arith in (
-      record { number = omega arith; loopCount = omega arith; frequencyHz = omega arith },
+      record { numberFits = omega arith; loopFits = omega arith; frequencyFits = omega arith },
       λ i. f i ∷ s i ∷ t i ∷ r,
     )
 

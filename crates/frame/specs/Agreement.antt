@@ -1,7 +1,8 @@
--- When frames agree, in the words of demand 3, and which frames the builders admit.
+-- When two frames agree, in the words of demand 3, and which frames the builders admit; a frame is told by its builder's fields.
+-- Admitted frames agree exactly when their bytes are the same: proofs/Frames.antt.
 use Prim.Native.Nat.{ℕ, _≤_}
 use mathlib.Core.Path.{_≡_}
-use mathlib.Core.Bool.{Bool, true, false, _||_}
+use mathlib.Core.Bool.{Bool, true, false}
 use lib.Dec.{leb}
 use Rattle.frame.specs.declared.LoopCount.{LoopCount}
 use Rattle.frame.specs.declared.LoopCount.the-variants as LoopCount
@@ -10,9 +11,9 @@ use Rattle.frame.specs.declared.Frequency.the-variants as Frequency
 use Rattle.frame.specs.declared.FrameBuilder.{FrameBuilder}
 
 -- "if the snippet number is 8 or more or a frequency is given"
-abbrev pub equalsZero : ℕ → Frequency → Bool
-equalsZero n Frequency.Absent = leb 8 n
-equalsZero n (Frequency.Given f) = true
+abbrev pub absentIsZero : ℕ → Frequency → Bool
+absentIsZero n Frequency.Absent = leb 8 n
+absentIsZero n (Frequency.Given f) = true
 
 -- "an absent loop count equals 0" in that case
 abbrev pub LoopsAgree : Bool → LoopCount → LoopCount → Type 0
@@ -29,7 +30,7 @@ pub record Agree (a b : FrameBuilder) : Type 0 where
   pub timebases : a .timebase ≡ b .timebase
   pub numbers : a .«snippet_id» ≡ b .«snippet_id»
   pub frequencies : a .frequency ≡ b .frequency
-  pub loopCounts : LoopsAgree (equalsZero (a .«snippet_id») (a .frequency)) (a .«loop_count») (b .«loop_count»)
+  pub loopCounts : LoopsAgree (absentIsZero (a .«snippet_id») (a .frequency)) (a .«loop_count») (b .«loop_count»)
 
 abbrev pub LoopAdmitted : LoopCount → Type 0
 LoopAdmitted LoopCount.Absent = Unit
@@ -41,6 +42,6 @@ FrequencyAdmitted (Frequency.Given f) = f ≤ 511
 
 -- "number 0 (silence) to 15, loop count 0..15 or absent, frequency 0..511 or absent"; gain and timebase codes are 0..3 by their types
 pub record FrameAdmitted (b : FrameBuilder) : Type 0 where
-  pub number : b .«snippet_id» ≤ 15
-  pub loopCount : LoopAdmitted (b .«loop_count»)
-  pub frequencyHz : FrequencyAdmitted (b .frequency)
+  pub numberFits : b .«snippet_id» ≤ 15
+  pub loopFits : LoopAdmitted (b .«loop_count»)
+  pub frequencyFits : FrequencyAdmitted (b .frequency)

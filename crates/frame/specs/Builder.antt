@@ -1,4 +1,5 @@
--- The calls on a frame's builder: document 01, 'Who can cause which answer'. A field is what the last accepted call gave, else the default.
+-- The calls on a frame's builder: document 01, 'Who can cause which answer'. A field is what the last accepted call
+-- that sets it gave, else the default.
 use Prim.Native.Nat.{ℕ}
 use mathlib.Core.Bool.{cond}
 use lib.Dec.{ltb}
@@ -25,6 +26,10 @@ plainFrame n =
       «loop_count» = LoopCount.Absent;
       frequency = Frequency.Absent;
     }
+
+-- "Number 0 is silence and comes from `silence` only"
+abbrev pub silentFrame : FrameBuilder
+silentFrame = plainFrame 0
 
 -- 3 for a number that is 0 or above 15
 abbrev pub newFrame : ℕ → Told FrameBuilder

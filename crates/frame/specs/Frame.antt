@@ -1,5 +1,6 @@
 -- The bytes of a frame: document 01, 'Points, frames, sequences'.
--- A builder's fields can hold any number of their types: a snippet's number and a loop count count modulo 16, a frequency modulo 512.
+-- A builder's fields can hold any number of their types: of a snippet's number and a loop count the low four bits count, of a frequency
+-- the low nine.
 use Prim.Native.Nat.{ℕ, _+_, _*_, _/_, _%_}
 use mathlib.Core.Bool.{Bool, true, false, cond, _||_}
 use mathlib.Core.List.{List, [], _∷_, _++_}

@@ -1,4 +1,5 @@
--- The frame that a list of bytes begins with, if a builder makes one: document 01, 'The hundred bytes'.
+-- The first frame of bytes (each below 256) that are frames laid end to end, and the bytes after it; none where the first one to three
+-- bytes rule that out: document 01, 'The hundred bytes'. proofs/Reading.antt and Written.antt: this undoes writing, and nothing else.
 use Prim.Native.Nat.{ℕ, _+_, _*_, _/_, _%_}
 use mathlib.Core.Bool.{cond}
 use mathlib.Core.List.{List, [], _∷_}
@@ -22,7 +23,7 @@ gainAt code = getD (Full ∷ Half ∷ Quarter ∷ []) code Eighth
 abbrev pub timebaseAt : ℕ → Timebase
 timebaseAt code = getD («Ms5_44» ∷ «Ms21_76» ∷ «Ms43_52» ∷ []) code «Ms87_04»
 
--- the fields that the first byte a tells, with the others
+-- gain and timebase from the first byte a, the other fields as given
 abbrev pub fieldsIn : ℕ → ℕ → LoopCount → Frequency → FrameBuilder
 fieldsIn a n k f =
     record {
@@ -62,7 +63,7 @@ readSecond a b r =
     (cond (ltb (b / 2 % 2) 1) (parsed (twoBytes a b) r) none)
     (readThird a b r)
 
--- a byte with bit 7 set belongs to the frame, one with bit 7 clear begins the next
+-- the byte after the first: with bit 7 set it is the second, with bit 7 clear it begins the next frame; a third byte's bit 7 means nothing
 abbrev pub readAfter : ℕ → List ℕ → Option Parsed
 readAfter a [] = parsed (oneByte a) []
 readAfter a (b ∷ r) = cond (ltb b 128) (parsed (oneByte a) (b ∷ r)) (readSecond a b r)

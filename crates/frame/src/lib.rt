@@ -7,7 +7,7 @@ ghost use mathlib.Core.Path.{_≡_};
 ghost use Prim.Native.Nat.{min, _%_};
 ghost use lib.ListN.{length};
 ghost use Rattle.laws.specs.Copied.{copied};
-ghost use Rattle.frame.specs.Builder.{plainFrame, newFrame, newTold, withGain, withTimebase, withLoopCount, withFrequency, setTold};
+ghost use Rattle.frame.specs.Builder.{silentFrame, newFrame, newTold, withGain, withTimebase, withLoopCount, withFrequency, setTold};
 ghost use Rattle.frame.specs.Read.{gainAt, timebaseAt};
 ghost use Rattle.frame.specs.Frame.{gainCode, timebaseCode, loops, frameBytes, builtFrame};
 use errors::Answer;
@@ -160,7 +160,7 @@ impl FrameBuilder {
 
     // The built-in silence, number 0.
     pub fn silence() -> FrameBuilder
-        ensures { λ r. ⌜ r ≡ plainFrame 0 ⌝ }
+        ensures { λ r. ⌜ r ≡ silentFrame ⌝ }
     {
         FrameBuilder {
             snippet_id: 0,

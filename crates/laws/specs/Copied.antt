@@ -7,6 +7,6 @@ use lib.ListN.{length, take, drop}
 abbrev pub copied : List ℕ → List ℕ → List ℕ
 copied buffer bytes = take (length buffer) bytes ++ drop (length bytes) buffer
 
--- bytes laid over a list from an index on
+-- bytes laid over a list from an index on, where they fit: at + length bytes ≤ length l
 abbrev pub over : List ℕ → ℕ → List ℕ → List ℕ
 over l at bytes = take at l ++ bytes ++ drop (at + length bytes) l

@@ -1,5 +1,5 @@
 -- Sequences and their builder: document 01, 'Points, frames, sequences' and 'Who can cause which answer'.
--- A length can be any byte; 96 bytes at most are shown.
+-- A length can be any byte: it is kept as it is, and 96 bytes at most are shown. The length alone says whether there is anything to build.
 use Prim.Native.Nat.{ℕ, _+_}
 use mathlib.Core.Bool.{cond}
 use mathlib.Core.List.{List}
@@ -15,7 +15,7 @@ use Rattle.sequence.specs.declared.SequenceBuilder.{SequenceBuilder}
 use Rattle.sequence.specs.declared.AddedFrame.{AddedFrame}
 use Rattle.sequence.specs.declared.BuiltSequence.{BuiltSequence}
 
--- the bytes of a sequence's frames, in order
+-- the bytes of a sequence's frames, in order: the first len, 96 at most
 abbrev pub sequenceBytes : Sequence → List ℕ
 sequenceBytes s = take (s .len) (s .«data»)
 
@@ -23,7 +23,7 @@ sequenceBytes s = take (s .len) (s .«data»)
 abbrev pub newSequence : SequenceBuilder
 newSequence = record { «data» = replicate 96 0; len = 0; «frame_count» = 0 }
 
--- a frame more: 8 if its bytes would be more than 96, then 7 if it is a 33rd
+-- a frame more behind the others: 8 if the sequence would be more than 96 bytes, then 7 if it is a 33rd frame
 abbrev pub withFrame : SequenceBuilder → Frame → Step SequenceBuilder
 withFrame b f =
     cond (ltb 96 (b .len + length (frameBytes f))) (refused 8 b)
@@ -38,8 +38,9 @@ withFrame b f =
 abbrev pub addedTold : AddedFrame → Step SequenceBuilder
 addedTold r = record { number = answerNumber (r .answer); builder = r .builder }
 
+-- what stands in the answer where no sequence was built
 abbrev pub noSequence : Sequence
-noSequence = record { «data» = replicate 96 0; len = 0 }
+noSequence = record { «data» = newSequence .«data»; len = 0 }
 
 -- the sequence of the builder's bytes, or 10 where there is none
 abbrev pub builtSequence : SequenceBuilder → Built Sequence SequenceBuilder

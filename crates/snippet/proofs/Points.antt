@@ -7,15 +7,9 @@ use native.Mathlib.Omega.{arith}
 use borrow.Author.Tests.{eq-eqb, ne-eqb}
 use lib.Dec.{eqb}
 use Rattle.laws.proofs.Tests.{same}
-use Rattle.snippet.specs.Point.{pointByte, rampIn, timebasesIn, amplitudeIn}
+use Rattle.snippet.specs.Point.{pointByte, rampIn, timebasesIn, amplitudeIn, PointAdmitted, SamePoint}
 
--- document 01: length 1..8, amplitude 0..15
-pub record Admitted (timebases amplitude : ℕ) : Type 0 where
-  pub shortest : 1 ≤ timebases
-  pub longest : timebases ≤ 8
-  pub strongest : amplitude ≤ 15
-
-module _ (t a : ℕ) (h : Admitted t a) where
+module _ (t a : ℕ) (h : PointAdmitted t a) where
   pub ramp-back : (r : Bool) → rampIn (pointByte r t a) ≡ r
   ramp-back true = eq-eqb (pointByte true t a / 128 % 2) 1 (omega arith)
   ramp-back false = ne-eqb (pointByte false t a / 128 % 2) 1 (λ e. omega arith)
@@ -32,23 +26,17 @@ module _ (t a : ℕ) (h : Admitted t a) where
 pub byte-back : (b : ℕ) → b < 256 → pointByte (rampIn b) (timebasesIn b) (amplitudeIn b) ≡ b
 byte-back = same (λ b. pointByte (rampIn b) (timebasesIn b) (amplitudeIn b)) (λ b. b) 256 tt
 
-pub byte-admitted : (b : ℕ) → Admitted (timebasesIn b) (amplitudeIn b)
+pub byte-admitted : (b : ℕ) → PointAdmitted (timebasesIn b) (amplitudeIn b)
 byte-admitted b = record { shortest = omega arith; longest = omega arith; strongest = omega arith }
 
--- the same point: document 01, "Points are the same when kind, length and amplitude are"
-pub record Same (r : Bool) (t a : ℕ) (r′ : Bool) (t′ a′ : ℕ) : Type 0 where
-  pub kind : r ≡ r′
-  pub timebases : t ≡ t′
-  pub amplitude : a ≡ a′
+pub same-byte : (r : Bool) (t a : ℕ) (r′ : Bool) (t′ a′ : ℕ) → SamePoint r t a r′ t′ a′ → pointByte r t a ≡ pointByte r′ t′ a′
+same-byte r t a r′ t′ a′ s = λ i. pointByte (s .kind i) (s .length i) (s .strength i)
 
-pub same-byte : (r : Bool) (t a : ℕ) (r′ : Bool) (t′ a′ : ℕ) → Same r t a r′ t′ a′ → pointByte r t a ≡ pointByte r′ t′ a′
-same-byte r t a r′ t′ a′ s = λ i. pointByte (s .kind i) (s .timebases i) (s .amplitude i)
-
-pub same-point : (r : Bool) (t a : ℕ) (r′ : Bool) (t′ a′ : ℕ) → Admitted t a → Admitted t′ a′
-    → pointByte r t a ≡ pointByte r′ t′ a′ → Same r t a r′ t′ a′
+pub same-point : (r : Bool) (t a : ℕ) (r′ : Bool) (t′ a′ : ℕ) → PointAdmitted t a → PointAdmitted t′ a′
+    → pointByte r t a ≡ pointByte r′ t′ a′ → SamePoint r t a r′ t′ a′
 same-point r t a r′ t′ a′ h h′ e =
     record {
       kind = sym (ramp-back t a h r) ∙ ap rampIn e ∙ ramp-back t′ a′ h′ r′;
-      timebases = sym (timebases-back t a h r) ∙ ap timebasesIn e ∙ timebases-back t′ a′ h′ r′;
-      amplitude = sym (amplitude-back t a h r) ∙ ap amplitudeIn e ∙ amplitude-back t′ a′ h′ r′;
+      length = sym (timebases-back t a h r) ∙ ap timebasesIn e ∙ timebases-back t′ a′ h′ r′;
+      strength = sym (amplitude-back t a h r) ∙ ap amplitudeIn e ∙ amplitude-back t′ a′ h′ r′;
     }

@@ -1,5 +1,6 @@
 -- A point is one byte: document 01, 'Points, frames, sequences'.
-use Prim.Native.Nat.{ℕ, _+_, _-_, _*_, _/_, _%_}
+use Prim.Native.Nat.{ℕ, _+_, _-_, _*_, _/_, _%_, _≤_}
+use mathlib.Core.Path.{_≡_}
 use mathlib.Core.Bool.{Bool, true, false, cond}
 use lib.Dec.{ltb, eqb}
 use Rattle.errors.specs.Number.{errorNumber}
@@ -11,11 +12,11 @@ abbrev pub bit : Bool → ℕ
 bit true = 1
 bit false = 0
 
--- bit 7 set for a ramp, bits 6..4 length − 1, bits 3..0 amplitude
+-- bit 7 set for a ramp, bits 6..4 length − 1, bits 3..0 amplitude; for a length of 1..8 and an amplitude of 0..15 only
 abbrev pub pointByte : Bool → ℕ → ℕ → ℕ
 pointByte ramp timebases amplitude = bit ramp * 128 + (timebases - 1) * 16 + amplitude
 
--- 1 for a length that is not 1..8, else 2 for an amplitude above 15, else the byte
+-- a ramp (true) or a step (false): 1 for a length that is not 1..8, else 2 for an amplitude above 15, else the byte
 abbrev pub point : Bool → ℕ → ℕ → Told ℕ
 point ramp timebases amplitude =
     cond (ltb timebases 1) (refuses 1)
@@ -28,7 +29,7 @@ abbrev pub pointTold : PointAnswer → Told ℕ
 pointTold (PointAnswer.Point p) = gives (p .byte)
 pointTold (PointAnswer.Refused e) = refuses (errorNumber e)
 
--- the fields of a byte
+-- the fields of a byte; every byte is a point's
 abbrev pub rampIn : ℕ → Bool
 rampIn byte = eqb (byte / 128 % 2) 1
 
@@ -37,3 +38,15 @@ timebasesIn byte = byte / 16 % 8 + 1
 
 abbrev pub amplitudeIn : ℕ → ℕ
 amplitudeIn byte = byte % 16
+
+-- "length 1..8, amplitude 0..15"
+pub record PointAdmitted (timebases amplitude : ℕ) : Type 0 where
+  pub shortest : 1 ≤ timebases
+  pub longest : timebases ≤ 8
+  pub strongest : amplitude ≤ 15
+
+-- "Points are the same when kind, length and amplitude are"
+pub record SamePoint (ramp : Bool) (timebases amplitude : ℕ) (ramp′ : Bool) (timebases′ amplitude′ : ℕ) : Type 0 where
+  pub kind : ramp ≡ ramp′
+  pub length : timebases ≡ timebases′
+  pub strength : amplitude ≡ amplitude′

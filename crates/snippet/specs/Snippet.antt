@@ -1,5 +1,5 @@
 -- Snippets and their builder: document 01, 'Points, frames, sequences' and 'Who can cause which answer'.
--- A count can be any byte; sixteen points at most are shown, and a builder with sixteen or more is full.
+-- A count can be any byte: it is kept as it is, sixteen points at most are shown, and a builder with sixteen or more is full.
 use Prim.Native.Nat.{ℕ, _+_}
 use mathlib.Core.Bool.{cond}
 use mathlib.Core.List.{List, map}
@@ -28,7 +28,7 @@ snippetBytes s = take (s .len) (map byteOf (s .points))
 abbrev pub newSnippet : SnippetBuilder
 newSnippet = record { points = replicate 16 (pointOf 0); len = 0 }
 
--- a point more, or 6 for a 17th
+-- a point more behind the others, or 6 for a 17th
 abbrev pub withPoint : SnippetBuilder → PwlPoint → Step SnippetBuilder
 withPoint b p =
     cond (leb 16 (b .len)) (refused 6 b)
@@ -42,8 +42,9 @@ withMade b (refuses n) = refused n b
 abbrev pub addedTold : AddedPoint → Step SnippetBuilder
 addedTold r = record { number = answerNumber (r .answer); builder = r .builder }
 
+-- what stands in the answer where no snippet was built
 abbrev pub noSnippet : Snippet
-noSnippet = record { points = replicate 16 (pointOf 0); len = 0 }
+noSnippet = record { points = newSnippet .points; len = 0 }
 
 -- the snippet of the builder's points, or 9 where there is none
 abbrev pub builtSnippet : SnippetBuilder → Built Snippet SnippetBuilder
