@@ -1,0 +1,150 @@
+//! What the wrapper cannot say: the C functions as the header declares them.
+
+use harness::{GAINS, TIMEBASES, compared, oracle, text};
+use std::ptr::{null, null_mut};
+use yambelugo::{Call, PwlPoint};
+
+// SAFETY: written from the header; the functions on numbers return on every input.
+unsafe extern "C" {
+    safe fn da728x_point(ramp: u8, timebases: u8, amplitude: u8) -> u16;
+    safe fn da728x_point_is_ramp(byte: u8) -> u8;
+    safe fn da728x_point_timebases(byte: u8) -> u8;
+    safe fn da728x_point_amplitude(byte: u8) -> u8;
+    fn da728x_snippet(
+        calls: *const u8,
+        calls_len: usize,
+        answers: *mut u8,
+        answers_len: usize,
+        out: *mut u8,
+        out_len: usize,
+    ) -> u32;
+    fn da728x_frame(
+        calls: *const u8,
+        calls_len: usize,
+        answers: *mut u8,
+        answers_len: usize,
+        out: *mut u8,
+        out_len: usize,
+    ) -> u32;
+    fn da728x_sequence(
+        calls: *const u8,
+        calls_len: usize,
+        answers: *mut u8,
+        answers_len: usize,
+        out: *mut u8,
+        out_len: usize,
+    ) -> u32;
+    fn da728x_current_len(
+        calls: *const u8,
+        calls_len: usize,
+        answers: *mut u8,
+        answers_len: usize,
+    ) -> usize;
+    fn da728x_register_addresses(out: *mut u8, out_len: usize) -> usize;
+    fn da728x_read_interrupts(byte: u8, out: *mut u8, out_len: usize) -> usize;
+    fn da728x_read_actuator(byte: u8, out: *mut u8, out_len: usize) -> usize;
+    fn da728x_read_control(byte: u8, out: *mut u8, out_len: usize) -> usize;
+    fn da728x_read_trigger(byte: u8, out: *mut u8, out_len: usize) -> usize;
+    fn da728x_replace_interrupts(byte: u8, value: u8, out: *mut u8, out_len: usize) -> usize;
+    fn da728x_replace_actuator(byte: u8, value: u8, out: *mut u8, out_len: usize) -> usize;
+    fn da728x_replace_control(byte: u8, value: u8, out: *mut u8, out_len: usize) -> usize;
+    fn da728x_replace_trigger(byte: u8, value: u8, out: *mut u8, out_len: usize) -> usize;
+}
+
+/// Also with flags that are neither 0 nor 1.
+#[test]
+fn point_on_every_input() {
+    let mut cases = 0;
+    for timebases in 0..=255 {
+        for amplitude in 0..=255 {
+            for ramp in 0..=255 {
+                let wanted = match ramp {
+                    0 => da728x::waveform::PwlPoint::step(timebases, amplitude),
+                    _ => da728x::waveform::PwlPoint::ramp(timebases, amplitude),
+                };
+                let wanted = match wanted {
+                    Ok(point) => u16::from(point.as_byte()),
+                    Err(error) => 256 * u16::from(oracle::number(&error)),
+                };
+                assert_eq!(
+                    da728x_point(ramp, timebases, amplitude),
+                    wanted,
+                    "flag {ramp}, length {timebases}, amplitude {amplitude}"
+                );
+                cases += 1;
+            }
+        }
+    }
+    compared("inputs of da728x_point", cases, 1 << 24);
+}
+
+#[test]
+fn fields_of_every_point() {
+    let mut cases = 0;
+    for byte in 0..=255 {
+        let wanted = oracle::point(byte);
+        assert_eq!(da728x_point_is_ramp(byte), u8::from(wanted.is_ramp()), "{byte:02X}");
+        assert_eq!(da728x_point_timebases(byte), wanted.timebases(), "{byte:02X}");
+        assert_eq!(da728x_point_amplitude(byte), wanted.amplitude(), "{byte:02X}");
+        cases += 1;
+    }
+    compared("bytes of points", cases, 256);
+}
+
+/// NULL is fine for a length of 0. An empty snippet is 9, an empty sequence 10.
+#[test]
+fn empty_slices() {
+    let (list, none) = (null::<u8>(), null_mut::<u8>());
+    // SAFETY: all lengths are 0.
+    unsafe {
+        assert_eq!(da728x_snippet(list, 0, none, 0, none, 0), 9 * 65536);
+        assert_eq!(da728x_frame(list, 0, none, 0, none, 0), 0);
+        assert_eq!(da728x_sequence(list, 0, none, 0, none, 0), 10 * 65536);
+        assert_eq!(da728x_current_len(list, 0, none, 0), 0);
+        assert_eq!(da728x_register_addresses(none, 0), 0);
+        for read in
+            [da728x_read_interrupts, da728x_read_actuator, da728x_read_control, da728x_read_trigger]
+        {
+            assert_eq!(read(255, none, 0), 0);
+        }
+        for replace in [
+            da728x_replace_interrupts,
+            da728x_replace_actuator,
+            da728x_replace_control,
+            da728x_replace_trigger,
+        ] {
+            assert_eq!(replace(0, 255, none, 0), 0);
+        }
+    }
+}
+
+/// The codes that the header defines are those that the wrapper writes.
+#[test]
+fn codes_of_calls() {
+    let header = text("include/da728x.h");
+    let defined: Vec<(&str, u8)> = header
+        .lines()
+        .filter_map(|line| line.strip_prefix("#define DA728X_CALL_"))
+        .map(|line| {
+            let mut words = line.split_whitespace();
+            (words.next().unwrap(), words.next().unwrap().parse().unwrap())
+        })
+        .collect();
+    let written = [
+        ("SNIPPET_NEW", Call::SnippetNew),
+        ("RAMP", Call::Ramp(0, 0)),
+        ("STEP", Call::Step(0, 0)),
+        ("POINT", Call::Point(PwlPoint::step(1, 0).unwrap())),
+        ("FRAME_NEW", Call::FrameNew(0)),
+        ("SILENCE", Call::Silence),
+        ("GAIN", Call::Gain(GAINS[0])),
+        ("TIMEBASE", Call::Timebase(TIMEBASES[0])),
+        ("LOOP_COUNT", Call::LoopCount(0)),
+        ("FREQUENCY_HZ", Call::FrequencyHz(0)),
+        ("SEQUENCE_NEW", Call::SequenceNew),
+        ("ADD_FRAME", Call::AddFrame),
+    ]
+    .map(|(name, call)| (name, call.encode()[0]));
+    assert_eq!(defined, written);
+    compared("codes of calls", defined.len(), 12);
+}

@@ -1,0 +1,188 @@
+//! The text of the published `registers.rs` against the tables that the proofs are about.
+//!
+//! The text is read here line by line, apart from the macro that the oracle is built with.
+
+use harness::registers::{ADDRESSES, GROUPS};
+use harness::{compared, text};
+
+const PUBLISHED: &str = "rust/oracle/src/registers.rs";
+
+const TABLES: [&str; 4] = [
+    "crates/registers_interrupts/specs/Table.antt",
+    "crates/registers_actuator/specs/Table.antt",
+    "crates/registers_control/specs/Table.antt",
+    "crates/registers_trigger/specs/Table.antt",
+];
+
+const PADDING: &str = "__";
+
+/// A field of the published text.
+struct Field {
+    name: String,
+    width: u32,
+    read_only: bool,
+}
+
+/// The published register types in the written order.
+fn published_types() -> Vec<(String, Vec<Field>)> {
+    let mut types: Vec<(String, Vec<Field>)> = Vec::new();
+    let mut inside = false;
+    let mut bits = None;
+    for line in text(PUBLISHED).lines().map(str::trim) {
+        if let Some(line) = line.strip_prefix("pub struct ") {
+            types.push((line.trim_end_matches(['{', ' ']).to_string(), Vec::new()));
+            inside = true;
+        } else if line == "}" {
+            inside = false;
+        } else if let Some(line) = line.strip_prefix("#[bits(") {
+            let arguments = line.trim_end_matches(")]");
+            let width = arguments.trim_end_matches(", access = RO");
+            bits = Some((width.parse().unwrap(), width != arguments));
+        } else if inside && !line.starts_with("///") {
+            let (name, kind) = line.trim_end_matches(',').split_once(": ").unwrap();
+            let whole = match kind {
+                "bool" => (1, false),
+                "u8" => (8, false),
+                _ => panic!("{line}"),
+            };
+            let (width, read_only) = bits.take().unwrap_or(whole);
+            let name = name.trim_start_matches("pub ").to_string();
+            types.last_mut().unwrap().1.push(Field { name, width, read_only });
+        }
+    }
+    types
+}
+
+/// The published names and addresses in the written order.
+fn published_addresses() -> Vec<(String, u8)> {
+    let text = text(PUBLISHED);
+    let (_, body) = text.split_once("pub enum Register {").unwrap();
+    let (body, _) = body.split_once('}').unwrap();
+    body.lines()
+        .filter_map(|line| line.trim().trim_end_matches(',').split_once(" = "))
+        .map(|(name, address)| (name.to_string(), number(address) as u8))
+        .collect()
+}
+
+fn number(word: &str) -> u32 {
+    match word.strip_prefix("0x") {
+        Some(digits) => u32::from_str_radix(digits, 16),
+        None => word.parse(),
+    }
+    .unwrap_or_else(|error| panic!("{word}: {error}"))
+}
+
+/// The words of a file of definitions, without comments and brackets.
+fn words(path: &str) -> Vec<String> {
+    text(path)
+        .lines()
+        .map(|line| line.split("--").next().unwrap())
+        .flat_map(|line| line.split(|c: char| c.is_whitespace() || c == '(' || c == ')'))
+        .filter(|word| !word.is_empty())
+        .map(str::to_string)
+        .collect()
+}
+
+/// The name and the parts of each `name = part "FIELD" width ∷ ... ∷ []` in a file.
+fn table(path: &str) -> Vec<(String, Vec<(String, u32)>)> {
+    let words = words(path);
+    let mut rows = Vec::new();
+    for at in 1..words.len().saturating_sub(1) {
+        if words[at] != "=" || words[at + 1] != "part" {
+            continue;
+        }
+        let name = words[at - 1].clone();
+        let mut parts = Vec::new();
+        let mut rest = &words[at + 1..];
+        while let [part, field, width, cons, more @ ..] = rest
+            && part == "part"
+        {
+            assert_eq!(cons, "∷", "{path}: {name}");
+            parts.push((field.trim_matches('"').to_string(), number(width)));
+            rest = more;
+        }
+        assert_eq!(rest.first().map(String::as_str), Some("[]"), "{path}: {name}");
+        rows.push((name, parts));
+    }
+    // A quoted name anywhere else would be a part that was not read.
+    let quoted = words.iter().filter(|word| word.starts_with('"')).count();
+    assert_eq!(quoted, rows.iter().map(|(_, parts)| parts.len()).sum::<usize>(), "{path}");
+    rows
+}
+
+#[test]
+fn tables_are_the_published_fields() {
+    let wanted: Vec<(String, Vec<(String, u32)>)> = published_types()
+        .into_iter()
+        .map(|(name, fields)| {
+            let parts = fields.into_iter().map(|field| (field.name, field.width)).collect();
+            (name.to_lowercase().replace('_', "-"), parts)
+        })
+        .collect();
+    let tables: Vec<_> = TABLES.iter().flat_map(|path| table(path)).collect();
+    assert_eq!(tables, wanted);
+
+    for (name, parts) in &tables {
+        assert_eq!(parts.iter().map(|(_, width)| width).sum::<u32>(), 8, "{name}");
+    }
+    let parts = tables.iter().flat_map(|(_, parts)| parts);
+    let named = parts.filter(|(name, _)| name != PADDING).count();
+    compared("register types", tables.len(), 39);
+    compared("named fields", named, 89);
+}
+
+#[test]
+fn addresses_are_the_published_ones() {
+    let words = words("crates/registers/specs/Addresses.antt");
+    let at = words.windows(2).position(|it| it[0] == "addresses" && it[1] == "=");
+    let listed: Vec<u8> = words[at.expect("a definition of addresses") + 2..]
+        .iter()
+        .take_while(|word| *word != "[]")
+        .filter(|word| *word != "∷")
+        .map(|word| number(word) as u8)
+        .collect();
+    let published = published_addresses();
+    let wanted: Vec<u8> = published.iter().map(|(_, address)| *address).collect();
+    assert_eq!(listed, wanted);
+    compared("addresses", listed.len(), 42);
+}
+
+/// The macro gave every type the fields of the text, and the comparison leaves none out.
+#[test]
+fn accessors_are_the_published_fields() {
+    let types: Vec<_> = GROUPS.iter().flat_map(|(_, types)| types.iter()).collect();
+    let published = published_types();
+    assert_eq!(types.len(), published.len());
+
+    let mut cases = 0;
+    for ((name, accessors), (wanted, fields)) in types.into_iter().zip(published) {
+        assert_eq!(*name, wanted);
+        let mut accessors = accessors.iter();
+        let mut shift = 0;
+        for field in fields {
+            let (low, size) = (1 << shift, 1 << field.width);
+            shift += field.width;
+            if field.name == PADDING {
+                continue;
+            }
+            let (name, read, with) = accessors.next().unwrap();
+            assert_eq!(*name, field.name);
+            assert_eq!(with.is_none(), field.read_only, "{name}");
+            for byte in 0..=255_u8 {
+                let value = u32::from(byte) / low % size;
+                assert_eq!(u32::from(read(byte)), value, "{name}");
+                for new in 0..=255_u8 {
+                    let replaced = u32::from(byte) - value * low + u32::from(new) % size * low;
+                    let made = with.map_or(replaced, |with| with(byte, new).into());
+                    assert_eq!(made, replaced, "{name}");
+                }
+            }
+            cases += 1;
+        }
+        assert!(accessors.next().is_none(), "{name}");
+    }
+    compared("named fields", cases, 89);
+
+    let names = ADDRESSES.iter().map(|(name, address)| (name.to_string(), *address));
+    assert_eq!(names.collect::<Vec<_>>(), published_addresses());
+}

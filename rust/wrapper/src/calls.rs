@@ -1,0 +1,141 @@
+//! Lists of builder calls, and what they build.
+
+use crate::error::{Error, told};
+use crate::ffi;
+use crate::point::PwlPoint;
+
+/// How loud a frame plays its snippet.
+#[derive(Debug, Clone, Copy, PartialEq, Eq, Default)]
+#[repr(u8)]
+pub enum Gain {
+    /// 0 dB.
+    #[default]
+    Full = 0,
+    /// -6 dB.
+    Half = 1,
+    /// -12 dB.
+    Quarter = 2,
+    /// -18 dB.
+    Eighth = 3,
+}
+
+/// How long one timebase of a frame's snippet lasts.
+#[derive(Debug, Clone, Copy, PartialEq, Eq, Default)]
+#[repr(u8)]
+pub enum Timebase {
+    /// 5.44 ms.
+    #[default]
+    Ms5_44 = 0,
+    /// 21.76 ms.
+    Ms21_76 = 1,
+    /// 43.52 ms.
+    Ms43_52 = 2,
+    /// 87.04 ms.
+    Ms87_04 = 3,
+}
+
+/// One builder call, on the snippet, the frame or the sequence under construction.
+#[derive(Debug, Clone, Copy, PartialEq, Eq)]
+pub enum Call {
+    /// Begins the snippet anew, without points.
+    SnippetNew,
+    /// Adds a ramp of this length and amplitude to the snippet.
+    Ramp(u8, u8),
+    /// Adds a step of this length and amplitude to the snippet.
+    Step(u8, u8),
+    /// Adds a point to the snippet.
+    Point(PwlPoint),
+    /// Begins the frame anew, for this snippet number (1..15).
+    FrameNew(u8),
+    /// Begins the frame anew, for silence.
+    Silence,
+    /// Sets the frame's gain.
+    Gain(Gain),
+    /// Sets the frame's timebase.
+    Timebase(Timebase),
+    /// Sets the frame's loop count (0..15).
+    LoopCount(u8),
+    /// Sets the frame's frequency (0..511 Hz).
+    FrequencyHz(u16),
+    /// Begins the sequence anew, without frames.
+    SequenceNew,
+    /// Adds the frame, as it is built now, to the sequence.
+    AddFrame,
+}
+
+impl Call {
+    /// The record of this call in a list of calls.
+    pub const fn encode(self) -> [u8; 4] {
+        let (code, a, b) = match self {
+            Call::SnippetNew => (1, 0, 0),
+            Call::Ramp(timebases, amplitude) => (2, timebases, amplitude),
+            Call::Step(timebases, amplitude) => (3, timebases, amplitude),
+            Call::Point(point) => (4, point.as_byte(), 0),
+            Call::FrameNew(snippet) => (5, snippet, 0),
+            Call::Silence => (6, 0, 0),
+            Call::Gain(gain) => (7, gain as u8, 0),
+            Call::Timebase(timebase) => (8, timebase as u8, 0),
+            Call::LoopCount(count) => (9, count, 0),
+            Call::FrequencyHz(frequency) => (10, frequency as u8, (frequency >> 8) as u8),
+            Call::SequenceNew => (11, 0, 0),
+            Call::AddFrame => (12, 0, 0),
+        };
+        [code, a, b, 0]
+    }
+}
+
+/// Runs the calls, builds the snippet and copies its bytes into the front of `out`, as many as
+/// fit; the full length of the snippet.
+///
+/// `answers` gets a byte for each call, as far as it goes: 0 or the number of the refusal. The
+/// other bytes of `answers` and `out` stay.
+///
+/// # Errors
+/// `EmptySnippet` if the snippet has no points; `out` stays then.
+pub fn snippet(calls: &[u8], answers: &mut [u8], out: &mut [u8]) -> Result<usize, Error> {
+    told(run(ffi::da728x_snippet, calls, answers, out), 65536).map(|length| length as usize)
+}
+
+/// Runs the calls, builds the frame and copies its bytes into the front of `out`, as many as fit;
+/// the bytes copied. `answers` is as in [`snippet`].
+///
+/// ```
+/// use yambelugo::{Call, Gain, Timebase};
+///
+/// let calls = [
+///     Call::FrameNew(3),
+///     Call::Gain(Gain::Half),
+///     Call::Timebase(Timebase::Ms43_52),
+///     Call::LoopCount(2),
+///     Call::FrequencyHz(300),
+/// ];
+/// let (mut answers, mut out) = ([0; 5], [0; 3]);
+/// let length = yambelugo::frame(calls.map(Call::encode).as_flattened(), &mut answers, &mut out);
+/// assert_eq!(out[..length], [0x33, 0x96, 0x2C]);
+/// ```
+pub fn frame(calls: &[u8], answers: &mut [u8], out: &mut [u8]) -> usize {
+    run(ffi::da728x_frame, calls, answers, out) as usize
+}
+
+/// Runs the calls, builds the sequence and copies its bytes into the front of `out`, as many as
+/// fit; the bytes copied. `answers` is as in [`snippet`].
+///
+/// # Errors
+/// `EmptySequence` if the sequence has no frames; `out` stays then.
+pub fn sequence(calls: &[u8], answers: &mut [u8], out: &mut [u8]) -> Result<usize, Error> {
+    told(run(ffi::da728x_sequence, calls, answers, out), 65536).map(|length| length as usize)
+}
+
+/// Runs the calls; the bytes of the sequence under construction. `answers` is as in [`snippet`].
+pub fn current_len(calls: &[u8], answers: &mut [u8]) -> usize {
+    let (list, len) = (calls.as_ptr(), calls.len());
+    // SAFETY: each pointer and length is a borrowed slice; the mutable one overlaps no other.
+    unsafe { ffi::da728x_current_len(list, len, answers.as_mut_ptr(), answers.len()) }
+}
+
+fn run(build: ffi::Build, calls: &[u8], answers: &mut [u8], out: &mut [u8]) -> u32 {
+    let (list, len) = (calls.as_ptr(), calls.len());
+    let (told, told_len) = (answers.as_mut_ptr(), answers.len());
+    // SAFETY: each pointer and length is a borrowed slice; the mutable ones overlap no other.
+    unsafe { build(list, len, told, told_len, out.as_mut_ptr(), out.len()) }
+}
