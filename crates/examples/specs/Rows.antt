@@ -1,0 +1,86 @@
+-- The rows of document 01, 'Checked examples', that are marked P: what is asked, and what the paper says of it.
+use Prim.Native.Nat.{ℕ, zero, suc}
+use mathlib.Core.Bool.{Bool, true, false}
+use mathlib.Core.List.{List, [], _∷_}
+use Rattle.errors.specs.Told.{Told, gives, refuses, Step}
+use Rattle.snippet.specs.Point.{point}
+use Rattle.frame.specs.declared.FrameBuilder.{FrameBuilder}
+use Rattle.frame.specs.declared.Gain.{Gain}
+use Rattle.frame.specs.declared.Gain.the-variants.{Half}
+use Rattle.frame.specs.declared.Timebase.{Timebase}
+use Rattle.frame.specs.declared.Timebase.the-variants.{«Ms43_52»}
+use Rattle.frame.specs.Builder.{newFrame, withGain, withTimebase, withLoopCount, withFrequency}
+use Rattle.frame.specs.Frame.{frameBytes, builtFrame}
+
+-- ---- what can be asked
+
+pub data Call : Type 0 where
+  gain : Gain → Call
+  timebase : Timebase → Call
+  loopCount : ℕ → Call
+  frequencyHz : ℕ → Call
+
+pub data Question : Type 0 where
+  -- a point: ramp or step, length, amplitude
+  pointOf : Bool → ℕ → ℕ → Question
+  -- a frame: snippet number, and the calls on its builder
+  frameOf : ℕ → List Call → Question
+
+-- ---- what the definitions say: bytes, or the number of the refusal
+
+pub data Outcome : Type 0 where
+  bytes : List ℕ → Outcome
+  refusal : ℕ → Outcome
+
+abbrev pub called : FrameBuilder → Call → Step FrameBuilder
+called b (gain g) = record { number = 0; builder = withGain b g }
+called b (timebase t) = record { number = 0; builder = withTimebase b t }
+called b (loopCount k) = withLoopCount b k
+called b (frequencyHz f) = withFrequency b f
+
+-- the frame's bytes, or the first refusal: n is the number of the last call
+abbrev pub framed : List Call → ℕ → FrameBuilder → Outcome
+framed [] zero b = bytes (frameBytes (builtFrame b))
+framed [] (suc n) b = refusal (suc n)
+framed (k ∷ ks) zero b = framed ks (called b k .number) (called b k .builder)
+framed (k ∷ ks) (suc n) b = refusal (suc n)
+
+abbrev pub begun : Told FrameBuilder → List Call → Outcome
+begun (gives b) ks = framed ks 0 b
+begun (refuses n) ks = refusal n
+
+abbrev pub pointed : Told ℕ → Outcome
+pointed (gives byte) = bytes (byte ∷ [])
+pointed (refuses n) = refusal n
+
+abbrev pub outcome : Question → Outcome
+outcome (pointOf ramp timebases amplitude) = pointed (point ramp timebases amplitude)
+outcome (frameOf n ks) = begun (newFrame n) ks
+
+-- ---- the table
+
+pub record Row : Type 0 where
+  pub asked : Question
+  pub says : Outcome
+
+abbrev pub row : Question → Outcome → Row
+row q o = record { asked = q; says = o }
+
+abbrev pub rows : List Row
+rows =
+    -- ramp(3,10) is AA; step(1,0) is 00; ramp(8,15) is FF. Length 0 and 9: 1.
+    row (pointOf true 3 10) (bytes (0xAA ∷ []))
+    ∷ row (pointOf false 1 0) (bytes (0x00 ∷ []))
+    ∷ row (pointOf true 8 15) (bytes (0xFF ∷ []))
+    ∷ row (pointOf true 0 15) (refusal 1)
+    ∷ row (pointOf false 9 15) (refusal 1)
+    -- snippet 9 is 01 81, also with loop count 0; snippet 1 is 01, with loop count 0 it is 01 80.
+    ∷ row (frameOf 9 []) (bytes (0x01 ∷ 0x81 ∷ []))
+    ∷ row (frameOf 9 (loopCount 0 ∷ [])) (bytes (0x01 ∷ 0x81 ∷ []))
+    ∷ row (frameOf 1 []) (bytes (0x01 ∷ []))
+    ∷ row (frameOf 1 (loopCount 0 ∷ [])) (bytes (0x01 ∷ 0x80 ∷ []))
+    -- snippet 3, half gain, Ms43_52, loop 2, 300 Hz: 33 96 2C. 511 passes, 512: 5.
+    ∷ row (frameOf 3 (gain Half ∷ timebase «Ms43_52» ∷ loopCount 2 ∷ frequencyHz 300 ∷ [])) (bytes (0x33 ∷ 0x96 ∷ 0x2C ∷ []))
+    ∷ row (frameOf 3 (frequencyHz 511 ∷ [])) (bytes (0x03 ∷ 0x86 ∷ 0xFF ∷ []))
+    ∷ row (frameOf 3 (frequencyHz 512 ∷ [])) (refusal 5)
+    ∷ []

@@ -1,0 +1,2 @@
+// Document 01's checked examples, as the rows of one computed table: specs/Rows.antt has the table, and proofs/Examples.antt the
+// one statement that holds of all its rows. The rows use the definitions that the functions' contracts cite. There is no code here.
