@@ -10,6 +10,12 @@ ghost use Rattle.snippet.specs.Snippet.{snippetBytes, builtSnippet};
 ghost use Rattle.frame.specs.Frame.{frameBytes, builtFrame};
 ghost use Rattle.sequence.specs.Sequence.{sequenceBytes, builtSequence};
 ghost use Rattle.laws.specs.Copied.{copied};
+ghost use Rattle.field.specs.Layout.{readings, replacements};
+ghost use Rattle.registers.specs.Addresses.{addresses};
+ghost use Rattle.registers_interrupts.specs.Table as interrupts;
+ghost use Rattle.registers_actuator.specs.Table as actuator;
+ghost use Rattle.registers_control.specs.Table as control;
+ghost use Rattle.registers_trigger.specs.Table as trigger;
 ghost use Rattle.capi.specs.Points.{pointWord, flagByte};
 ghost use Rattle.capi.specs.Items.{buildersOf, answered, itemWord, itemOut};
 use snippet::PointAnswer;
@@ -121,4 +127,89 @@ pub extern "C" fn da728x_current_len(calls: &[u8], answers: &mut [u8]) -> usize
     let b = calls::run(calls, answers);
     let q = b.sequence;
     q.current_len()
+}
+
+#[no_mangle]
+pub extern "C" fn da728x_register_addresses(out: &mut [u8]) -> usize
+    ensures { λ r. ⌜ r ≡ min (length addresses) (length (now (out .entry))) ⌝ }
+    ensures { λ _. ⌜ now (out .exit) ≡ copied (now (out .entry)) addresses ⌝ }
+{
+    let all = registers::Register::all();
+    laws::copy_into(out, &all)
+}
+
+#[no_mangle]
+pub extern "C" fn da728x_read_interrupts(byte: u8, out: &mut [u8]) -> usize
+    ensures { λ r. ⌜ r ≡ min (length (readings interrupts.tables byte)) (length (now (out .entry))) ⌝ }
+    ensures { λ _. ⌜ now (out .exit) ≡ copied (now (out .entry)) (readings interrupts.tables byte) ⌝ }
+{
+    let values = registers_interrupts::fields(byte);
+    laws::copy_into(out, &values)
+}
+
+#[no_mangle]
+pub extern "C" fn da728x_replace_interrupts(byte: u8, value: u8, out: &mut [u8]) -> usize
+    ensures { λ r. ⌜ r
+        ≡ min (length (replacements interrupts.read-only interrupts.tables byte value)) (length (now (out .entry))) ⌝ }
+    ensures { λ _. ⌜ now (out .exit) ≡ copied (now (out .entry)) (replacements interrupts.read-only interrupts.tables byte value) ⌝ }
+{
+    let bytes = registers_interrupts::replaced(byte, value);
+    laws::copy_into(out, &bytes)
+}
+
+#[no_mangle]
+pub extern "C" fn da728x_read_actuator(byte: u8, out: &mut [u8]) -> usize
+    ensures { λ r. ⌜ r ≡ min (length (readings actuator.tables byte)) (length (now (out .entry))) ⌝ }
+    ensures { λ _. ⌜ now (out .exit) ≡ copied (now (out .entry)) (readings actuator.tables byte) ⌝ }
+{
+    let values = registers_actuator::fields(byte);
+    laws::copy_into(out, &values)
+}
+
+#[no_mangle]
+pub extern "C" fn da728x_replace_actuator(byte: u8, value: u8, out: &mut [u8]) -> usize
+    ensures { λ r. ⌜ r
+        ≡ min (length (replacements actuator.read-only actuator.tables byte value)) (length (now (out .entry))) ⌝ }
+    ensures { λ _. ⌜ now (out .exit) ≡ copied (now (out .entry)) (replacements actuator.read-only actuator.tables byte value) ⌝ }
+{
+    let bytes = registers_actuator::replaced(byte, value);
+    laws::copy_into(out, &bytes)
+}
+
+#[no_mangle]
+pub extern "C" fn da728x_read_control(byte: u8, out: &mut [u8]) -> usize
+    ensures { λ r. ⌜ r ≡ min (length (readings control.tables byte)) (length (now (out .entry))) ⌝ }
+    ensures { λ _. ⌜ now (out .exit) ≡ copied (now (out .entry)) (readings control.tables byte) ⌝ }
+{
+    let values = registers_control::fields(byte);
+    laws::copy_into(out, &values)
+}
+
+#[no_mangle]
+pub extern "C" fn da728x_replace_control(byte: u8, value: u8, out: &mut [u8]) -> usize
+    ensures { λ r. ⌜ r
+        ≡ min (length (replacements control.read-only control.tables byte value)) (length (now (out .entry))) ⌝ }
+    ensures { λ _. ⌜ now (out .exit) ≡ copied (now (out .entry)) (replacements control.read-only control.tables byte value) ⌝ }
+{
+    let bytes = registers_control::replaced(byte, value);
+    laws::copy_into(out, &bytes)
+}
+
+#[no_mangle]
+pub extern "C" fn da728x_read_trigger(byte: u8, out: &mut [u8]) -> usize
+    ensures { λ r. ⌜ r ≡ min (length (readings trigger.tables byte)) (length (now (out .entry))) ⌝ }
+    ensures { λ _. ⌜ now (out .exit) ≡ copied (now (out .entry)) (readings trigger.tables byte) ⌝ }
+{
+    let values = registers_trigger::fields(byte);
+    laws::copy_into(out, &values)
+}
+
+#[no_mangle]
+pub extern "C" fn da728x_replace_trigger(byte: u8, value: u8, out: &mut [u8]) -> usize
+    ensures { λ r. ⌜ r
+        ≡ min (length (replacements trigger.read-only trigger.tables byte value)) (length (now (out .entry))) ⌝ }
+    ensures { λ _. ⌜ now (out .exit) ≡ copied (now (out .entry)) (replacements trigger.read-only trigger.tables byte value) ⌝ }
+{
+    let bytes = registers_trigger::replaced(byte, value);
+    laws::copy_into(out, &bytes)
 }

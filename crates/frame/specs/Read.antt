@@ -1,11 +1,13 @@
 -- The first frame of bytes (each below 256) that are frames laid end to end, and the bytes after it; none where the first one to three
 -- bytes rule that out: document 01, 'The hundred bytes'. proofs/Reading.antt and Written.antt: this undoes writing, and nothing else.
-use Prim.Native.Nat.{ℕ, _+_, _*_, _/_, _%_}
+use Prim.Native.Nat.{ℕ, _+_, _-_, _*_, _/_, _%_}
 use mathlib.Core.Bool.{cond}
 use mathlib.Core.List.{List, [], _∷_}
 use mathlib.Core.Option.{Option, none, some}
 use lib.Dec.{ltb}
-use lib.ListN.{getD}
+use lib.ListN.{length, drop, getD}
+use Rattle.errors.specs.Number.{errorNumber}
+use Rattle.errors.specs.Told.{Told, gives, refuses}
 use Rattle.frame.specs.declared.Gain.{Gain}
 use Rattle.frame.specs.declared.Gain.the-variants.{Full, Half, Quarter, Eighth}
 use Rattle.frame.specs.declared.Timebase.{Timebase}
@@ -15,6 +17,8 @@ use Rattle.frame.specs.declared.LoopCount.the-variants as LoopCount
 use Rattle.frame.specs.declared.Frequency.{Frequency}
 use Rattle.frame.specs.declared.Frequency.the-variants as Frequency
 use Rattle.frame.specs.declared.FrameBuilder.{FrameBuilder}
+use Rattle.frame.specs.declared.FrameRead.{FrameRead}
+use Rattle.frame.specs.declared.FrameRead.the-variants as FrameRead
 
 -- a code past the last counts as the last
 abbrev pub gainAt : ℕ → Gain
@@ -71,3 +75,26 @@ readAfter a (b ∷ r) = cond (ltb b 128) (parsed (oneByte a) (b ∷ r)) (readSec
 unfoldable pub readFrame : List ℕ → Option Parsed
 readFrame [] = none
 readFrame (a ∷ r) = cond (ltb a 128) (readAfter a r) none
+
+-- ---- as the code answers it
+
+-- a frame and how many bytes it took
+pub record Taken : Type 0 where
+  pub frame : FrameBuilder
+  pub len : ℕ
+
+abbrev pub taken : ℕ → Option Parsed → Told Taken
+taken n none = refuses 18
+taken n (some p) = gives (record { frame = p .frame; len = n - length (p .rest) })
+
+-- the first frame of the bytes, or 18
+abbrev pub firstFrame : List ℕ → Told Taken
+firstFrame l = taken (length l) (readFrame l)
+
+-- the same where a first byte a and a second byte b, its bit 7 set, stand at an index
+abbrev pub secondAt : List ℕ → ℕ → ℕ → ℕ → Told Taken
+secondAt l at a b = taken (length (drop at l)) (readSecond a b (drop (at + 2) l))
+
+abbrev pub readTold : FrameRead → Told Taken
+readTold (FrameRead.Frame f n) = gives (record { frame = f; len = n })
+readTold (FrameRead.Refused e) = refuses (errorNumber e)

@@ -4,16 +4,14 @@
 // `build` gives the frame itself, since it cannot refuse; `as_bytes` gives the array, of which the first `byte_len` are the
 // frame's; no function here takes a closure.
 ghost use mathlib.Core.Path.{_≡_};
-ghost use Prim.Native.Nat.{min, _%_};
-ghost use lib.ListN.{length};
+ghost use Prim.Native.Nat.{min, _%_, _+_, _≤_};
+ghost use lib.ListN.{length, drop};
 ghost use Rattle.laws.specs.Copied.{copied};
 ghost use Rattle.frame.specs.Builder.{silentFrame, newFrame, newTold, withGain, withTimebase, withLoopCount, withFrequency, setTold};
-ghost use Rattle.frame.specs.Read.{gainAt, timebaseAt};
+ghost use Rattle.frame.specs.Read.{gainAt, timebaseAt, fieldsIn, oneByte, twoBytes, threeBytes, secondAt, firstFrame, readTold};
 ghost use Rattle.frame.specs.Frame.{gainCode, timebaseCode, loops, frameBytes, builtFrame};
 use errors::Answer;
 use errors::Error;
-
-mod bits;
 
 pub enum Gain {
     Full,
@@ -55,6 +53,12 @@ pub struct FrameBuilder {
 // What `new` answers.
 pub enum NewFrame {
     Builder(FrameBuilder),
+    Refused(Error),
+}
+
+// What reading a frame answers: the frame's fields, and how many bytes it took.
+pub enum FrameRead {
+    Frame(FrameBuilder, u8),
     Refused(Error),
 }
 
@@ -257,11 +261,11 @@ impl FrameBuilder {
         let timebase = self.timebase;
         let loop_count = self.loop_count;
         let frequency = self.frequency;
-        let b1 = bits::first(gain.code(), timebase.code(), id);
+        let b1 = frame_bits::first(gain.code(), timebase.code(), id);
         match frequency {
             Frequency::Given(f) => {
-                let b2 = bits::second(loop_code(loop_count), bits::frequency(f), id);
-                let b3 = bits::low_byte(f);
+                let b2 = frame_bits::second(loop_code(loop_count), frame_bits::frequency(f), id);
+                let b3 = frame_bits::low_byte(f);
                 Frame {
                     bytes: [b1, b2, b3],
                     len: 3,
@@ -269,20 +273,20 @@ impl FrameBuilder {
             }
             Frequency::Absent => match loop_count {
                 LoopCount::Given(n) => {
-                    let b2 = bits::second(n, 0, id);
+                    let b2 = frame_bits::second(n, 0, id);
                     Frame {
                         bytes: [b1, b2, 0],
                         len: 2,
                     }
                 }
                 LoopCount::Absent => {
-                    if bits::low1(id >> 3) == 0 {
+                    if frame_bits::low1(id >> 3) == 0 {
                         Frame {
                             bytes: [b1, 0, 0],
                             len: 1,
                         }
                     } else {
-                        let b2 = bits::second(0, 0, id);
+                        let b2 = frame_bits::second(0, 0, id);
                         Frame {
                             bytes: [b1, b2, 0],
                             len: 2,
@@ -301,5 +305,95 @@ fn loop_code(c: LoopCount) -> u8
     match c {
         LoopCount::Absent => 0,
         LoopCount::Given(n) => n,
+    }
+}
+
+// ---- a frame read back from its bytes (added)
+
+impl FrameBuilder {
+    // The first frame of the bytes from an index on, or NotAnImage.
+    pub fn read(bytes: &[u8], at: usize) -> FrameRead
+        ensures { λ r. ⌜ readTold r ≡ firstFrame (drop at (now (bytes .entry))) ⌝ }
+    {
+        if bytes.len() <= at {
+            return FrameRead::Refused(Error::NotAnImage);
+        }
+        let a = bytes[at];
+        if 0 < frame_bits::top(a) {
+            return FrameRead::Refused(Error::NotAnImage);
+        }
+        if bytes.len() - at < 2 {
+            return FrameRead::Frame(FrameBuilder::one_byte(a), 1);
+        }
+        let b = bytes[at + 1];
+        if frame_bits::top(b) < 1 {
+            return FrameRead::Frame(FrameBuilder::one_byte(a), 1);
+        }
+        FrameBuilder::read_second(bytes, at, a, b)
+    }
+
+    // A second byte says whether a third follows; bit 2 clear and bit 1 set is made by no builder.
+    fn read_second(bytes: &[u8], at: usize, a: u8, b: u8) -> FrameRead
+        requires { ⌜ at + 2 ≤ length (now bytes) ⌝ }
+        ensures { λ r. ⌜ readTold r ≡ secondAt (now (bytes .entry)) at a b ⌝ }
+    {
+        if frame_bits::present_in(b) < 1 {
+            if frame_bits::high_in(b) < 1 {
+                return FrameRead::Frame(FrameBuilder::two_bytes(a, b), 2);
+            }
+            return FrameRead::Refused(Error::NotAnImage);
+        }
+        if bytes.len() - at < 3 {
+            return FrameRead::Refused(Error::NotAnImage);
+        }
+        FrameRead::Frame(FrameBuilder::three_bytes(a, b, bytes[at + 2]), 3)
+    }
+
+    fn one_byte(a: u8) -> FrameBuilder
+        ensures { λ r. ⌜ r ≡ oneByte a ⌝ }
+    {
+        FrameBuilder::fields(
+            a,
+            frame_bits::low_number_in(a),
+            LoopCount::Absent,
+            Frequency::Absent,
+        )
+    }
+
+    fn two_bytes(a: u8, b: u8) -> FrameBuilder
+        ensures { λ r. ⌜ r ≡ twoBytes a b ⌝ }
+    {
+        FrameBuilder::fields(
+            a,
+            frame_bits::number_in(b, a),
+            LoopCount::Given(frame_bits::count_in(b)),
+            Frequency::Absent,
+        )
+    }
+
+    fn three_bytes(a: u8, b: u8, c: u8) -> FrameBuilder
+        ensures { λ r. ⌜ r ≡ threeBytes a b c ⌝ }
+    {
+        FrameBuilder::fields(
+            a,
+            frame_bits::number_in(b, a),
+            LoopCount::Given(frame_bits::count_in(b)),
+            Frequency::Given(frame_bits::frequency_in(b, c)),
+        )
+    }
+
+    // Gain and timebase from the first byte, the other fields as given.
+    fn fields(a: u8, id: u8, loop_count: LoopCount, frequency: Frequency) -> FrameBuilder
+        ensures { λ r. ⌜ r ≡ fieldsIn a id «loop_count» frequency ⌝ }
+    {
+        let gain = Gain::from_code(frame_bits::gain_in(a));
+        let timebase = Timebase::from_code(frame_bits::timebase_in(a));
+        FrameBuilder {
+            snippet_id: id,
+            gain: gain,
+            timebase: timebase,
+            loop_count: loop_count,
+            frequency: frequency,
+        }
     }
 }

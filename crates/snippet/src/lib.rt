@@ -123,7 +123,7 @@ impl Snippet {
     }
 
     // The bytes of all sixteen points.
-    fn bytes(self) -> [u8; MAX_POINTS_PER_SNIPPET]
+    pub fn bytes(self) -> [u8; MAX_POINTS_PER_SNIPPET]
         ensures { λ r. ⌜ r ≡ map byteOf (self .points) ⌝ }
     {
         let mut out = [0u8; MAX_POINTS_PER_SNIPPET];

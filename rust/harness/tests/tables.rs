@@ -106,8 +106,30 @@ fn table(path: &str) -> Vec<(String, Vec<(String, u32)>)> {
     }
     // A quoted name anywhere else would be a part that was not read.
     let quoted = words.iter().filter(|word| word.starts_with('"')).count();
-    assert_eq!(quoted, rows.iter().map(|(_, parts)| parts.len()).sum::<usize>(), "{path}");
+    let parts = rows.iter().map(|(_, parts)| parts.len()).sum::<usize>();
+    assert_eq!(quoted, parts + read_only(path).len(), "{path}");
     rows
+}
+
+/// The names of `read-only = "FIELD" ∷ ... ∷ []` in a file.
+fn read_only(path: &str) -> Vec<String> {
+    let words = words(path);
+    let at = words.windows(2).position(|pair| pair[0] == "read-only" && pair[1] == "=");
+    let names = words[at.unwrap_or_else(|| panic!("{path}")) + 2..].iter();
+    names
+        .take_while(|word| *word != "[]")
+        .filter(|word| *word != "∷")
+        .map(|word| word.trim_matches('"').to_string())
+        .collect()
+}
+
+#[test]
+fn read_only_fields_are_the_published_ones() {
+    let fields = published_types().into_iter().flat_map(|(_, fields)| fields);
+    let wanted: Vec<_> = fields.filter(|field| field.read_only).map(|field| field.name).collect();
+    let listed: Vec<_> = TABLES.iter().flat_map(|path| read_only(path)).collect();
+    assert_eq!(listed, wanted);
+    compared("read-only fields", listed.len(), 3);
 }
 
 #[test]

@@ -1,0 +1,62 @@
+-- A register as the list of its parts. Document 01, "Settings to registers": "A register's fields fill from bit 0 up in the
+-- written order". `startOf` sums the widths that are written before a name, and `each` goes from part to part.
+use Prim.Native.Nat.{ℕ, _+_}
+use Prim.Native.String.{String}
+use mathlib.Core.Bool.{Bool, true, false, cond, _||_}
+use mathlib.Core.List.{List, [], _∷_, _++_}
+use lib.Text.{eqt}
+use Rattle.field.specs.Field.{getOf, flagOf, withOf}
+
+-- a part's name and how many bits it has; padding is named `__`
+pub data Part : Type 0 where
+  part : String → ℕ → Part
+
+-- a field's first bit
+abbrev pub startOf : List Part → String → ℕ
+startOf [] n = 0
+startOf (part m w ∷ ps) n = cond (eqt m n) 0 (w + startOf ps n)
+
+-- how many bits a field has
+abbrev pub widthOf : List Part → String → ℕ
+widthOf [] n = 0
+widthOf (part m w ∷ ps) n = cond (eqt m n) w (widthOf ps n)
+
+-- how many bits a register has
+abbrev pub total : List Part → ℕ
+total [] = 0
+total (part m w ∷ ps) = w + total ps
+
+-- what a named field reads in a byte
+abbrev pub getAt : List Part → String → ℕ → ℕ
+getAt ps n b = getOf b (startOf ps n) (widthOf ps n)
+
+-- whether a named flag is set in a byte
+abbrev pub isAt : List Part → String → ℕ → Bool
+isAt ps n b = flagOf b (startOf ps n)
+
+-- the byte with a named field replaced
+abbrev pub withAt : List Part → String → ℕ → ℕ → ℕ
+withAt ps n b v = withOf b (startOf ps n) (widthOf ps n) v
+
+-- whether a name is in a list
+abbrev pub among : String → List String → Bool
+among m [] = false
+among m (n ∷ ns) = eqt m n || among m ns
+
+-- `f start width` of each part that is not named in `out`, in the written order, the first part at bit `s`
+abbrev pub eachFrom : (ℕ → ℕ → ℕ) → List String → ℕ → List Part → List ℕ
+eachFrom f out s [] = []
+eachFrom f out s (part m w ∷ ps) = cond (among m out) [] (f s w ∷ []) ++ eachFrom f out (s + w) ps
+
+-- the same over a list of registers
+abbrev pub each : (ℕ → ℕ → ℕ) → List String → List (List Part) → List ℕ
+each f out [] = []
+each f out (ps ∷ pss) = eachFrom f out 0 ps ++ each f out pss
+
+-- what each field reads when its register holds `b`
+abbrev pub readings : List (List Part) → ℕ → List ℕ
+readings pss b = each (getOf b) ("__" ∷ []) pss
+
+-- what each field's register holds once the field is replaced by `v` in `b`; read-only fields are left out
+abbrev pub replacements : List String → List (List Part) → ℕ → ℕ → List ℕ
+replacements readOnly pss b v = each (λ s w. withOf b s w v) ("__" ∷ readOnly) pss

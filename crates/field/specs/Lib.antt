@@ -1,0 +1,3 @@
+-- The definitions that the contracts of `field` and of the register crates cite.
+pub mod Field
+pub mod Layout

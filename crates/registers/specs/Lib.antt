@@ -1,0 +1,2 @@
+-- The definitions that the contracts of `registers` cite.
+pub mod Addresses

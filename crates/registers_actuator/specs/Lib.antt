@@ -1,0 +1,2 @@
+-- The definitions that the contracts of `registers_actuator` cite.
+pub mod Table

@@ -1,0 +1,2 @@
+-- The definitions that the contracts of `registers_control` cite.
+pub mod Table
