@@ -207,7 +207,7 @@ fn wide(low: u8, high: u8) -> u16
 }
 
 // Stores at an index, if there is such a byte.
-fn put(answers: &mut [u8], i: usize, x: u8)
+pub fn put(answers: &mut [u8], i: usize, x: u8)
     ensures { λ _. ⌜ now (answers .exit) ≡ set (now (answers .entry)) i x ⌝ }
 {
     if answers.len() <= i {

@@ -10,6 +10,7 @@ ghost use Rattle.snippet.specs.Snippet.{snippetBytes, builtSnippet};
 ghost use Rattle.frame.specs.Frame.{frameBytes, builtFrame};
 ghost use Rattle.sequence.specs.Sequence.{sequenceBytes, builtSequence};
 ghost use Rattle.laws.specs.Copied.{copied};
+ghost use Rattle.assemble.specs.Assembled.{first, numbers, patternCallsIn, assembled, imageOut};
 ghost use Rattle.field.specs.Layout.{readings, replacements};
 ghost use Rattle.registers.specs.Addresses.{addresses};
 ghost use Rattle.registers_interrupts.specs.Table as interrupts;
@@ -127,6 +128,15 @@ pub extern "C" fn da728x_current_len(calls: &[u8], answers: &mut [u8]) -> usize
     let b = calls::run(calls, answers);
     let q = b.sequence;
     q.current_len()
+}
+
+#[no_mangle]
+pub extern "C" fn da728x_assemble(calls: &[u8], answers: &mut [u8], image: &mut [u8]) -> u8
+    ensures { λ r. ⌜ r ≡ assembled (now (calls .entry)) .number ⌝ }
+    ensures { λ _. ⌜ now (answers .exit) ≡ copied (now (answers .entry)) (numbers first (patternCallsIn (now (calls .entry)))) ⌝ }
+    ensures { λ _. ⌜ now (image .exit) ≡ imageOut (assembled (now (calls .entry))) (now (image .entry)) ⌝ }
+{
+    assemble::assemble(calls, answers, image)
 }
 
 #[no_mangle]

@@ -2,7 +2,9 @@
 -- Assumes nothing.
 use mathlib.Core.Path.{_≡_, refl}
 use mathlib.Core.List.{map}
+use Rattle.memory.specs.Memory.{builtMemory}
 use Rattle.examples.specs.Rows.{Row, outcome, rows}
 
 pub examples : map (λ (r : Row). outcome (r .asked)) rows ≡ map (λ (r : Row). r .says) rows
+unfolding builtMemory
 examples = refl

@@ -2,6 +2,7 @@
 use Prim.Native.Nat.{ℕ, zero, suc}
 use mathlib.Core.Bool.{Bool, true, false}
 use mathlib.Core.List.{List, [], _∷_}
+use lib.ListN.{replicate}
 use Rattle.errors.specs.Told.{Told, gives, refuses, Step}
 use Rattle.snippet.specs.Point.{point}
 use Rattle.frame.specs.declared.FrameBuilder.{FrameBuilder}
@@ -11,6 +12,7 @@ use Rattle.frame.specs.declared.Timebase.{Timebase}
 use Rattle.frame.specs.declared.Timebase.the-variants.{«Ms43_52»}
 use Rattle.frame.specs.Builder.{newFrame, withGain, withTimebase, withLoopCount, withFrequency}
 use Rattle.frame.specs.Frame.{frameBytes, builtFrame}
+use Rattle.pattern.specs.Calls.{MemoryCall, addSnippet, addSequence, ramp, step, new, builtFrom}
 
 -- ---- what can be asked
 
@@ -25,6 +27,8 @@ pub data Question : Type 0 where
   pointOf : Bool → ℕ → ℕ → Question
   -- a frame: snippet number, and the calls on its builder
   frameOf : ℕ → List Call → Question
+  -- an image: the calls on a memory's builder
+  imageOf : List MemoryCall → Question
 
 -- ---- what the definitions say: bytes, or the number of the refusal
 
@@ -53,9 +57,14 @@ abbrev pub pointed : Told ℕ → Outcome
 pointed (gives byte) = bytes (byte ∷ [])
 pointed (refuses n) = refusal n
 
+abbrev pub imaged : ℕ → List ℕ → Outcome
+imaged zero image = bytes image
+imaged (suc n) image = refusal (suc n)
+
 abbrev pub outcome : Question → Outcome
 outcome (pointOf ramp timebases amplitude) = pointed (point ramp timebases amplitude)
 outcome (frameOf n ks) = begun (newFrame n) ks
+outcome (imageOf ks) = imaged (builtFrom false ks .number) (builtFrom false ks .item .«data»)
 
 -- ---- the table
 
@@ -83,4 +92,7 @@ rows =
     ∷ row (frameOf 3 (gain Half ∷ timebase «Ms43_52» ∷ loopCount 2 ∷ frequencyHz 300 ∷ [])) (bytes (0x33 ∷ 0x96 ∷ 0x2C ∷ []))
     ∷ row (frameOf 3 (frequencyHz 511 ∷ [])) (bytes (0x03 ∷ 0x86 ∷ 0xFF ∷ []))
     ∷ row (frameOf 3 (frequencyHz 512 ∷ [])) (refusal 5)
+    -- snippet AA 00 with sequence 01: image 01 01 05 06 AA 00 01 and 93 zeros.
+    ∷ row (imageOf (addSnippet (ramp 3 10 ∷ step 1 0 ∷ []) ∷ addSequence (record { begin = new 1; calls = [] } ∷ []) ∷ []))
+    (bytes (0x01 ∷ 0x01 ∷ 0x05 ∷ 0x06 ∷ 0xAA ∷ 0x00 ∷ 0x01 ∷ replicate 93 0))
     ∷ []

@@ -1,0 +1,6 @@
+pub mod Codec
+pub mod Images
+pub mod Items
+pub mod Points
+pub mod Sameness
+pub mod Sequences

@@ -1,0 +1,4 @@
+pub mod Image
+pub mod Laid
+pub mod Memory
+pub mod Timebase

@@ -1,0 +1,27 @@
+-- Demand 3, whole.
+-- Assumes nothing.
+use mathlib.Core.Path.{_≡_, sym, ap, _∙_}
+use lib.ListN.{length}
+use Rattle.content.specs.Content.{imageOf}
+use Rattle.content.specs.ReadImage.{readImage}
+use Rattle.content.proofs.Images.{image-codec, image-length, same-image, refuses-image, read-same}
+use Rattle.content.proofs.Sameness.{canonical}
+use Rattle.pattern.specs.Demand.{Pattern, content, Demand3}
+use Rattle.pattern.proofs.Memories.{image-from}
+
+pub demand3 : Demand3
+demand3 =
+    record {
+      hundred = λ p e. let w = image-from (p .acceleration) (p .calls) e in ap length (sym (w .1)) ∙ image-length (content p) (w .0);
+      laidOut = λ p e. image-from (p .acceleration) (p .calls) e;
+      apart = λ p q e f.
+          let v = image-from (p .acceleration) (p .calls) e in
+          let w = image-from (q .acceleration) (q .calls) f in
+          let s = same-image (content p) (content q) (v .0) (w .0) in
+          (λ h. s .0 (v .1 ∙ h ∙ sym (w .1)), λ h. sym (v .1) ∙ s .1 h ∙ w .1);
+      returned = λ l h c e. image-codec .sound l c h e;
+      refused = λ l h. refuses-image l h;
+      readBack = λ p e.
+          let w = image-from (p .acceleration) (p .calls) e in
+          (canonical (content p), ap readImage (sym (w .1)) ∙ image-codec .complete (content p) (w .0), read-same (content p) (w .0));
+    }

@@ -1,0 +1,6 @@
+pub mod Demand3
+pub mod Frames
+pub mod Memories
+pub mod Outcomes
+pub mod Sequences
+pub mod Snippets

@@ -1,0 +1,194 @@
+-- A memory's builder holds the content that its accepted calls added, and what it builds is that content's image.
+-- Assumes nothing.
+use mathlib.Core.Path.{_≡_, refl, sym, ap, ap₂, _∙_, subst}
+use mathlib.Core.Logic.{_⊎_, inl, inr}
+use mathlib.Core.Bool.{Bool, true, false, cond}
+use mathlib.Core.List.{List, [], _∷_, _++_, map}
+use Prim.Native.Nat.{ℕ, zero, suc, _+_, _-_, _≤_, _<_}
+use native.Mathlib.Decide.{decLe}
+use native.Mathlib.Omega.{arith}
+use borrow.Author.Tests.{lt-ltb, le-ltb, le-leb, lt-leb}
+use lib.ListN.{length, take, length-map}
+use Rattle.laws.specs.Bytes.{All}
+use Rattle.errors.specs.Told.{Step, Built}
+use Rattle.snippet.specs.declared.PwlPoint.{PwlPoint}
+use Rattle.snippet.specs.declared.Snippet.{Snippet}
+use Rattle.snippet.specs.declared.SnippetBuilder.{SnippetBuilder}
+use Rattle.snippet.specs.Snippet as code
+use Rattle.snippet.specs.Snippet.{snippetBytes, builtSnippet}
+use Rattle.frame.specs.declared.FrameBuilder.{FrameBuilder}
+use Rattle.sequence.specs.declared.SequenceBuilder.{SequenceBuilder}
+use Rattle.sequence.specs.Sequence.{sequenceBytes, builtSequence}
+use Rattle.memory.specs.declared.WaveformMemoryBuilder.{WaveformMemoryBuilder}
+use Rattle.memory.specs.Image.{imageSize, imageBytes}
+use Rattle.memory.specs.Memory.{newMemory, withSnippet, withSequence, imageNumber, answered, snippetItems, sequenceItems, builtMemory}
+use Rattle.content.specs.Content.{Point, Content, pointBytes, framesBytes, imageOf, SnippetAdmitted, SequenceAdmitted, Admitted}
+use Rattle.content.proofs.Codec.{all-append}
+use Rattle.pattern.specs.Calls.{MemoryCall, addSnippet, addSequence, Item, points, frames, snippetsOf, sequencesOf, contentOf, withBuiltSnippet, withBuiltSequence, memoryStep, addedItem, memoryFrom, contentFrom, builtFrom, snippetFrom, pointsFrom, sequenceFrom, framesFrom}
+use Rattle.pattern.proofs.Outcomes.{Outcome, all-calls, Shows, shows-more}
+use Rattle.pattern.proofs.Snippets as snippet
+use Rattle.pattern.proofs.Snippets.{snippet-holds}
+use Rattle.pattern.proofs.Sequences as sequence
+use Rattle.pattern.proofs.Sequences.{sequence-holds}
+
+pub record Holds (b : WaveformMemoryBuilder) (is : List Item) : Type 0 where
+  pub snippets : Shows 15 snippetBytes pointBytes (b .snippets) (b .«num_snippets») (snippetsOf is)
+  pub sequences : Shows 16 sequenceBytes framesBytes (b .sequences) (b .«num_sequences») (sequencesOf is)
+  pub snippet : All SnippetAdmitted (snippetsOf is)
+  pub sequence : All SequenceAdmitted (sequencesOf is)
+
+none-held : (a : Bool) → Holds (newMemory a) []
+none-held a =
+    record {
+      snippets = record { long = refl; shown = refl; counted = refl; room = omega arith };
+      sequences = record { long = refl; shown = refl; counted = refl; room = omega arith };
+      snippet = tt;
+      sequence = tt;
+    }
+
+-- ---- items in order
+
+snippets-points : (is : List Item) (ps : List Point) → snippetsOf (is ++ (points ps ∷ [])) ≡ snippetsOf is ++ (ps ∷ [])
+snippets-points [] ps = refl
+snippets-points (points qs ∷ is) ps = ap (λ l. qs ∷ l) (snippets-points is ps)
+snippets-points (frames fs ∷ is) ps = snippets-points is ps
+
+snippets-frames : (is : List Item) (fs : List FrameBuilder) → snippetsOf (is ++ (frames fs ∷ [])) ≡ snippetsOf is
+snippets-frames [] fs = refl
+snippets-frames (points qs ∷ is) fs = ap (λ l. qs ∷ l) (snippets-frames is fs)
+snippets-frames (frames gs ∷ is) fs = snippets-frames is fs
+
+sequences-points : (is : List Item) (ps : List Point) → sequencesOf (is ++ (points ps ∷ [])) ≡ sequencesOf is
+sequences-points [] ps = refl
+sequences-points (points qs ∷ is) ps = sequences-points is ps
+sequences-points (frames fs ∷ is) ps = ap (λ l. fs ∷ l) (sequences-points is ps)
+
+sequences-frames : (is : List Item) (fs : List FrameBuilder) → sequencesOf (is ++ (frames fs ∷ [])) ≡ sequencesOf is ++ (fs ∷ [])
+sequences-frames [] fs = refl
+sequences-frames (points qs ∷ is) fs = sequences-frames is fs
+sequences-frames (frames gs ∷ is) fs = ap (λ l. gs ∷ l) (sequences-frames is fs)
+
+-- a builder by the snippets and the sequences of its items
+holds-of : (b : WaveformMemoryBuilder) (is : List Item) (ss : List (List Point)) (qs : List (List FrameBuilder)) → snippetsOf is ≡ ss → sequencesOf is ≡ qs
+    → Shows 15 snippetBytes pointBytes (b .snippets) (b .«num_snippets») ss
+    → Shows 16 sequenceBytes framesBytes (b .sequences) (b .«num_sequences») qs
+    → All SnippetAdmitted ss → All SequenceAdmitted qs → Holds b is
+holds-of b is ss qs e f s q gs gq =
+    record {
+      snippets = subst (Shows 15 snippetBytes pointBytes (b .snippets) (b .«num_snippets»)) (sym e) s;
+      sequences = subst (Shows 16 sequenceBytes framesBytes (b .sequences) (b .«num_sequences»)) (sym f) q;
+      snippet = subst (All SnippetAdmitted) (sym e) gs;
+      sequence = subst (All SequenceAdmitted) (sym f) gq;
+    }
+
+-- ---- one call
+
+abbrev Added : List Item → Step WaveformMemoryBuilder → Item → Type 0
+Added is s i = Outcome (s .number) (Holds (s .builder) (is ++ (i ∷ []))) (Holds (s .builder) is)
+
+map-take : {A B : Type 0} (f : A → B) (n : ℕ) (l : List A) → take n (map f l) ≡ map f (take n l)
+map-take f zero l = refl
+map-take f (suc n) [] = refl
+map-take f (suc n) (x ∷ l) = ap (λ r. f x ∷ r) (map-take f n l)
+
+with-snippet : (b : WaveformMemoryBuilder) (is : List Item) (s : SnippetBuilder) (ps : List Point) → Holds b is → snippet.Holds s ps
+    → Added is (withBuiltSnippet b (builtSnippet s)) (points ps)
+with-snippet b is s ps h k = some (decLe 1 (s .len)) where
+  full : 1 ≤ s .len → Dec (15 ≤ b .«num_snippets») → Added is (withBuiltSnippet b (builtSnippet s)) (points ps)
+  full p (yes q) = simp (le-ltb _ _ p, le-leb _ _ q) (inr (omega arith, h))
+  full p (no q) =
+      let q′ : b .«num_snippets» < 15 = omega arith in
+      simp (le-ltb _ _ p, lt-leb _ _ q′)
+      (inl (
+        refl,
+        holds-of _ _ _ _ (snippets-points is ps) (sequences-points is ps)
+            (shows-more 15 snippetBytes pointBytes (b .snippets) (b .«num_snippets») (snippetsOf is) (record { points = s .points; len = s .len }) ps (h .snippets) q′ (map-take code.byteOf (s .len) (s .points) ∙ k .shows .shown))
+            (h .sequences)
+            (all-append SnippetAdmitted (snippetsOf is) (ps ∷ []) (h .snippet) (record { some = omega (arith, k .shows .counted); few = omega (arith, k .shows .counted, k .shows .room); each = k .good }, tt))
+            (h .sequence),
+      ))
+
+  some : Dec (1 ≤ s .len) → Added is (withBuiltSnippet b (builtSnippet s)) (points ps)
+  some (yes p) = full p (decLe 15 (b .«num_snippets»))
+  some (no p) = let p′ : s .len < 1 = omega arith in simp (lt-ltb _ _ p′) (inr (omega arith, h))
+
+some-frames : (fs : List FrameBuilder) → 1 ≤ length (framesBytes fs) → 1 ≤ length fs
+some-frames [] h = h
+some-frames (f ∷ fs) h = omega arith
+
+with-sequence : (b : WaveformMemoryBuilder) (is : List Item) (s : SequenceBuilder) (fs : List FrameBuilder) → Holds b is → sequence.Holds s fs
+    → Added is (withBuiltSequence b (builtSequence s)) (frames fs)
+with-sequence b is s fs h k = some (decLe 1 (s .len)) where
+  full : 1 ≤ s .len → Dec (16 ≤ b .«num_sequences») → Added is (withBuiltSequence b (builtSequence s)) (frames fs)
+  full p (yes q) = simp (le-ltb _ _ p, le-leb _ _ q) (inr (omega arith, h))
+  full p (no q) =
+      let q′ : b .«num_sequences» < 16 = omega arith in
+      simp (le-ltb _ _ p, lt-leb _ _ q′)
+      (inl (
+        refl,
+        holds-of _ _ _ _ (snippets-frames is fs) (sequences-frames is fs)
+            (h .snippets)
+            (shows-more 16 sequenceBytes framesBytes (b .sequences) (b .«num_sequences») (sequencesOf is) (record { «data» = s .«data»; len = s .len }) fs (h .sequences) q′ (k .shown))
+            (h .snippet)
+            (all-append SequenceAdmitted (sequencesOf is) (fs ∷ []) (h .sequence) (record { some = some-frames fs (omega (arith, k .counted)); few = k .few; each = k .good }, tt)),
+      ))
+
+  some : Dec (1 ≤ s .len) → Added is (withBuiltSequence b (builtSequence s)) (frames fs)
+  some (yes p) = full p (decLe 16 (b .«num_sequences»))
+  some (no p) = let p′ : s .len < 1 = omega arith in simp (lt-ltb _ _ p′) (inr (omega arith, h))
+
+one-call : (b : WaveformMemoryBuilder) (is : List Item) (k : MemoryCall) → Holds b is → Added is (memoryStep b k) (addedItem k)
+one-call b is (addSnippet ks) h = with-snippet b is (snippetFrom ks) (pointsFrom ks) h (snippet-holds ks)
+one-call b is (addSequence ms) h = with-sequence b is (sequenceFrom ms) (framesFrom ms) h (sequence-holds ms)
+
+-- ---- building
+
+pub record Whole (ss qs : List (List ℕ)) : Type 0 where
+  pub someSnippets : 1 ≤ length ss
+  pub someSequences : 1 ≤ length qs
+  pub fits : imageSize ss qs ≤ 100
+
+number-whole : (ss qs : List (List ℕ)) → imageNumber ss qs ≡ 0 → Whole ss qs
+number-whole ss qs e = first (decLe 1 (length ss)) where
+  third : 1 ≤ length ss → 1 ≤ length qs → Dec (imageSize ss qs ≤ 100) → Whole ss qs
+  third p q (yes r) = record { someSnippets = p; someSequences = q; fits = r }
+  third p q (no r) =
+      let r′ : 100 < imageSize ss qs = omega arith in
+      let z : _≡_ {A = ℕ} 8 0 = simp (le-ltb (length ss) 1 p, le-ltb (length qs) 1 q, lt-ltb 100 (imageSize ss qs) r′) at e in absurd (omega arith)
+
+  second : 1 ≤ length ss → Dec (1 ≤ length qs) → Whole ss qs
+  second p (yes q) = third p q (decLe (imageSize ss qs) 100)
+  second p (no q) =
+      let q′ : length qs < 1 = omega arith in
+      let z : _≡_ {A = ℕ} 10 0 = simp (le-ltb (length ss) 1 p, lt-ltb (length qs) 1 q′) at e in absurd (omega arith)
+
+  first : Dec (1 ≤ length ss) → Whole ss qs
+  first (yes p) = second p (decLe 1 (length qs))
+  first (no p) = let p′ : length ss < 1 = omega arith in let z : _≡_ {A = ℕ} 9 0 = simp (lt-ltb (length ss) 1 p′) at e in absurd (omega arith)
+
+-- what a builder that holds a content builds, where nothing is refused
+built : (b : WaveformMemoryBuilder) (is : List Item) → Holds b is → builtMemory b .number ≡ 0
+    → Admitted (contentOf is) × (imageOf (contentOf is) ≡ builtMemory b .item .«data»)
+unfolding builtMemory imageOf
+built b is h e =
+    let ss : List (List ℕ) = map pointBytes (snippetsOf is) in
+    let qs : List (List ℕ) = map framesBytes (sequencesOf is) in
+    let r : imageNumber (snippetItems b) (sequenceItems b) ≡ imageNumber ss qs = ap₂ imageNumber (h .snippets .shown) (h .sequences .shown) in
+    let w = number-whole ss qs (sym r ∙ e) in
+    let ns = length-map (snippetsOf is) pointBytes in
+    let nq = length-map (sequencesOf is) framesBytes in (
+      record {
+        someSnippets = omega (arith, w .someSnippets);
+        fewSnippets = omega (arith, h .snippets .counted, h .snippets .room);
+        snippet = h .snippet;
+        someSequences = omega (arith, w .someSequences);
+        fewSequences = omega (arith, h .sequences .counted, h .sequences .room);
+        sequence = h .sequence;
+        fits = w .fits;
+      },
+      simp e (ap₂ imageBytes (sym (h .snippets .shown)) (sym (h .sequences .shown))),
+    )
+
+pub image-from : (a : Bool) (ks : List MemoryCall) → builtFrom a ks .number ≡ 0
+    → Admitted (contentFrom a ks) × (imageOf (contentFrom a ks) ≡ builtFrom a ks .item .«data»)
+image-from a ks e = built (memoryFrom a ks) _ (all-calls memoryStep addedItem Holds one-call ks (newMemory a) [] (none-held a)) e

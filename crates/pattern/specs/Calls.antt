@@ -1,0 +1,205 @@
+-- Lists of builder calls, and what they hold: document 01, 'The hundred bytes', second paragraph. Each snippet, frame, sequence and image
+-- comes from a list of calls on one builder of its kind, begun with a new one, and finished items are passed on as built.
+use Prim.Native.Nat.{ℕ, _%_}
+use mathlib.Core.Bool.{Bool, true, false, cond}
+use mathlib.Core.List.{List, [], _∷_}
+use lib.Dec.{ltb}
+use Rattle.errors.specs.Told.{Told, gives, refuses, Step, refused, Built}
+use Rattle.snippet.specs.declared.Snippet.{Snippet}
+use Rattle.snippet.specs.declared.SnippetBuilder.{SnippetBuilder}
+use Rattle.snippet.specs.Point as made
+use Rattle.snippet.specs.Snippet.{pointOf, newSnippet, withPoint, withMade, builtSnippet}
+use Rattle.frame.specs.declared.Gain.{Gain}
+use Rattle.frame.specs.declared.Gain.the-variants.{Full}
+use Rattle.frame.specs.declared.Timebase.{Timebase}
+use Rattle.frame.specs.declared.Timebase.the-variants.{«Ms5_44»}
+use Rattle.frame.specs.declared.LoopCount.{LoopCount}
+use Rattle.frame.specs.declared.LoopCount.the-variants as LoopCount
+use Rattle.frame.specs.declared.Frequency.{Frequency}
+use Rattle.frame.specs.declared.Frequency.the-variants as Frequency
+use Rattle.frame.specs.declared.FrameBuilder.{FrameBuilder}
+use Rattle.frame.specs.Builder.{silentFrame, newFrame, withGain, withTimebase, withLoopCount, withFrequency}
+use Rattle.frame.specs.Frame.{builtFrame}
+use Rattle.sequence.specs.declared.Sequence.{Sequence}
+use Rattle.sequence.specs.declared.SequenceBuilder.{SequenceBuilder}
+use Rattle.sequence.specs.Sequence.{newSequence, withFrame, builtSequence}
+use Rattle.memory.specs.declared.WaveformMemory.{WaveformMemory}
+use Rattle.memory.specs.declared.WaveformMemoryBuilder.{WaveformMemoryBuilder}
+use Rattle.memory.specs.Memory.{newMemory, withSnippet, withSequence, builtMemory}
+use Rattle.content.specs.Content.{Point, Content}
+use Rattle.content.specs.ReadImage.{pointIn}
+
+-- ---- any builder B with calls K, each of which adds an X when it is accepted
+
+module _ {B K X : Type 0} (step : B → K → Step B) (adds : K → X) where
+  -- "Each call gets what the last handed back"
+  abbrev pub ran : B → List K → B
+  ran b [] = b
+  ran b (k ∷ ks) = ran (step b k .builder) ks
+
+  -- "An item holds what its accepted calls added, in order; a refused call adds nothing"
+  abbrev pub held : B → List K → List X
+  held b [] = []
+  held b (k ∷ ks) = cond (ltb 0 (step b k .number)) (held (step b k .builder) ks) (adds k ∷ held (step b k .builder) ks)
+
+-- ---- a snippet
+
+pub data SnippetCall : Type 0 where
+  ramp : ℕ → ℕ → SnippetCall
+  step : ℕ → ℕ → SnippetCall
+  -- a point that was made before, by its byte (the low eight bits count)
+  point : ℕ → SnippetCall
+
+abbrev pub snippetStep : SnippetBuilder → SnippetCall → Step SnippetBuilder
+snippetStep b (ramp t a) = withMade b (made.point true t a)
+snippetStep b (step t a) = withMade b (made.point false t a)
+snippetStep b (point x) = withPoint b (pointOf (x % 256))
+
+abbrev pub addedPoint : SnippetCall → Point
+addedPoint (ramp t a) = record { ramp = true; timebases = t; amplitude = a }
+addedPoint (step t a) = record { ramp = false; timebases = t; amplitude = a }
+addedPoint (point x) = pointIn (x % 256)
+
+abbrev pub snippetFrom : List SnippetCall → SnippetBuilder
+snippetFrom ks = ran snippetStep addedPoint newSnippet ks
+
+abbrev pub pointsFrom : List SnippetCall → List Point
+pointsFrom ks = held snippetStep addedPoint newSnippet ks
+
+-- ---- a frame
+
+pub data FrameCall : Type 0 where
+  gain : Gain → FrameCall
+  timebase : Timebase → FrameCall
+  loopCount : ℕ → FrameCall
+  frequencyHz : ℕ → FrameCall
+
+abbrev pub frameStep : FrameBuilder → FrameCall → Step FrameBuilder
+frameStep b (gain g) = record { number = 0; builder = withGain b g }
+frameStep b (timebase t) = record { number = 0; builder = withTimebase b t }
+frameStep b (loopCount k) = withLoopCount b k
+frameStep b (frequencyHz f) = withFrequency b f
+
+-- begun by `new` or `silence`
+pub data Begin : Type 0 where
+  new : ℕ → Begin
+  silence : Begin
+
+abbrev pub begun : Begin → Told FrameBuilder
+begun (new n) = newFrame n
+begun silence = gives silentFrame
+
+pub record FrameCalls : Type 0 where
+  pub begin : Begin
+  pub calls : List FrameCall
+
+abbrev pub frameRan : FrameBuilder → List FrameCall → FrameBuilder
+frameRan b ks = ran frameStep (λ k. k) b ks
+
+-- "A frame's field is what the last accepted call that sets it gave, else the Rust's default"
+abbrev pub numberOf : Begin → ℕ
+numberOf (new n) = n
+numberOf silence = 0
+
+abbrev pub lastGain : Gain → List FrameCall → Gain
+lastGain g [] = g
+lastGain g (gain h ∷ ks) = lastGain h ks
+lastGain g (timebase t ∷ ks) = lastGain g ks
+lastGain g (loopCount k ∷ ks) = lastGain g ks
+lastGain g (frequencyHz f ∷ ks) = lastGain g ks
+
+abbrev pub lastTimebase : Timebase → List FrameCall → Timebase
+lastTimebase t [] = t
+lastTimebase t (gain g ∷ ks) = lastTimebase t ks
+lastTimebase t (timebase u ∷ ks) = lastTimebase u ks
+lastTimebase t (loopCount k ∷ ks) = lastTimebase t ks
+lastTimebase t (frequencyHz f ∷ ks) = lastTimebase t ks
+
+-- accepted up to 15
+abbrev pub lastLoop : LoopCount → List FrameCall → LoopCount
+lastLoop l [] = l
+lastLoop l (gain g ∷ ks) = lastLoop l ks
+lastLoop l (timebase t ∷ ks) = lastLoop l ks
+lastLoop l (loopCount k ∷ ks) = lastLoop (cond (ltb 15 k) l (LoopCount.Given k)) ks
+lastLoop l (frequencyHz f ∷ ks) = lastLoop l ks
+
+-- accepted up to 511
+abbrev pub lastFrequency : Frequency → List FrameCall → Frequency
+lastFrequency q [] = q
+lastFrequency q (gain g ∷ ks) = lastFrequency q ks
+lastFrequency q (timebase t ∷ ks) = lastFrequency q ks
+lastFrequency q (loopCount k ∷ ks) = lastFrequency q ks
+lastFrequency q (frequencyHz f ∷ ks) = lastFrequency (cond (ltb 511 f) q (Frequency.Given f)) ks
+
+abbrev pub frameFrom : FrameCalls → FrameBuilder
+frameFrom m =
+    record {
+      «snippet_id» = numberOf (m .begin);
+      gain = lastGain Full (m .calls);
+      timebase = lastTimebase «Ms5_44» (m .calls);
+      «loop_count» = lastLoop LoopCount.Absent (m .calls);
+      frequency = lastFrequency Frequency.Absent (m .calls);
+    }
+
+-- ---- a sequence: each call adds the frame that its own calls make; where `new` was refused there is no frame to add
+
+abbrev pub withMadeFrame : SequenceBuilder → List FrameCall → Told FrameBuilder → Step SequenceBuilder
+withMadeFrame b ks (gives f) = withFrame b (builtFrame (frameRan f ks))
+withMadeFrame b ks (refuses n) = refused n b
+
+abbrev pub sequenceStep : SequenceBuilder → FrameCalls → Step SequenceBuilder
+sequenceStep b m = withMadeFrame b (m .calls) (begun (m .begin))
+
+abbrev pub sequenceFrom : List FrameCalls → SequenceBuilder
+sequenceFrom ms = ran sequenceStep frameFrom newSequence ms
+
+abbrev pub framesFrom : List FrameCalls → List FrameBuilder
+framesFrom ms = held sequenceStep frameFrom newSequence ms
+
+-- ---- an image: each call adds the item that its own calls build; where `build` refuses there is no item to add
+
+pub data MemoryCall : Type 0 where
+  addSnippet : List SnippetCall → MemoryCall
+  addSequence : List FrameCalls → MemoryCall
+
+pub data Item : Type 0 where
+  points : List Point → Item
+  frames : List FrameBuilder → Item
+
+abbrev pub withBuiltSnippet : WaveformMemoryBuilder → Built Snippet SnippetBuilder → Step WaveformMemoryBuilder
+withBuiltSnippet b r = cond (ltb 0 (r .number)) (refused (r .number) b) (withSnippet b (r .item))
+
+abbrev pub withBuiltSequence : WaveformMemoryBuilder → Built Sequence SequenceBuilder → Step WaveformMemoryBuilder
+withBuiltSequence b r = cond (ltb 0 (r .number)) (refused (r .number) b) (withSequence b (r .item))
+
+abbrev pub memoryStep : WaveformMemoryBuilder → MemoryCall → Step WaveformMemoryBuilder
+memoryStep b (addSnippet ks) = withBuiltSnippet b (builtSnippet (snippetFrom ks))
+memoryStep b (addSequence ms) = withBuiltSequence b (builtSequence (sequenceFrom ms))
+
+abbrev pub addedItem : MemoryCall → Item
+addedItem (addSnippet ks) = points (pointsFrom ks)
+addedItem (addSequence ms) = frames (framesFrom ms)
+
+abbrev pub snippetsOf : List Item → List (List Point)
+snippetsOf [] = []
+snippetsOf (points ps ∷ is) = ps ∷ snippetsOf is
+snippetsOf (frames fs ∷ is) = snippetsOf is
+
+abbrev pub sequencesOf : List Item → List (List FrameBuilder)
+sequencesOf [] = []
+sequencesOf (points ps ∷ is) = sequencesOf is
+sequencesOf (frames fs ∷ is) = fs ∷ sequencesOf is
+
+abbrev pub contentOf : List Item → Content
+contentOf is = record { snippets = snippetsOf is; sequences = sequencesOf is }
+
+-- the memory builder after the calls, begun with either acceleration flag, and the content that they added
+abbrev pub memoryFrom : Bool → List MemoryCall → WaveformMemoryBuilder
+memoryFrom acceleration ks = ran memoryStep addedItem (newMemory acceleration) ks
+
+abbrev pub contentFrom : Bool → List MemoryCall → Content
+contentFrom acceleration ks = contentOf (held memoryStep addedItem (newMemory acceleration) ks)
+
+-- what building then answers
+abbrev pub builtFrom : Bool → List MemoryCall → Built WaveformMemory WaveformMemoryBuilder
+builtFrom acceleration ks = builtMemory (memoryFrom acceleration ks)

@@ -1,0 +1,45 @@
+-- Demand 3 as one claim over all lists of builder calls and all slices of bytes.
+use Prim.Native.Nat.{ℕ}
+use mathlib.Core.Path.{_≡_}
+use mathlib.Core.Logic.{_↔_}
+use mathlib.Core.Bool.{Bool}
+use mathlib.Core.List.{List}
+use mathlib.Core.Option.{Option, none, some}
+use lib.ListN.{length}
+use Rattle.laws.specs.Bytes.{Bytes}
+use Rattle.content.specs.Content.{Content, Admitted, imageOf, Same}
+use Rattle.content.specs.ReadImage.{readImage}
+use Rattle.pattern.specs.Calls.{MemoryCall, contentFrom, builtFrom}
+
+-- a pattern: an acceleration flag and the calls on a memory builder
+pub record Pattern : Type 0 where
+  pub acceleration : Bool
+  pub calls : List MemoryCall
+
+-- its image is built: `build` refuses nothing
+abbrev pub IsBuilt : Pattern → Type 0
+IsBuilt p = builtFrom (p .acceleration) (p .calls) .number ≡ 0
+
+abbrev pub image : Pattern → List ℕ
+image p = builtFrom (p .acceleration) (p .calls) .item .«data»
+
+abbrev pub content : Pattern → Content
+content p = contentFrom (p .acceleration) (p .calls)
+
+-- lists that the builders admit and whose image those bytes are
+abbrev pub ImageOf : List ℕ → Content → Type 0
+ImageOf l c = Admitted c × (imageOf c ≡ l)
+
+pub record Demand3 : Type 0 where
+  -- a built image is a hundred bytes
+  pub hundred : (p : Pattern) → IsBuilt p → length (image p) ≡ 100
+  -- what its accepted calls added is admitted, and its image is laid out as document 01 says
+  pub laidOut : (p : Pattern) → IsBuilt p → ImageOf (image p) (content p)
+  -- "Two images .. are equal exactly when .." their contents are the same
+  pub apart : (p q : Pattern) → IsBuilt p → IsBuilt q → (image p ≡ image q) ↔ Same (content p) (content q)
+  -- "it returns lists that the builders admit and whose image those bytes are"
+  pub returned : (l : List ℕ) → Bytes l → (c : Content) → readImage l ≡ some c → ImageOf l c
+  -- "and refuses exactly when there are no such lists"
+  pub refused : (l : List ℕ) → Bytes l → (readImage l ≡ none) ↔ ¬ ((c : Content) × Admitted c × (imageOf c ≡ l))
+  -- every built image is read back to the same content
+  pub readBack : (p : Pattern) → IsBuilt p → (c : Content) × (readImage (image p) ≡ some c) × Same (content p) c
