@@ -62,7 +62,7 @@ imaged zero image = bytes image
 imaged (suc n) image = refusal (suc n)
 
 abbrev pub outcome : Question → Outcome
-outcome (pointOf ramp timebases amplitude) = pointed (point ramp timebases amplitude)
+outcome (pointOf r t a) = pointed (point r t a)
 outcome (frameOf n ks) = begun (newFrame n) ks
 outcome (imageOf ks) = imaged (builtFrom false ks .number) (builtFrom false ks .item .«data»)
 
