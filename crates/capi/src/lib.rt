@@ -11,6 +11,8 @@ ghost use Rattle.frame.specs.Frame.{frameBytes, builtFrame};
 ghost use Rattle.sequence.specs.Sequence.{sequenceBytes, builtSequence};
 ghost use Rattle.laws.specs.Copied.{copied};
 ghost use Rattle.assemble.specs.Assembled.{first, numbers, patternCallsIn, assembled, imageOut};
+ghost use Rattle.content.specs.ReadImage.{readImage};
+ghost use Rattle.readings.specs.Readings.{countsWord, pointIn, frameIn};
 ghost use Rattle.field.specs.Layout.{readings, replacements};
 ghost use Rattle.registers.specs.Addresses.{addresses};
 ghost use Rattle.registers_interrupts.specs.Table as interrupts;
@@ -137,6 +139,27 @@ pub extern "C" fn da728x_assemble(calls: &[u8], answers: &mut [u8], image: &mut 
     ensures { λ _. ⌜ now (image .exit) ≡ imageOut (assembled (now (calls .entry))) (now (image .entry)) ⌝ }
 {
     assemble::assemble(calls, answers, image)
+}
+
+#[no_mangle]
+pub extern "C" fn da728x_read_counts(image: &[u8]) -> u16
+    ensures { λ r. ⌜ r ≡ countsWord (readImage (now (image .entry))) ⌝ }
+{
+    readings::counts(image)
+}
+
+#[no_mangle]
+pub extern "C" fn da728x_read_point(image: &[u8], i: usize, j: usize) -> u16
+    ensures { λ r. ⌜ r ≡ pointIn (readImage (now (image .entry))) i j ⌝ }
+{
+    readings::point(image, i, j)
+}
+
+#[no_mangle]
+pub extern "C" fn da728x_read_frame(image: &[u8], i: usize, j: usize) -> u64
+    ensures { λ r. ⌜ r ≡ frameIn (readImage (now (image .entry))) i j ⌝ }
+{
+    readings::frame(image, i, j)
 }
 
 #[no_mangle]

@@ -17,6 +17,7 @@ use Rattle.frame.specs.declared.LoopCount.the-variants as LoopCount
 use Rattle.frame.specs.declared.Frequency.{Frequency}
 use Rattle.frame.specs.declared.Frequency.the-variants as Frequency
 use Rattle.frame.specs.declared.FrameBuilder.{FrameBuilder}
+use Rattle.frame.specs.declared.FrameFields.{FrameFields}
 use Rattle.frame.specs.declared.FrameRead.{FrameRead}
 use Rattle.frame.specs.declared.FrameRead.the-variants as FrameRead
 
@@ -26,6 +27,16 @@ gainAt code = getD (Full ∷ Half ∷ Quarter ∷ []) code Eighth
 
 abbrev pub timebaseAt : ℕ → Timebase
 timebaseAt code = getD («Ms5_44» ∷ «Ms21_76» ∷ «Ms43_52» ∷ []) code «Ms87_04»
+
+abbrev pub fieldsOf : FrameBuilder → FrameFields
+fieldsOf b =
+    record {
+      «snippet_id» = b .«snippet_id»;
+      gain = b .gain;
+      timebase = b .timebase;
+      «loop_count» = b .«loop_count»;
+      frequency = b .frequency;
+    }
 
 -- gain and timebase from the first byte a, the other fields as given
 abbrev pub fieldsIn : ℕ → ℕ → LoopCount → Frequency → FrameBuilder

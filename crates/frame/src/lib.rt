@@ -8,7 +8,7 @@ ghost use Prim.Native.Nat.{min, _%_, _+_, _≤_};
 ghost use lib.ListN.{length, drop};
 ghost use Rattle.laws.specs.Copied.{copied};
 ghost use Rattle.frame.specs.Builder.{silentFrame, newFrame, newTold, withGain, withTimebase, withLoopCount, withFrequency, setTold};
-ghost use Rattle.frame.specs.Read.{gainAt, timebaseAt, fieldsIn, oneByte, twoBytes, threeBytes, secondAt, firstFrame, readTold};
+ghost use Rattle.frame.specs.Read.{gainAt, timebaseAt, fieldsOf, fieldsIn, oneByte, twoBytes, threeBytes, secondAt, firstFrame, readTold};
 ghost use Rattle.frame.specs.Frame.{gainCode, timebaseCode, loops, frameBytes, builtFrame};
 use errors::Answer;
 use errors::Error;
@@ -54,6 +54,15 @@ pub struct FrameBuilder {
 pub enum NewFrame {
     Builder(FrameBuilder),
     Refused(Error),
+}
+
+// The fields of a frame that was read or is under construction.
+pub struct FrameFields {
+    pub snippet_id: u8,
+    pub gain: Gain,
+    pub timebase: Timebase,
+    pub loop_count: LoopCount,
+    pub frequency: Frequency,
 }
 
 // What reading a frame answers: the frame's fields, and how many bytes it took.
@@ -311,6 +320,23 @@ fn loop_code(c: LoopCount) -> u8
 // ---- a frame read back from its bytes (added)
 
 impl FrameBuilder {
+    // The fields as they stand.
+    pub fn parts(self) -> FrameFields
+        ensures { λ r. ⌜ r ≡ fieldsOf self ⌝ }
+    {
+        let gain = self.gain;
+        let timebase = self.timebase;
+        let loop_count = self.loop_count;
+        let frequency = self.frequency;
+        FrameFields {
+            snippet_id: self.snippet_id,
+            gain: gain,
+            timebase: timebase,
+            loop_count: loop_count,
+            frequency: frequency,
+        }
+    }
+
     // The first frame of the bytes from an index on, or NotAnImage.
     pub fn read(bytes: &[u8], at: usize) -> FrameRead
         ensures { λ r. ⌜ readTold r ≡ firstFrame (drop at (now (bytes .entry))) ⌝ }

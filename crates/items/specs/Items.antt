@@ -1,0 +1,34 @@
+-- The j-th element of the i-th list in what the reader answers.
+use Prim.Native.Nat.{ℕ, _-_}
+use mathlib.Core.List.{List, []}
+use mathlib.Core.Option.{Option, none, some}
+use lib.ListN.{take, getElem?}
+use Rattle.frame.specs.declared.FrameBuilder.{FrameBuilder}
+use Rattle.content.specs.ReadImage.{andThen}
+use Rattle.reader.specs.declared.Points.{Points}
+use Rattle.reader.specs.declared.Frames.{Frames}
+use Rattle.reader.specs.Reading.{parts, sequencesIn}
+use Rattle.items.specs.declared.PointAt.{PointAt}
+use Rattle.items.specs.declared.PointAt.the-variants as PointAt
+use Rattle.items.specs.declared.FrameAt.{FrameAt}
+use Rattle.items.specs.declared.FrameAt.the-variants as FrameAt
+
+-- the j-th of the i-th list, both counted from 0, if there is one
+abbrev pub element : {A : Type 0} → List (List A) → ℕ → ℕ → Option A
+element ls i j = andThen (getElem? ls i) (λ l. getElem? l j)
+
+-- the byte of a point of a snippet
+abbrev pub pointAt : Points → ℕ → ℕ → Option ℕ
+pointAt p i j = element (parts 0 (take (p .count) (p .ends)) (p .items)) i j
+
+abbrev pub pointTold : PointAt → Option ℕ
+pointTold (PointAt.Point p) = some (p .byte)
+pointTold PointAt.Absent = none
+
+-- a frame of a sequence
+abbrev pub frameAt : Frames → ℕ → ℕ → Option FrameBuilder
+frameAt f i j = element (sequencesIn f) i j
+
+abbrev pub frameTold : FrameAt → Option FrameBuilder
+frameTold (FrameAt.Frame f) = some f
+frameTold FrameAt.Absent = none

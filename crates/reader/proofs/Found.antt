@@ -1,0 +1,83 @@
+-- What the flags say of what was read.
+-- Assumes nothing.
+use mathlib.Core.Path.{_≡_, refl, sym, ap, _∙_, subst}
+use mathlib.Core.Bool.{true, false, _&&_}
+use mathlib.Core.List.{List, [], _∷_}
+use mathlib.Core.Option.{Option, none, some}
+use Prim.Native.Nat.{ℕ, _+_, _≤_, _<_}
+use native.Mathlib.Omega.{arith}
+use borrow.Author.Tests.{eq-eqb, ne-eqb, leb-true, ltb-true}
+use lib.Dec.{ltb, leb}
+use lib.ListN.{length, getD}
+use Rattle.content.specs.ReadImage.{countsFit}
+use Rattle.content.proofs.Codec.{some-inj, cond-some, both-true, then-some}
+use Rattle.reader.specs.declared.Points.{Points}
+use Rattle.reader.specs.declared.Frames.{Frames}
+use Rattle.reader.specs.declared.Reading.{Reading}
+use Rattle.reader.specs.declared.SnippetsRead.{SnippetsRead}
+use Rattle.reader.specs.declared.SequencesRead.{SequencesRead}
+use Rattle.reader.specs.Reading.{noPoints, noFrames}
+use Rattle.reader.specs.Walk.{Walked, item, walk, snippetStep, sequenceStep, walkSnippets, walkSequences, snippetsRead, sequencesRead, snippetsThen, sequencesThen, finished, afterSnippets, afterCounts, scanned, noReading}
+
+-- ---- the last index is one of the image
+
+walk-last : {S : Type 0} (step : List ℕ → S → Option S) (img es : List ℕ) (p : ℕ) (o : S) (w : Walked S) → p < length img → walk step img p es o ≡ some w → w .last < length img
+walk-last step img [] p o w h e = subst (λ (w : Walked _). w .last < length img) (some-inj e) h
+walk-last step img (x ∷ es) p o w h e =
+    let (t, e₁) = cond-some (ltb p x) _ e in
+    let (u, e₂) = cond-some (ltb x (length img)) _ e₁ in
+    let (o′, e₃, e₄) = then-some (step (item img p x) o) (λ o′. walk step img x es o′) e₂ in
+    walk-last step img es x o′ w (ltb-true x (length img) u) e₄
+
+pub snippets-last : (img es : List ℕ) (p : ℕ) (r : SnippetsRead) → p < length img → r ≡ snippetsRead (walkSnippets img p es noPoints) → r .last < length img
+snippets-last img es p r h e = subst (λ (x : SnippetsRead). x .last < length img) (sym e) (go (walkSnippets img p es noPoints) refl) where
+  go : (m : Option (Walked Points)) → walkSnippets img p es noPoints ≡ m → snippetsRead m .last < length img
+  go none k = omega arith
+  go (some w) k = walk-last snippetStep img es p noPoints w h k
+
+pub sequences-last : (img es : List ℕ) (p : ℕ) (r : SequencesRead) → p < length img → r ≡ sequencesRead (walkSequences img p es noFrames) → r .last < length img
+sequences-last img es p r h e = subst (λ (x : SequencesRead). x .last < length img) (sym e) (go (walkSequences img p es noFrames) refl) where
+  go : (m : Option (Walked Frames)) → walkSequences img p es noFrames ≡ m → sequencesRead m .last < length img
+  go none k = omega arith
+  go (some w) k = walk-last sequenceStep img es p noFrames w h k
+
+-- ---- found or not
+
+module _ (img : List ℕ) (s : Points) (r : SequencesRead) where
+  pub sequences-good : (m : Option (Walked Frames)) → r ≡ sequencesRead m → r .found ≡ true → finished img s (r .sequences) (r .last) ≡ sequencesThen img s m
+  sequences-good none e t = let z : _≡_ {A = ℕ} 0 1 = cc (ap (λ (x : SequencesRead). x .found) e) in absurd (omega arith)
+  sequences-good (some w) e t = ap (λ (x : SequencesRead). finished img s (x .sequences) (x .last)) e
+
+  pub sequences-bad : (m : Option (Walked Frames)) → r ≡ sequencesRead m → r .found ≡ false → noReading ≡ sequencesThen img s m
+  sequences-bad none e t = refl
+  sequences-bad (some w) e t = let z : _≡_ {A = ℕ} 0 1 = cc (ap (λ (x : SequencesRead). x .found) e) in absurd (omega arith)
+
+module _ (img : List ℕ) (s q : ℕ) (r : SnippetsRead) where
+  pub snippets-good : (m : Option (Walked Points)) → r ≡ snippetsRead m → r .found ≡ true → afterSnippets img (2 + s) q (r .snippets) (r .last) ≡ snippetsThen img s q m
+  snippets-good none e t = let z : _≡_ {A = ℕ} 0 1 = cc (ap (λ (x : SnippetsRead). x .found) e) in absurd (omega arith)
+  snippets-good (some w) e t = ap (λ (x : SnippetsRead). afterSnippets img (2 + s) q (x .snippets) (x .last)) e
+
+  pub snippets-bad : (m : Option (Walked Points)) → r ≡ snippetsRead m → r .found ≡ false → noReading ≡ snippetsThen img s q m
+  snippets-bad none e t = refl
+  snippets-bad (some w) e t = let z : _≡_ {A = ℕ} 0 1 = cc (ap (λ (x : SnippetsRead). x .found) e) in absurd (omega arith)
+
+-- ---- the counts
+
+pub counts-true : (s q : ℕ) → countsFit s q ≡ true → (1 ≤ s) × (s ≤ 15) × (1 ≤ q) × (q ≤ 16)
+counts-true s q t =
+    let (t₁, d) = both-true (leb 1 s && leb s 15 && leb 1 q) (leb q 16) t in
+    let (t₂, c) = both-true (leb 1 s && leb s 15) (leb 1 q) t₁ in
+    let (a, b) = both-true (leb 1 s) (leb s 15) t₂ in
+    (leb-true 1 s a, leb-true s 15 b, leb-true 1 q c, leb-true q 16 d)
+
+module _ (img : List ℕ) (r : Reading) where
+  pub scan-good : (s q : ℕ) → length img ≡ 100 → s ≡ getD img 0 0 → q ≡ getD img 1 0 → countsFit s q ≡ true → r ≡ afterCounts img s q → r ≡ scanned img
+  scan-good s q n es eq t e =
+      e ∙ (λ i. afterCounts img (es i) (eq i)) ∙ sym (simp (eq-eqb (length img) 100 n, (λ i. countsFit (sym es i) (sym eq i)) ∙ t))
+
+  pub scan-bad : (s q : ℕ) → length img ≡ 100 → s ≡ getD img 0 0 → q ≡ getD img 1 0 → countsFit s q ≡ false → r ≡ noReading → r ≡ scanned img
+  scan-bad s q n es eq t e =
+      e ∙ sym (simp (eq-eqb (length img) 100 n, (λ i. countsFit (sym es i) (sym eq i)) ∙ t))
+
+  pub scan-other : (length img ≡ 100 → ⊥) → r ≡ noReading → r ≡ scanned img
+  scan-other d e = e ∙ sym (simp (ne-eqb (length img) 100 d))

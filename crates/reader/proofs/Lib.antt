@@ -1,0 +1,7 @@
+pub mod Capacity
+pub mod Cuts
+pub mod Flats
+pub mod Found
+pub mod Loops
+pub mod Running
+pub mod Whole

@@ -1,0 +1,190 @@
+-- What the code reads is what the definition reads, and what it refuses is empty.
+-- Assumes nothing.
+use mathlib.Core.Path.{_≡_, refl, sym, ap, _∙_, subst}
+use mathlib.Core.Bool.{Bool, true, false, cond, _&&_}
+use mathlib.Core.List.{List, [], _∷_, _++_, map}
+use mathlib.Core.Option.{Option, none, some}
+use Prim.Native.Nat.{ℕ, suc, _+_, _≤_, _<_}
+use native.Mathlib.Omega.{arith}
+use borrow.Author.Tests.{eq-eqb, eqb-true, eqb-false, ne-eqb}
+use lib.Dec.{leb, eqb}
+use lib.ListN.{length, take, drop, length-take}
+use lib.Seq.{take-add, take-at, drop-at, length-take-le}
+use Rattle.errors.specs.Told.{gives}
+use Rattle.errors.specs.declared.Answer.the-variants as Answer
+use Rattle.frame.specs.declared.FrameBuilder.{FrameBuilder}
+use Rattle.content.specs.Content.{Point, Content}
+use Rattle.content.specs.ReadImage.{andThen, every, pointsIn, readSnippet, readSequence, Cut, cut, allZero, Items, countsFit, itemsFrom, readItems, contentFrom, readImage}
+use Rattle.reader.specs.declared.Points.{Points}
+use Rattle.reader.specs.declared.Frames.{Frames}
+use Rattle.reader.specs.declared.Reading.{Reading}
+use Rattle.reader.specs.Reading.{noPoints, noFrames, readingTold, imageTold, RefusedEmpty}
+use Rattle.reader.specs.Walk.{snippetStep, sequenceStep, walkSequences, noReading, sequencesThen, afterSnippets, snippetsThen, afterCounts, scanned}
+use Rattle.reader.proofs.Capacity.{Sim, flatP, flatF, rawSnippet, sim-snippets, sim-sequences}
+use Rattle.reader.proofs.Cuts.{lastOf, inTurn, afterCut, walk-cut, joinCut, cutMore, cut-append, cond-then, WasCut, was-cut}
+use Rattle.reader.proofs.Flats.{shows}
+use Rattle.reader.proofs.Found.{counts-true}
+
+-- a reading is right for what the definition reads
+abbrev pub Right : Option Content → Reading → Type 0
+Right o r = (readingTold r ≡ imageTold o) × RefusedEmpty (r .answer) r
+
+via : {o o′ : Option Content} {r r′ : Reading} → o ≡ o′ → r ≡ r′ → Right o′ r′ → Right o r
+via {o} {o′} {r} {r′} p e x = subst (λ (y : Reading). Right o y) (sym e) (subst (λ (y : Option Content). Right y r′) (sym p) x)
+
+none-right : Right none noReading
+none-right = (refl, (refl, refl))
+
+refused-right : {o : Option Content} → o ≡ none → Right o noReading
+refused-right e = subst (λ (y : Option Content). Right y noReading) (sym e) none-right
+
+-- ---- snippets
+
+-- reading points is taking the bytes
+every-raw : (items : List (List ℕ)) → every readSnippet items ≡ andThen (every rawSnippet items) (λ xs. some (map pointsIn xs))
+unfolding readSnippet
+every-raw [] = refl
+every-raw (bs ∷ items) = go (leb 1 (length bs) && leb (length bs) 16) (every readSnippet items) (every rawSnippet items) (every-raw items) where
+  go : (t : Bool) (e : Option (List (List Point))) (m : Option (List (List ℕ))) → e ≡ andThen m (λ xs. some (map pointsIn xs))
+      → andThen (cond t (some (pointsIn bs)) none) (λ y. andThen e (λ ys. some (y ∷ ys)))
+      ≡ andThen (andThen (cond t (some bs) none) (λ x. andThen m (λ xs. some (x ∷ xs)))) (λ xs. some (map pointsIn xs))
+  go false e m h = refl
+  go true e none h = ap (λ (n : Option (List (List Point))). andThen n (λ ys. some (pointsIn bs ∷ ys))) h
+  go true e (some xs) h = ap (λ (n : Option (List (List Point))). andThen n (λ ys. some (pointsIn bs ∷ ys))) h
+
+-- ---- the last step
+
+abbrev made : Option (List (List ℕ)) → Option (List (List FrameBuilder)) → Option Content
+made x y = andThen (andThen x (λ xs. some (map pointsIn xs))) (λ s. andThen y (λ q. some (record { snippets = s; sequences = q })))
+
+abbrev reads : Bool → Option Points → Option Frames → Reading
+reads zeros none n = noReading
+reads zeros (some s) none = noReading
+reads zeros (some s) (some q) = cond zeros (record { answer = Answer.Done; snippets = s; sequences = q }) noReading
+
+cond-none : (t : Bool) → Right (cond t none none) noReading
+cond-none true = none-right
+cond-none false = none-right
+
+last-step : (t : Bool) (m : Option Points) (x : Option (List (List ℕ))) → Sim 15 flatP [] m x
+    → (n : Option Frames) (y : Option (List (List FrameBuilder))) → Sim 16 flatF [] n y → Right (cond t (made x y) none) (reads t m n)
+last-step t none none k n y j = cond-none t
+last-step t none (some xs) k n y j = absurd k
+last-step t (some s) none k n y j = absurd k
+last-step t (some s) (some xs) k none none j = cond-none t
+last-step t (some s) (some xs) k none (some ys) j = absurd j
+last-step t (some s) (some xs) k (some q) none j = absurd j
+last-step false (some s) (some xs) k (some q) (some ys) j = none-right
+last-step true (some s) (some xs) k (some q) (some ys) j =
+    let a = shows 15 (flatP s) xs k in
+    let b = shows 16 (flatF q) ys j in
+    ((λ i. gives (record { snippets = map pointsIn (a i); sequences = b i })), tt)
+
+-- ---- after the snippets
+
+module _ (img : List ℕ) (s q last : ℕ) where
+  snippets-none : (m : Option Points) → walkSequences img last (take q (drop (2 + s) img)) noFrames ≡ none
+      → snippetsThen img s q (andThen m (λ o. some (record { state = o; last = last }))) ≡ noReading
+  unfolding afterSnippets
+  snippets-none none e = refl
+  snippets-none (some o) e = ap (sequencesThen img o) e
+
+  snippets-some : (m : Option Points) (n : Option Frames) (end : ℕ)
+      → walkSequences img last (take q (drop (2 + s) img)) noFrames ≡ andThen n (λ o. some (record { state = o; last = end }))
+      → snippetsThen img s q (andThen m (λ o. some (record { state = o; last = last }))) ≡ reads (allZero (drop (end + 1) img)) m n
+  unfolding afterSnippets
+  snippets-some none n end e = refl
+  snippets-some (some o) none end e = ap (sequencesThen img o) e
+  snippets-some (some o) (some f) end e = ap (sequencesThen img o) e
+
+-- the items that were cut, read
+items-read : (s : ℕ) (c d : Cut) → length (c .items) ≡ s
+    → andThen (andThen (joinCut c d) (itemsFrom s)) contentFrom ≡ cond (allZero (d .left)) (made (every rawSnippet (c .items)) (every readSequence (d .items))) none
+items-read s c d h =
+    let r : Items = record { snippets = take s (c .items ++ d .items); sequences = drop s (c .items ++ d .items) } in
+    sym (cond-then (allZero (d .left)) (some r) contentFrom)
+    ∙ rw (take-at (c .items) (d .items) s h, drop-at (c .items) (d .items) s h, every-raw (c .items))
+
+-- ---- the image
+
+module _ (s q : ℕ) (l : List ℕ) (h : length l ≡ 98) (t : countsFit s q ≡ true) where
+  abbrev img : List ℕ
+  img = s ∷ q ∷ l
+
+  abbrev first : ℕ
+  first = 1 + s + q
+
+  abbrev ends : List ℕ
+  ends = take s l
+
+  abbrev more : List ℕ
+  more = take q (drop (2 + s) img)
+
+  -- the definition, with the pointers in two runs
+  image-cut : readImage img ≡ andThen (andThen (andThen (cut first ends (drop (first + 1) img)) (cutMore (lastOf first ends) more)) (itemsFrom s)) contentFrom
+  unfolding readImage readItems
+  image-cut =
+      let k : first + 1 ≡ suc (suc (s + q)) = omega arith in
+      let j : 2 + s ≡ suc (suc s) = omega arith in
+      let d : drop (first + 1) img ≡ drop (s + q) l = ap (λ (n : ℕ). drop n img) k in
+      let g : drop (2 + s) img ≡ drop s l = ap (λ (n : ℕ). drop n img) j in
+      let e : take (s + q) l ≡ ends ++ more = take-add s q l ∙ ap (λ (z : List ℕ). take s l ++ take q z) (sym g) in
+      simp (eq-eqb (length l) 98 h, t)
+      (ap (λ (m : Option Cut). andThen (andThen m (itemsFrom s)) contentFrom) ((λ i. cut first (e i) (sym d i)) ∙ cut-append ends first more (drop (first + 1) img)))
+
+  module _ (c : Cut) (w : WasCut first ends img c) where
+    abbrev last : ℕ
+    last = lastOf first ends
+
+    after-snippets : (n : Option Cut) → cut last more (drop (last + 1) img) ≡ n
+        → Right (andThen (andThen (andThen n (joinCut c)) (itemsFrom s)) contentFrom) (snippetsThen img s q (afterCut snippetStep img last noPoints c))
+    after-snippets none e =
+        via {o = none} {o′ = none} refl (snippets-none img s q last (inTurn snippetStep (c .items) noPoints) (walk-cut sequenceStep img more last noFrames ∙ rw e)) none-right
+    after-snippets (some d) e =
+        let b = counts-true s q t in
+        let v = was-cut more last img d e in
+        let in1 : last < length img = w .within (omega arith) in
+        let in2 : lastOf last more < length img = v .within in1 in
+        let n1 : length ends ≡ s = length-take-le s l (omega arith) in
+        let n2 : length more ≤ 16 = omega (arith, length-take q (drop (2 + s) img)) in
+        let k = sim-snippets (c .items) (omega (arith, w .size)) (omega (arith, w .count)) in
+        let j = sim-sequences (d .items) (omega (arith, v .size, w .rises)) (omega (arith, v .count)) in
+        let z : allZero (d .left) ≡ allZero (drop (lastOf last more + 1) img) = ap allZero (v .left) in
+        let y : List (List ℕ) → List (List ℕ) → Option Content = λ a b. made (every rawSnippet a) (every readSequence b) in
+        via (items-read s c d (w .count ∙ n1) ∙ ap (λ (x : Bool). cond x (y (c .items) (d .items)) none) z)
+        (snippets-some img s q last (inTurn snippetStep (c .items) noPoints) (inTurn sequenceStep (d .items) noFrames) (lastOf last more) (walk-cut sequenceStep img more last noFrames ∙ rw e))
+        (last-step (allZero (drop (lastOf last more + 1) img)) (inTurn snippetStep (c .items) noPoints) (every rawSnippet (c .items)) k (inTurn sequenceStep (d .items) noFrames) (every readSequence (d .items)) j)
+
+  after-counts : (m : Option Cut) → cut first ends (drop (first + 1) img) ≡ m
+      → Right (andThen (andThen (andThen m (cutMore (lastOf first ends) more)) (itemsFrom s)) contentFrom) (snippetsThen img s q (andThen m (afterCut snippetStep img (lastOf first ends) noPoints)))
+  after-counts none e = none-right
+  after-counts (some c) e =
+      let w = was-cut ends first img c e in
+      subst (λ (x : List ℕ). Right (andThen (andThen (andThen (cut (lastOf first ends) more x) (joinCut c)) (itemsFrom s)) contentFrom) (snippetsThen img s q (afterCut snippetStep img (lastOf first ends) noPoints c))) (sym (w .left))
+      (after-snippets c w (cut (lastOf first ends) more (drop (lastOf first ends + 1) img)) refl)
+
+  counts-right : Right (readImage img) (afterCounts img s q)
+  unfolding afterCounts
+  counts-right =
+      let m : Option Cut = cut first ends (drop (first + 1) img) in
+      via image-cut (ap (snippetsThen img s q) (walk-cut snippetStep img ends first noPoints)) (after-counts m refl)
+
+-- what is refused at once
+image-none : (s q : ℕ) (l : List ℕ) (t u : Bool) → eqb (length l) 98 ≡ t → countsFit s q ≡ u → (t && u) ≡ false → readImage (s ∷ q ∷ l) ≡ none
+unfolding readImage readItems
+image-none s q l t u e f g = simp (e, f, g)
+
+pub whole : (img : List ℕ) → Right (readImage img) (scanned img)
+unfolding readImage readItems
+whole [] = none-right
+whole (s ∷ []) = none-right
+whole (s ∷ q ∷ l) = go (eqb (length (s ∷ q ∷ l)) 100) (countsFit s q) refl refl where
+  go : (t u : Bool) → eqb (length (s ∷ q ∷ l)) 100 ≡ t → countsFit s q ≡ u
+      → Right (readImage (s ∷ q ∷ l)) (cond t (cond u (afterCounts (s ∷ q ∷ l) s q) noReading) noReading)
+  go true true e f = let n = eqb-true (length (s ∷ q ∷ l)) 100 e in counts-right s q l (omega arith) f
+  go true false e f =
+      let n = eqb-true (length (s ∷ q ∷ l)) 100 e in
+      refused-right (image-none s q l true false (eq-eqb (length l) 98 (omega arith)) f refl)
+  go false u e f =
+      let d = eqb-false (length (s ∷ q ∷ l)) 100 e in
+      refused-right (image-none s q l false u (ne-eqb (length l) 98 (λ n. d (omega arith))) f refl)

@@ -1,0 +1,41 @@
+-- `scan` meets its contract.
+-- Assumes nothing.
+use borrow.Author.Needs.{needs}
+use mathlib.Core.Path.{sym, _∙_}
+use denote.Ref.{now}
+use Rattle.reader.proofs.Found.{counts-true, scan-good, scan-bad, scan-other}
+use Rattle.reader.proofs.scan.Statement.{statement}
+use Rattle.reader.proofs.scan.Tie as tie
+
+snippets-of-requires : tie.Need-snippets-of-requires
+snippets-of-requires c κs =
+    let k = counts-true _ _ (sym (c .before .counts-fit .ensures) ∙ c .if2 .taken) in (c .before .before .before .before .before .before .if1 .taken, k .1, k .3)
+
+returns : tie.Need-returns
+returns c =
+    scan-good (now (c .before .before .before .before .before .before .before .before .before .args .image)) _ _ _ (c .before .before .before .before .before .before .before .if1 .taken) (c .before .before .before .before .before .wide .ensures) (c .before .before .before .wide2 .ensures)
+    (sym (c .before .before .counts-fit .ensures) ∙ c .before .if2 .taken) (c .snippets-of .ensures)
+
+returns-2 : tie.Need-returns-2
+returns-2 c =
+    scan-bad (now (c .before .before .before .before .before .before .before .before .before .args .image)) _ _ _ (c .before .before .before .before .before .before .before .if1 .taken) (c .before .before .before .before .before .wide .ensures) (c .before .before .before .wide2 .ensures)
+    (sym (c .before .before .counts-fit .ensures) ∙ c .before .if2 .left) (c .refused .ensures)
+
+returns-3 : tie.Need-returns-3
+returns-3 c = scan-other (now (c .before .before .before .args .image)) _ (c .before .if1 .left) (c .refused2 .ensures)
+
+pub scan-spec : {M : Type 1} → statement M
+scan-spec =
+    tie.close
+    (tie.spec
+    (λ c. search needs)
+    (λ c κs. search needs)
+    (λ c. search needs)
+    (λ c κs. search needs)
+    (λ c κs. search needs)
+    snippets-of-requires
+    returns
+    (λ c κs. search needs)
+    returns-2
+    (λ c κs. search needs)
+    returns-3)

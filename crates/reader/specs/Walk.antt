@@ -1,0 +1,108 @@
+-- The reader step by step, as the code goes. proofs/Whole.antt: it is `readImage`.
+use Prim.Native.Nat.{ℕ, zero, suc, _+_, _-_}
+use mathlib.Core.Bool.{true, false, cond, _&&_}
+use mathlib.Core.List.{List, [], _∷_}
+use mathlib.Core.Option.{Option, none, some}
+use lib.Dec.{ltb, leb, eqb}
+use lib.ListN.{length, take, drop, getD}
+use Rattle.errors.specs.declared.Error.the-variants as Error
+use Rattle.errors.specs.declared.Answer.the-variants as Answer
+use Rattle.frame.specs.Read.{readFrame}
+use Rattle.content.specs.ReadImage.{andThen, allZero, countsFit}
+use Rattle.reader.specs.declared.Points.{Points}
+use Rattle.reader.specs.declared.Frames.{Frames}
+use Rattle.reader.specs.declared.Reading.{Reading}
+use Rattle.reader.specs.declared.FramesRead.{FramesRead}
+use Rattle.reader.specs.declared.SnippetsRead.{SnippetsRead}
+use Rattle.reader.specs.declared.SequencesRead.{SequencesRead}
+use Rattle.reader.specs.Reading.{noPoints, noFrames}
+use Rattle.reader.specs.Flat.{pushPoints, pushFrame, endSnippet, endSequence}
+
+-- ---- one item
+
+-- at most k frames, up to the end of the bytes
+abbrev pub runFrames : ℕ → List ℕ → Frames → Option Frames
+runFrames zero [] o = some o
+runFrames zero (b ∷ bs) o = none
+runFrames (suc k) [] o = some o
+runFrames (suc k) (b ∷ bs) o = andThen (readFrame (b ∷ bs)) (λ p. runFrames k (p .rest) (pushFrame o (p .frame)))
+
+abbrev pub framesLost : FramesRead
+framesLost = record { found = false; frames = noFrames }
+
+abbrev pub framesRead : Option Frames → FramesRead
+framesRead none = framesLost
+framesRead (some o) = record { found = true; frames = o }
+
+unfoldable pub snippetStep : List ℕ → Points → Option Points
+snippetStep bs o = cond (leb 1 (length bs) && leb (length bs) 16) (some (endSnippet (pushPoints o bs))) none
+
+unfoldable pub sequenceStep : List ℕ → Frames → Option Frames
+sequenceStep bs o = cond (leb 1 (length bs)) (andThen (runFrames 32 bs o) (λ f. some (endSequence f))) none
+
+-- ---- the items that end at the pointers
+
+pub record Walked (S : Type 0) : Type 0 where
+  pub state : S
+  pub last : ℕ
+
+-- the bytes behind index p up to index e
+abbrev pub item : List ℕ → ℕ → ℕ → List ℕ
+item img p e = take (e - p) (drop (p + 1) img)
+
+-- one item after the other, the first behind index p
+module _ {S : Type 0} (step : List ℕ → S → Option S) (img : List ℕ) where
+  abbrev pub walk : ℕ → List ℕ → S → Option (Walked S)
+  walk p [] o = some (record { state = o; last = p })
+  walk p (e ∷ es) o = cond (ltb p e) (cond (ltb e (length img)) (andThen (step (item img p e) o) (λ o′. walk e es o′)) none) none
+
+abbrev pub walkSnippets : List ℕ → ℕ → List ℕ → Points → Option (Walked Points)
+walkSnippets = walk snippetStep
+
+abbrev pub noSnippets : SnippetsRead
+noSnippets = record { found = false; snippets = noPoints; last = 0 }
+
+abbrev pub snippetsRead : Option (Walked Points) → SnippetsRead
+snippetsRead none = noSnippets
+snippetsRead (some w) = record { found = true; snippets = w .state; last = w .last }
+
+abbrev pub walkSequences : List ℕ → ℕ → List ℕ → Frames → Option (Walked Frames)
+walkSequences = walk sequenceStep
+
+abbrev pub noSequences : SequencesRead
+noSequences = record { found = false; sequences = noFrames; last = 0 }
+
+abbrev pub sequencesRead : Option (Walked Frames) → SequencesRead
+sequencesRead none = noSequences
+sequencesRead (some w) = record { found = true; sequences = w .state; last = w .last }
+
+-- ---- the image
+
+abbrev pub noReading : Reading
+noReading = record { answer = Answer.Refused Error.NotAnImage; snippets = noPoints; sequences = noFrames }
+
+-- all bytes after index last are zero
+abbrev pub finished : List ℕ → Points → Frames → ℕ → Reading
+finished img s q last = cond (allZero (drop (last + 1) img)) (record { answer = Answer.Done; snippets = s; sequences = q }) noReading
+
+abbrev pub sequencesThen : List ℕ → Points → Option (Walked Frames) → Reading
+sequencesThen img s none = noReading
+sequencesThen img s (some w) = finished img s (w .state) (w .last)
+
+-- q sequences, whose pointers stand from index at on
+unfoldable pub afterSnippets : List ℕ → ℕ → ℕ → Points → ℕ → Reading
+afterSnippets img at q s last = sequencesThen img s (walkSequences img last (take q (drop at img)) noFrames)
+
+abbrev pub snippetsThen : List ℕ → ℕ → ℕ → Option (Walked Points) → Reading
+snippetsThen img s q none = noReading
+snippetsThen img s q (some w) = afterSnippets img (2 + s) q (w .state) (w .last)
+
+-- s snippets, then q sequences
+unfoldable pub afterCounts : List ℕ → ℕ → ℕ → Reading
+afterCounts img s q = snippetsThen img s q (walkSnippets img (1 + s + q) (take s (drop 2 img)) noPoints)
+
+abbrev pub scanned : List ℕ → Reading
+scanned img =
+    cond (eqb (length img) 100)
+    (cond (countsFit (getD img 0 0) (getD img 1 0)) (afterCounts img (getD img 0 0) (getD img 1 0)) noReading)
+    noReading

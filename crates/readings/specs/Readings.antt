@@ -1,0 +1,64 @@
+-- What an image is read back to, as numbers for C.
+use Prim.Native.Nat.{ℕ, _+_, _*_, _<_}
+use mathlib.Core.List.{List}
+use mathlib.Core.Option.{Option, none, some}
+use lib.ListN.{length}
+use Rattle.frame.specs.declared.LoopCount.{LoopCount}
+use Rattle.frame.specs.declared.LoopCount.the-variants as LoopCount
+use Rattle.frame.specs.declared.Frequency.{Frequency}
+use Rattle.frame.specs.declared.Frequency.the-variants as Frequency
+use Rattle.frame.specs.declared.FrameBuilder.{FrameBuilder}
+use Rattle.frame.specs.Frame.{gainCode, timebaseCode}
+use Rattle.content.specs.Content.{Point, Content, byteOf}
+use Rattle.items.specs.Items.{element}
+
+-- 256 times the number of snippets and the number of sequences, or 0 for what is no image
+abbrev pub countsWord : Option Content → ℕ
+countsWord none = 0
+countsWord (some c) = length (c .snippets) * 256 + length (c .sequences)
+
+-- a byte, or 256 where there is none
+abbrev pub byteCode : Option ℕ → ℕ
+byteCode none = 256
+byteCode (some b) = b
+
+-- what is there is a byte
+abbrev pub Small : Option ℕ → Type 0
+Small none = Unit
+Small (some b) = b < 256
+
+-- a point's byte, or 256 where there is none
+abbrev pub pointCode : Option Point → ℕ
+pointCode none = 256
+pointCode (some p) = byteOf p
+
+abbrev pub pointIn : Option Content → ℕ → ℕ → ℕ
+pointIn none i j = 256
+pointIn (some c) i j = pointCode (element (c .snippets) i j)
+
+-- a loop count, 255 if absent; a frequency, 65535 if absent
+abbrev pub loopByte : LoopCount → ℕ
+loopByte LoopCount.Absent = 255
+loopByte (LoopCount.Given k) = k
+
+abbrev pub frequencyWord : Frequency → ℕ
+frequencyWord Frequency.Absent = 65535
+frequencyWord (Frequency.Given f) = f
+
+-- a frame's fields, eight bits each and sixteen for the frequency
+abbrev pub frameWord : FrameBuilder → ℕ
+frameWord f =
+    f .«snippet_id»
+    + gainCode (f .gain) * 256
+    + timebaseCode (f .timebase) * 65536
+    + loopByte (f .«loop_count») * 16777216
+    + frequencyWord (f .frequency) * 4294967296
+
+-- 2 ^ 48 where there is none
+abbrev pub frameCode : Option FrameBuilder → ℕ
+frameCode none = 281474976710656
+frameCode (some f) = frameWord f
+
+abbrev pub frameIn : Option Content → ℕ → ℕ → ℕ
+frameIn none i j = 281474976710656
+frameIn (some c) i j = frameCode (element (c .sequences) i j)
