@@ -28,11 +28,11 @@ inTurn step (x ∷ xs) o = andThen (step x o) (λ o′. inTurn step xs o′)
 abbrev putCut : List ℕ → Cut → Option Cut
 putCut x c = some (record { items = x ∷ c .items; left = c .left })
 
-drop-on : (img : List ℕ) (p e : ℕ) → p < e → drop (e - p) (drop (p + 1) img) ≡ drop (e + 1) img
-drop-on img p e h =
-    let k : p + 1 + (e - p) ≡ e + 1 = omega arith in drop-drop (e - p) (p + 1) img ∙ ap (λ (n : ℕ). drop n img) k
+drop-on : (image : List ℕ) (p e : ℕ) → p < e → drop (e - p) (drop (p + 1) image) ≡ drop (e + 1) image
+drop-on image p e h =
+    let k : p + 1 + (e - p) ≡ e + 1 = omega arith in drop-drop (e - p) (p + 1) image ∙ ap (λ (n : ℕ). drop n image) k
 
-module _ {S : Type 0} (step : List ℕ → S → Option S) (img : List ℕ) where
+module _ {S : Type 0} (step : List ℕ → S → Option S) (image : List ℕ) where
   abbrev pub afterCut : ℕ → S → Cut → Option (Walked S)
   afterCut last o c = andThen (inTurn step (c .items) o) (λ o′. some (record { state = o′; last = last }))
 
@@ -44,27 +44,27 @@ module _ {S : Type 0} (step : List ℕ → S → Option S) (img : List ℕ) wher
   one-more x last o f (some c) none e h = sym (rw e)
   one-more x last o f (some c) (some o′) e h = h o′ ∙ sym (rw e)
 
-  pub walk-cut : (es : List ℕ) (p : ℕ) (o : S) → walk step img p es o ≡ andThen (cut p es (drop (p + 1) img)) (afterCut (lastOf p es) o)
+  pub walk-cut : (es : List ℕ) (p : ℕ) (o : S) → walk step image p es o ≡ andThen (cut p es (drop (p + 1) image)) (afterCut (lastOf p es) o)
   walk-cut [] p o = refl
   walk-cut (e ∷ es) p o = rises (λ o′. walk-cut es e o′) (ltb p e) refl where
-    inside : ((o′ : S) → walk step img e es o′ ≡ andThen (cut e es (drop (e + 1) img)) (afterCut (lastOf e es) o′)) → p < e → (t : Bool) → ltb e (length img) ≡ t
-        → cond t (andThen (step (item img p e) o) (λ o′. walk step img e es o′)) none
-        ≡ andThen (cond (leb (e - p) (length (drop (p + 1) img))) (andThen (cut e es (drop (e - p) (drop (p + 1) img))) (putCut (item img p e))) none) (afterCut (lastOf e es) o)
+    inside : ((o′ : S) → walk step image e es o′ ≡ andThen (cut e es (drop (e + 1) image)) (afterCut (lastOf e es) o′)) → p < e → (t : Bool) → ltb e (length image) ≡ t
+        → cond t (andThen (step (item image p e) o) (λ o′. walk step image e es o′)) none
+        ≡ andThen (cond (leb (e - p) (length (drop (p + 1) image))) (andThen (cut e es (drop (e - p) (drop (p + 1) image))) (putCut (item image p e))) none) (afterCut (lastOf e es) o)
     inside ih u false k =
-        let n = length-drop (p + 1) img in
-        let v = ltb-false e (length img) k in
-        sym (rw (lt-leb (e - p) (length (drop (p + 1) img)) (omega arith)))
+        let n = length-drop (p + 1) image in
+        let v = ltb-false e (length image) k in
+        sym (rw (lt-leb (e - p) (length (drop (p + 1) image)) (omega arith)))
     inside ih u true k =
-        let n = length-drop (p + 1) img in
-        let v = ltb-true e (length img) k in
-        one-more (item img p e) (lastOf e es) o (λ o′. walk step img e es o′) (cut e es (drop (e + 1) img)) (step (item img p e) o) refl ih
-        ∙ sym (rw (le-leb (e - p) (length (drop (p + 1) img)) (omega arith), drop-on img p e u))
+        let n = length-drop (p + 1) image in
+        let v = ltb-true e (length image) k in
+        one-more (item image p e) (lastOf e es) o (λ o′. walk step image e es o′) (cut e es (drop (e + 1) image)) (step (item image p e) o) refl ih
+        ∙ sym (rw (le-leb (e - p) (length (drop (p + 1) image)) (omega arith), drop-on image p e u))
 
-    rises : ((o′ : S) → walk step img e es o′ ≡ andThen (cut e es (drop (e + 1) img)) (afterCut (lastOf e es) o′)) → (t : Bool) → ltb p e ≡ t
-        → cond t (cond (ltb e (length img)) (andThen (step (item img p e) o) (λ o′. walk step img e es o′)) none) none
-        ≡ andThen (cond (t && leb (e - p) (length (drop (p + 1) img))) (andThen (cut e es (drop (e - p) (drop (p + 1) img))) (putCut (item img p e))) none) (afterCut (lastOf e es) o)
+    rises : ((o′ : S) → walk step image e es o′ ≡ andThen (cut e es (drop (e + 1) image)) (afterCut (lastOf e es) o′)) → (t : Bool) → ltb p e ≡ t
+        → cond t (cond (ltb e (length image)) (andThen (step (item image p e) o) (λ o′. walk step image e es o′)) none) none
+        ≡ andThen (cond (t && leb (e - p) (length (drop (p + 1) image))) (andThen (cut e es (drop (e - p) (drop (p + 1) image))) (putCut (item image p e))) none) (afterCut (lastOf e es) o)
     rises ih false k = refl
-    rises ih true k = inside ih (ltb-true p e k) (ltb e (length img)) refl
+    rises ih true k = inside ih (ltb-true p e k) (ltb e (length image)) refl
 
 -- ---- two runs of pointers
 
@@ -100,28 +100,28 @@ cut-append (e ∷ es) p fs l =
 
 -- ---- what was cut
 
-pub record WasCut (p : ℕ) (es img : List ℕ) (c : Cut) : Type 0 where
-  pub left : c .left ≡ drop (lastOf p es + 1) img
+pub record WasCut (p : ℕ) (es image : List ℕ) (c : Cut) : Type 0 where
+  pub left : c .left ≡ drop (lastOf p es + 1) image
   pub count : length (c .items) ≡ length es
   pub rises : p ≤ lastOf p es
   pub size : length (joined (c .items)) + p ≤ lastOf p es
-  pub within : p < length img → lastOf p es < length img
+  pub within : p < length image → lastOf p es < length image
 
-pub was-cut : (es : List ℕ) (p : ℕ) (img : List ℕ) (c : Cut) → cut p es (drop (p + 1) img) ≡ some c → WasCut p es img c
-was-cut [] p img c h =
-    subst (λ (d : Cut). WasCut p [] img d) (some-inj h) (record { left = refl; count = refl; rises = omega arith; size = omega arith; within = λ k. k })
-was-cut (e ∷ es) p img c h =
-    let l : List ℕ = drop (p + 1) img in
+pub was-cut : (es : List ℕ) (p : ℕ) (image : List ℕ) (c : Cut) → cut p es (drop (p + 1) image) ≡ some c → WasCut p es image c
+was-cut [] p image c h =
+    subst (λ (d : Cut). WasCut p [] image d) (some-inj h) (record { left = refl; count = refl; rises = omega arith; size = omega arith; within = λ k. k })
+was-cut (e ∷ es) p image c h =
+    let l : List ℕ = drop (p + 1) image in
     let (t, h₁) = cond-some (ltb p e && leb (e - p) (length l)) _ h in
     let (t₁, t₂) = both-true (ltb p e) (leb (e - p) (length l)) t in
     let u : p < e = ltb-true p e t₁ in
     let v : e - p ≤ length l = leb-true (e - p) (length l) t₂ in
     let (d, h₂, h₃) = then-some (cut e es (drop (e - p) l)) (putCut (take (e - p) l)) h₁ in
-    let w = was-cut es e img d (ap (cut e es) (sym (drop-on img p e u)) ∙ h₂) in
+    let w = was-cut es e image d (ap (cut e es) (sym (drop-on image p e u)) ∙ h₂) in
     let n : length (take (e - p) l ++ joined (d .items)) ≡ length (take (e - p) l) + length (joined (d .items)) = length-append (take (e - p) l) (joined (d .items)) in
     let m = length-take (e - p) l in
-    let k = length-drop (p + 1) img in
-    subst (λ (x : Cut). WasCut p (e ∷ es) img x) (some-inj h₃)
+    let k = length-drop (p + 1) image in
+    subst (λ (x : Cut). WasCut p (e ∷ es) image x) (some-inj h₃)
     (record {
       left = w .left;
       count = ap suc (w .count);

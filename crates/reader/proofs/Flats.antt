@@ -27,7 +27,7 @@ module _ {A : Type 0} where
   pushAll o (b ∷ bs) = pushAll (push o b) bs
 
   abbrev pub close : ℕ → Flat A → Flat A
-  close cap o = cond (ltb (o .count) cap) (record { items = o .items; len = o .len; ends = set (o .ends) (o .count) (o .len); count = o .count + 1 }) o
+  close most o = cond (ltb (o .count) most) (record { items = o .items; len = o .len; ends = set (o .ends) (o .count) (o .len); count = o .count + 1 }) o
 
   abbrev pub total : List (List A) → List A
   total [] = []
@@ -60,8 +60,8 @@ module _ {A : Type 0} where
   abbrev pub ended : Flat A → Flat A
   ended r = record { items = r .items; len = r .len; ends = set (r .ends) (r .count) (r .len); count = r .count + 1 }
 
-  pub close-on : (cap : ℕ) (r : Flat A) → r .count < cap → close cap r ≡ ended r
-  close-on cap r h = ap (λ (t : Bool). cond t (ended r) r) (lt-ltb (r .count) cap h)
+  pub close-on : (most : ℕ) (r : Flat A) → r .count < most → close most r ≡ ended r
+  close-on most r h = ap (λ (t : Bool). cond t (ended r) r) (lt-ltb (r .count) most h)
 
   -- what is pushed
   pub record Pushed (o r : Flat A) (l : List A) : Type 0 where
@@ -78,7 +78,8 @@ module _ {A : Type 0} where
       let e : push o b ≡ o′ = ap (λ (t : Bool). cond t o′ o) (lt-ltb (o .len) 96 (omega arith)) in
       let h′ : length (o′ .items) ≡ 96 = length-set (o .items) (o .len) b ∙ h in
       let p = pushed bs o′ h′ (omega arith) in
-      let t : take (o .len + 1) (set (o .items) (o .len) b) ≡ take (o .len) (o .items) ++ b ∷ [] = ap (λ (n : ℕ). take n (set (o .items) (o .len) b)) (add-one (o .len)) ∙ take-suc-set (o .items) (o .len) b (omega arith) in
+      let t : take (o .len + 1) (set (o .items) (o .len) b) ≡ take (o .len) (o .items) ++ b ∷ [] =
+      ap (λ (n : ℕ). take n (set (o .items) (o .len) b)) (add-one (o .len)) ∙ take-suc-set (o .items) (o .len) b (omega arith) in
       subst (λ (r : Flat A). Pushed o (pushAll r bs) (b ∷ bs)) (sym e)
       (record {
         size = p .size;
@@ -88,21 +89,21 @@ module _ {A : Type 0} where
         count = p .count;
       })
 
-  pub record Holds (cap : ℕ) (o : Flat A) (xs : List (List A)) : Type 0 where
+  pub record Holds (most : ℕ) (o : Flat A) (xs : List (List A)) : Type 0 where
     pub size : length (o .items) ≡ 96
-    pub room : length (o .ends) ≡ cap
+    pub room : length (o .ends) ≡ most
     pub took : take (o .len) (o .items) ≡ total xs
     pub long : o .len ≡ length (total xs)
     pub count : o .count ≡ length xs
     pub at : take (o .count) (o .ends) ≡ marks 0 xs
 
-  closed : (cap : ℕ) (o r : Flat A) (xs : List (List A)) (x : List A) → Holds cap o xs → Pushed o r x → o .count < cap
-      → Holds cap (record { items = r .items; len = r .len; ends = set (r .ends) (r .count) (r .len); count = r .count + 1 }) (xs ++ x ∷ [])
-  closed cap o r xs x h p g =
+  closed : (most : ℕ) (o r : Flat A) (xs : List (List A)) (x : List A) → Holds most o xs → Pushed o r x → o .count < most
+      → Holds most (record { items = r .items; len = r .len; ends = set (r .ends) (r .count) (r .len); count = r .count + 1 }) (xs ++ x ∷ [])
+  closed most o r xs x h p g =
       let k : length (total (xs ++ x ∷ [])) ≡ length (total xs) + length x = ap length (total-snoc xs x) ∙ length-append (total xs) x in
       let n : length (xs ++ x ∷ []) ≡ length xs + 1 = length-append xs (x ∷ []) in
       let m : r .len ≡ 0 + length (total xs) + length x = p .long ∙ omega (arith, h .long) in
-      let ro : length (r .ends) ≡ cap = ap length (p .ends) ∙ h .room in
+      let ro : length (r .ends) ≡ most = ap length (p .ends) ∙ h .room in
       record {
         size = p .size;
         room = length-set (r .ends) (r .count) (r .len) ∙ ro;
@@ -117,16 +118,16 @@ module _ {A : Type 0} where
       }
 
   -- one more list
-  pub add-list : (cap : ℕ) (o : Flat A) (xs : List (List A)) (x : List A) → Holds cap o xs → o .len + length x ≤ 96 → o .count < cap
-      → Holds cap (close cap (pushAll o x)) (xs ++ x ∷ [])
-  add-list cap o xs x h f g =
+  pub add-list : (most : ℕ) (o : Flat A) (xs : List (List A)) (x : List A) → Holds most o xs → o .len + length x ≤ 96 → o .count < most
+      → Holds most (close most (pushAll o x)) (xs ++ x ∷ [])
+  add-list most o xs x h f g =
       let p = pushed x o (h .size) f in
       let r : Flat A = pushAll o x in
-      subst (λ (t : Bool). Holds cap (cond t (record { items = r .items; len = r .len; ends = set (r .ends) (r .count) (r .len); count = r .count + 1 }) r) (xs ++ x ∷ []))
-      (sym (lt-ltb (r .count) cap (omega (arith, p .count)))) (closed cap o r xs x h p g)
+      subst (λ (t : Bool). Holds most (cond t (record { items = r .items; len = r .len; ends = set (r .ends) (r .count) (r .len); count = r .count + 1 }) r) (xs ++ x ∷ []))
+      (sym (lt-ltb (r .count) most (omega (arith, p .count)))) (closed most o r xs x h p g)
 
-  pub shows : (cap : ℕ) (o : Flat A) (xs : List (List A)) → Holds cap o xs → parts 0 (take (o .count) (o .ends)) (o .items) ≡ xs
-  shows cap o xs h =
+  pub shows : (most : ℕ) (o : Flat A) (xs : List (List A)) → Holds most o xs → parts 0 (take (o .count) (o .ends)) (o .items) ≡ xs
+  shows most o xs h =
       (λ i. parts 0 (h .at i) (sym (take-append-drop (o .len) (o .items)) i))
       ∙ ap (λ (z : List A). parts 0 (marks 0 xs) (z ++ drop (o .len) (o .items))) (h .took)
       ∙ parts-marks xs [] 0 (drop (o .len) (o .items)) refl

@@ -20,7 +20,7 @@ use Rattle.reader.specs.declared.Frames.{Frames}
 use Rattle.reader.specs.declared.Reading.{Reading}
 use Rattle.reader.specs.Reading.{noPoints, noFrames, readingTold, imageTold, RefusedEmpty}
 use Rattle.reader.specs.Walk.{snippetStep, sequenceStep, walkSequences, noReading, sequencesThen, afterSnippets, snippetsThen, afterCounts, scanned}
-use Rattle.reader.proofs.Capacity.{Sim, flatP, flatF, rawSnippet, sim-snippets, sim-sequences}
+use Rattle.reader.proofs.Capacity.{Tracks, flatPoints, flatFrames, rawSnippet, tracks-snippets, tracks-sequences}
 use Rattle.reader.proofs.Cuts.{lastOf, inTurn, afterCut, walk-cut, joinCut, cutMore, cut-append, cond-then, WasCut, was-cut}
 use Rattle.reader.proofs.Flats.{shows}
 use Rattle.reader.proofs.Found.{counts-true}
@@ -66,8 +66,8 @@ cond-none : (t : Bool) → Right (cond t none none) noReading
 cond-none true = none-right
 cond-none false = none-right
 
-last-step : (t : Bool) (m : Option Points) (x : Option (List (List ℕ))) → Sim 15 flatP [] m x
-    → (n : Option Frames) (y : Option (List (List FrameBuilder))) → Sim 16 flatF [] n y → Right (cond t (made x y) none) (reads t m n)
+last-step : (t : Bool) (m : Option Points) (x : Option (List (List ℕ))) → Tracks 15 flatPoints [] m x
+    → (n : Option Frames) (y : Option (List (List FrameBuilder))) → Tracks 16 flatFrames [] n y → Right (cond t (made x y) none) (reads t m n)
 last-step t none none k n y j = cond-none t
 last-step t none (some xs) k n y j = absurd k
 last-step t (some s) none k n y j = absurd k
@@ -76,26 +76,26 @@ last-step t (some s) (some xs) k none (some ys) j = absurd j
 last-step t (some s) (some xs) k (some q) none j = absurd j
 last-step false (some s) (some xs) k (some q) (some ys) j = none-right
 last-step true (some s) (some xs) k (some q) (some ys) j =
-    let a = shows 15 (flatP s) xs k in
-    let b = shows 16 (flatF q) ys j in
+    let a = shows 15 (flatPoints s) xs k in
+    let b = shows 16 (flatFrames q) ys j in
     ((λ i. gives (record { snippets = map pointsIn (a i); sequences = b i })), tt)
 
 -- ---- after the snippets
 
-module _ (img : List ℕ) (s q last : ℕ) where
-  snippets-none : (m : Option Points) → walkSequences img last (take q (drop (2 + s) img)) noFrames ≡ none
-      → snippetsThen img s q (andThen m (λ o. some (record { state = o; last = last }))) ≡ noReading
+module _ (image : List ℕ) (s q last : ℕ) where
+  snippets-none : (m : Option Points) → walkSequences image last (take q (drop (2 + s) image)) noFrames ≡ none
+      → snippetsThen image s q (andThen m (λ o. some (record { state = o; last = last }))) ≡ noReading
   unfolding afterSnippets
   snippets-none none e = refl
-  snippets-none (some o) e = ap (sequencesThen img o) e
+  snippets-none (some o) e = ap (sequencesThen image o) e
 
   snippets-some : (m : Option Points) (n : Option Frames) (end : ℕ)
-      → walkSequences img last (take q (drop (2 + s) img)) noFrames ≡ andThen n (λ o. some (record { state = o; last = end }))
-      → snippetsThen img s q (andThen m (λ o. some (record { state = o; last = last }))) ≡ reads (allZero (drop (end + 1) img)) m n
+      → walkSequences image last (take q (drop (2 + s) image)) noFrames ≡ andThen n (λ o. some (record { state = o; last = end }))
+      → snippetsThen image s q (andThen m (λ o. some (record { state = o; last = last }))) ≡ reads (allZero (drop (end + 1) image)) m n
   unfolding afterSnippets
   snippets-some none n end e = refl
-  snippets-some (some o) none end e = ap (sequencesThen img o) e
-  snippets-some (some o) (some f) end e = ap (sequencesThen img o) e
+  snippets-some (some o) none end e = ap (sequencesThen image o) e
+  snippets-some (some o) (some f) end e = ap (sequencesThen image o) e
 
 -- the items that were cut, read
 items-read : (s : ℕ) (c d : Cut) → length (c .items) ≡ s
@@ -108,8 +108,8 @@ items-read s c d h =
 -- ---- the image
 
 module _ (s q : ℕ) (l : List ℕ) (h : length l ≡ 98) (t : countsFit s q ≡ true) where
-  abbrev img : List ℕ
-  img = s ∷ q ∷ l
+  abbrev image : List ℕ
+  image = s ∷ q ∷ l
 
   abbrev first : ℕ
   first = 1 + s + q
@@ -118,63 +118,64 @@ module _ (s q : ℕ) (l : List ℕ) (h : length l ≡ 98) (t : countsFit s q ≡
   ends = take s l
 
   abbrev more : List ℕ
-  more = take q (drop (2 + s) img)
+  more = take q (drop (2 + s) image)
 
   -- the definition, with the pointers in two runs
-  image-cut : readImage img ≡ andThen (andThen (andThen (cut first ends (drop (first + 1) img)) (cutMore (lastOf first ends) more)) (itemsFrom s)) contentFrom
+  image-cut : readImage image ≡ andThen (andThen (andThen (cut first ends (drop (first + 1) image)) (cutMore (lastOf first ends) more)) (itemsFrom s)) contentFrom
   unfolding readImage readItems
   image-cut =
       let k : first + 1 ≡ suc (suc (s + q)) = omega arith in
       let j : 2 + s ≡ suc (suc s) = omega arith in
-      let d : drop (first + 1) img ≡ drop (s + q) l = ap (λ (n : ℕ). drop n img) k in
-      let g : drop (2 + s) img ≡ drop s l = ap (λ (n : ℕ). drop n img) j in
+      let d : drop (first + 1) image ≡ drop (s + q) l = ap (λ (n : ℕ). drop n image) k in
+      let g : drop (2 + s) image ≡ drop s l = ap (λ (n : ℕ). drop n image) j in
       let e : take (s + q) l ≡ ends ++ more = take-add s q l ∙ ap (λ (z : List ℕ). take s l ++ take q z) (sym g) in
       simp (eq-eqb (length l) 98 h, t)
-      (ap (λ (m : Option Cut). andThen (andThen m (itemsFrom s)) contentFrom) ((λ i. cut first (e i) (sym d i)) ∙ cut-append ends first more (drop (first + 1) img)))
+      (ap (λ (m : Option Cut). andThen (andThen m (itemsFrom s)) contentFrom) ((λ i. cut first (e i) (sym d i)) ∙ cut-append ends first more (drop (first + 1) image)))
 
-  module _ (c : Cut) (w : WasCut first ends img c) where
+  module _ (c : Cut) (w : WasCut first ends image c) where
     abbrev last : ℕ
     last = lastOf first ends
 
-    after-snippets : (n : Option Cut) → cut last more (drop (last + 1) img) ≡ n
-        → Right (andThen (andThen (andThen n (joinCut c)) (itemsFrom s)) contentFrom) (snippetsThen img s q (afterCut snippetStep img last noPoints c))
+    after-snippets : (n : Option Cut) → cut last more (drop (last + 1) image) ≡ n
+        → Right (andThen (andThen (andThen n (joinCut c)) (itemsFrom s)) contentFrom) (snippetsThen image s q (afterCut snippetStep image last noPoints c))
     after-snippets none e =
-        via {o = none} {o′ = none} refl (snippets-none img s q last (inTurn snippetStep (c .items) noPoints) (walk-cut sequenceStep img more last noFrames ∙ rw e)) none-right
+        via {o = none} {o′ = none} refl (snippets-none image s q last (inTurn snippetStep (c .items) noPoints) (walk-cut sequenceStep image more last noFrames ∙ rw e)) none-right
     after-snippets (some d) e =
         let b = counts-true s q t in
-        let v = was-cut more last img d e in
-        let in1 : last < length img = w .within (omega arith) in
-        let in2 : lastOf last more < length img = v .within in1 in
+        let v = was-cut more last image d e in
+        let within1 : last < length image = w .within (omega arith) in
+        let within2 : lastOf last more < length image = v .within within1 in
         let n1 : length ends ≡ s = length-take-le s l (omega arith) in
-        let n2 : length more ≤ 16 = omega (arith, length-take q (drop (2 + s) img)) in
-        let k = sim-snippets (c .items) (omega (arith, w .size)) (omega (arith, w .count)) in
-        let j = sim-sequences (d .items) (omega (arith, v .size, w .rises)) (omega (arith, v .count)) in
-        let z : allZero (d .left) ≡ allZero (drop (lastOf last more + 1) img) = ap allZero (v .left) in
+        let n2 : length more ≤ 16 = omega (arith, length-take q (drop (2 + s) image)) in
+        let k = tracks-snippets (c .items) (omega (arith, w .size)) (omega (arith, w .count)) in
+        let j = tracks-sequences (d .items) (omega (arith, v .size, w .rises)) (omega (arith, v .count)) in
+        let z : allZero (d .left) ≡ allZero (drop (lastOf last more + 1) image) = ap allZero (v .left) in
         let y : List (List ℕ) → List (List ℕ) → Option Content = λ a b. made (every rawSnippet a) (every readSequence b) in
         via (items-read s c d (w .count ∙ n1) ∙ ap (λ (x : Bool). cond x (y (c .items) (d .items)) none) z)
-        (snippets-some img s q last (inTurn snippetStep (c .items) noPoints) (inTurn sequenceStep (d .items) noFrames) (lastOf last more) (walk-cut sequenceStep img more last noFrames ∙ rw e))
-        (last-step (allZero (drop (lastOf last more + 1) img)) (inTurn snippetStep (c .items) noPoints) (every rawSnippet (c .items)) k (inTurn sequenceStep (d .items) noFrames) (every readSequence (d .items)) j)
+        (snippets-some image s q last (inTurn snippetStep (c .items) noPoints) (inTurn sequenceStep (d .items) noFrames) (lastOf last more) (walk-cut sequenceStep image more last noFrames ∙ rw e))
+        (last-step (allZero (drop (lastOf last more + 1) image)) (inTurn snippetStep (c .items) noPoints) (every rawSnippet (c .items)) k (inTurn sequenceStep (d .items) noFrames) (every readSequence (d .items)) j)
 
-  after-counts : (m : Option Cut) → cut first ends (drop (first + 1) img) ≡ m
-      → Right (andThen (andThen (andThen m (cutMore (lastOf first ends) more)) (itemsFrom s)) contentFrom) (snippetsThen img s q (andThen m (afterCut snippetStep img (lastOf first ends) noPoints)))
+  after-counts : (m : Option Cut) → cut first ends (drop (first + 1) image) ≡ m
+      → Right (andThen (andThen (andThen m (cutMore (lastOf first ends) more)) (itemsFrom s)) contentFrom) (snippetsThen image s q (andThen m (afterCut snippetStep image (lastOf first ends) noPoints)))
   after-counts none e = none-right
   after-counts (some c) e =
-      let w = was-cut ends first img c e in
-      subst (λ (x : List ℕ). Right (andThen (andThen (andThen (cut (lastOf first ends) more x) (joinCut c)) (itemsFrom s)) contentFrom) (snippetsThen img s q (afterCut snippetStep img (lastOf first ends) noPoints c))) (sym (w .left))
-      (after-snippets c w (cut (lastOf first ends) more (drop (lastOf first ends + 1) img)) refl)
+      let w = was-cut ends first image c e in
+      let r : Reading = snippetsThen image s q (afterCut snippetStep image (lastOf first ends) noPoints c) in
+      subst (λ (x : List ℕ). Right (andThen (andThen (andThen (cut (lastOf first ends) more x) (joinCut c)) (itemsFrom s)) contentFrom) r) (sym (w .left))
+      (after-snippets c w (cut (lastOf first ends) more (drop (lastOf first ends + 1) image)) refl)
 
-  counts-right : Right (readImage img) (afterCounts img s q)
+  counts-right : Right (readImage image) (afterCounts image s q)
   unfolding afterCounts
   counts-right =
-      let m : Option Cut = cut first ends (drop (first + 1) img) in
-      via image-cut (ap (snippetsThen img s q) (walk-cut snippetStep img ends first noPoints)) (after-counts m refl)
+      let m : Option Cut = cut first ends (drop (first + 1) image) in
+      via image-cut (ap (snippetsThen image s q) (walk-cut snippetStep image ends first noPoints)) (after-counts m refl)
 
 -- what is refused at once
 image-none : (s q : ℕ) (l : List ℕ) (t u : Bool) → eqb (length l) 98 ≡ t → countsFit s q ≡ u → (t && u) ≡ false → readImage (s ∷ q ∷ l) ≡ none
 unfolding readImage readItems
 image-none s q l t u e f g = simp (e, f, g)
 
-pub whole : (img : List ℕ) → Right (readImage img) (scanned img)
+pub whole : (image : List ℕ) → Right (readImage image) (scanned image)
 unfolding readImage readItems
 whole [] = none-right
 whole (s ∷ []) = none-right

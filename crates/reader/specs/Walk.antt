@@ -48,13 +48,13 @@ pub record Walked (S : Type 0) : Type 0 where
 
 -- the bytes behind index p up to index e
 abbrev pub item : List ℕ → ℕ → ℕ → List ℕ
-item img p e = take (e - p) (drop (p + 1) img)
+item image p e = take (e - p) (drop (p + 1) image)
 
 -- one item after the other, the first behind index p
-module _ {S : Type 0} (step : List ℕ → S → Option S) (img : List ℕ) where
+module _ {S : Type 0} (step : List ℕ → S → Option S) (image : List ℕ) where
   abbrev pub walk : ℕ → List ℕ → S → Option (Walked S)
   walk p [] o = some (record { state = o; last = p })
-  walk p (e ∷ es) o = cond (ltb p e) (cond (ltb e (length img)) (andThen (step (item img p e) o) (λ o′. walk e es o′)) none) none
+  walk p (e ∷ es) o = cond (ltb p e) (cond (ltb e (length image)) (andThen (step (item image p e) o) (λ o′. walk e es o′)) none) none
 
 abbrev pub walkSnippets : List ℕ → ℕ → List ℕ → Points → Option (Walked Points)
 walkSnippets = walk snippetStep
@@ -83,26 +83,26 @@ noReading = record { answer = Answer.Refused Error.NotAnImage; snippets = noPoin
 
 -- all bytes after index last are zero
 abbrev pub finished : List ℕ → Points → Frames → ℕ → Reading
-finished img s q last = cond (allZero (drop (last + 1) img)) (record { answer = Answer.Done; snippets = s; sequences = q }) noReading
+finished image s q last = cond (allZero (drop (last + 1) image)) (record { answer = Answer.Done; snippets = s; sequences = q }) noReading
 
 abbrev pub sequencesThen : List ℕ → Points → Option (Walked Frames) → Reading
-sequencesThen img s none = noReading
-sequencesThen img s (some w) = finished img s (w .state) (w .last)
+sequencesThen image s none = noReading
+sequencesThen image s (some w) = finished image s (w .state) (w .last)
 
 -- q sequences, whose pointers stand from index at on
 unfoldable pub afterSnippets : List ℕ → ℕ → ℕ → Points → ℕ → Reading
-afterSnippets img at q s last = sequencesThen img s (walkSequences img last (take q (drop at img)) noFrames)
+afterSnippets image at q s last = sequencesThen image s (walkSequences image last (take q (drop at image)) noFrames)
 
 abbrev pub snippetsThen : List ℕ → ℕ → ℕ → Option (Walked Points) → Reading
-snippetsThen img s q none = noReading
-snippetsThen img s q (some w) = afterSnippets img (2 + s) q (w .state) (w .last)
+snippetsThen image s q none = noReading
+snippetsThen image s q (some w) = afterSnippets image (2 + s) q (w .state) (w .last)
 
 -- s snippets, then q sequences
 unfoldable pub afterCounts : List ℕ → ℕ → ℕ → Reading
-afterCounts img s q = snippetsThen img s q (walkSnippets img (1 + s + q) (take s (drop 2 img)) noPoints)
+afterCounts image s q = snippetsThen image s q (walkSnippets image (1 + s + q) (take s (drop 2 image)) noPoints)
 
 abbrev pub scanned : List ℕ → Reading
-scanned img =
-    cond (eqb (length img) 100)
-    (cond (countsFit (getD img 0 0) (getD img 1 0)) (afterCounts img (getD img 0 0) (getD img 1 0)) noReading)
+scanned image =
+    cond (eqb (length image) 100)
+    (cond (countsFit (getD image 0 0) (getD image 1 0)) (afterCounts image (getD image 0 0) (getD image 1 0)) noReading)
     noReading

@@ -11,8 +11,8 @@ use Rattle.reader.proofs.read.Tie as tie
 
 returns : tie.Need-returns
 returns c =
-    let img = now (c .before .before .args .image) in
-    subst (λ (r : Reading). Right (readImage img) r) (sym (c .scan .ensures)) (whole img)
+    let image = now (c .before .before .args .image) in
+    subst (λ (r : Reading). Right (readImage image) r) (sym (c .scan .ensures)) (whole image)
 
 pub read-spec : {M : Type 1} → statement M
 read-spec =

@@ -13,12 +13,16 @@ snippets-of-requires c κs =
 
 returns : tie.Need-returns
 returns c =
-    scan-good (now (c .before .before .before .before .before .before .before .before .before .args .image)) _ _ _ (c .before .before .before .before .before .before .before .if1 .taken) (c .before .before .before .before .before .wide .ensures) (c .before .before .before .wide2 .ensures)
+    let w = c .before .before .before in
+    let v = w .before .before in
+    scan-good (now (v .before .before .before .before .args .image)) _ _ _ (v .before .before .if1 .taken) (v .wide .ensures) (w .wide2 .ensures)
     (sym (c .before .before .counts-fit .ensures) ∙ c .before .if2 .taken) (c .snippets-of .ensures)
 
 returns-2 : tie.Need-returns-2
 returns-2 c =
-    scan-bad (now (c .before .before .before .before .before .before .before .before .before .args .image)) _ _ _ (c .before .before .before .before .before .before .before .if1 .taken) (c .before .before .before .before .before .wide .ensures) (c .before .before .before .wide2 .ensures)
+    let w = c .before .before .before in
+    let v = w .before .before in
+    scan-bad (now (v .before .before .before .before .args .image)) _ _ _ (v .before .before .if1 .taken) (v .wide .ensures) (w .wide2 .ensures)
     (sym (c .before .before .counts-fit .ensures) ∙ c .before .if2 .left) (c .refused .ensures)
 
 returns-3 : tie.Need-returns-3
