@@ -1,4 +1,5 @@
-//! The text of the published `registers.rs` against the tables that the proofs are about.
+//! The text of the published `registers.rs` and `config.rs` against the tables that the proofs are about, and against the
+//! names in the code: a proof speaks of a constant's or a method's value, not of its name.
 //!
 //! The text is read here line by line, apart from the macro that the oracle is built with.
 
@@ -12,6 +13,14 @@ const TABLES: [&str; 4] = [
     "crates/registers_actuator/specs/Table.antt",
     "crates/registers_control/specs/Table.antt",
     "crates/registers_trigger/specs/Table.antt",
+];
+
+/// The code of the register types, in the order of [`TABLES`].
+const METHODS: [&str; 4] = [
+    "crates/registers_interrupts/src/lib.rt",
+    "crates/registers_actuator/src/lib.rt",
+    "crates/registers_control/src/lib.rt",
+    "crates/registers_trigger/src/lib.rt",
 ];
 
 const PADDING: &str = "__";
@@ -167,6 +176,100 @@ fn addresses_are_the_published_ones() {
     let wanted: Vec<u8> = published.iter().map(|(_, address)| *address).collect();
     assert_eq!(listed, wanted);
     compared("addresses", listed.len(), 42);
+}
+
+/// Each constant of `Register` has the address that the published text gives its name, and `all` goes through them in order.
+#[test]
+fn constants_are_the_published_addresses() {
+    let text = text("crates/registers/src/lib.rt");
+    let mut constants = Vec::new();
+    let mut order = Vec::new();
+    for line in text.lines().map(str::trim) {
+        if let Some(rest) = line.strip_prefix("pub const ") {
+            let (name, value) = rest.split_once(": Register = Register(0x").unwrap();
+            let value = u8::from_str_radix(value.strip_suffix(");").unwrap(), 16).unwrap();
+            constants.push((name.to_string(), value));
+        } else if let Some(rest) = line.strip_prefix("Register::") {
+            order.push(rest.strip_suffix(".0,").unwrap().to_string());
+        }
+    }
+    let published = published_addresses();
+    assert_eq!(constants, published);
+    let names: Vec<_> = published.into_iter().map(|(name, _)| name).collect();
+    assert_eq!(order, names);
+    compared("constants of Register", constants.len(), 42);
+}
+
+/// Each method of a register type is named after the field, and stands in the type, that its contract speaks of.
+#[test]
+fn methods_cite_their_own_fields() {
+    let mut wanted = Vec::new();
+    for (name, fields) in published_types() {
+        for field in fields.into_iter().filter(|field| field.name != PADDING) {
+            wanted.push((name.clone(), field.name.clone()));
+            if !field.read_only {
+                wanted.push((name.clone(), format!("with_{}", field.name)));
+            }
+        }
+    }
+
+    let mut methods = Vec::new();
+    for path in METHODS {
+        let (mut of, mut method) = (String::new(), String::new());
+        for line in text(path).lines().map(str::trim) {
+            if let Some(rest) = line.strip_prefix("impl ") {
+                of = rest.trim_end_matches([' ', '{']).to_string();
+            } else if let Some(rest) = line.strip_prefix("pub fn ") {
+                method = rest.split('(').next().unwrap().to_string();
+            }
+            let Some(at) =
+                ["getAt ", "isAt ", "withAt "].iter().find(|it| line.contains(&format!("≡ {it}")))
+            else {
+                continue;
+            };
+            let cited: Vec<_> =
+                line.split(*at).nth(1).unwrap().split_whitespace().take(2).collect();
+            assert_eq!(cited[0], of.to_lowercase().replace('_', "-"), "{of}::{method}");
+            assert_eq!(
+                cited[1].trim_matches('"'),
+                method.trim_start_matches("with_"),
+                "{of}::{method}"
+            );
+            assert_eq!(*at == "withAt ", method.starts_with("with_"), "{of}::{method}");
+            methods.push((of.clone(), method.clone()));
+        }
+    }
+    assert_eq!(methods, wanted);
+    compared("methods of fields", methods.len(), 175);
+}
+
+/// The codes of the settings' choices are those of the published enums.
+#[test]
+fn codes_are_the_published_ones() {
+    let mut wanted = Vec::new();
+    let published = text("rust/oracle/src/config.rs");
+    for part in published.split("pub enum ").skip(1) {
+        let body = part.split_once('{').unwrap().1.split_once('}').unwrap().0;
+        let lines =
+            body.lines().map(str::trim).filter(|line| !line.is_empty() && !line.starts_with("//"));
+        for (place, line) in lines.enumerate() {
+            let line = line.trim_end_matches(',');
+            let (name, code) = line
+                .split_once(" = ")
+                .map_or((line, place as u8), |(name, code)| (name, code.parse().unwrap()));
+            wanted.push((name.to_string(), code));
+        }
+    }
+    let mut listed = Vec::new();
+    for line in text("crates/config/specs/Codes.antt").lines() {
+        let words: Vec<_> = line.split_whitespace().collect();
+        if let [of, name, "=", code] = words[..] {
+            assert!(of.ends_with("Code"), "{line}");
+            listed.push((name.trim_matches(['«', '»']).to_string(), code.parse::<u8>().unwrap()));
+        }
+    }
+    assert_eq!(listed, wanted);
+    compared("codes of settings", listed.len(), 15);
 }
 
 /// The macro gave every type the fields of the text, and the comparison leaves none out.
