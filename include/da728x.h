@@ -53,6 +53,10 @@ uint8_t da728x_point_amplitude(uint8_t byte);
 #define DA728X_CALL_FREQUENCY_HZ 10 /* FrameBuilder::frequency_hz(a + 256 * b) */
 #define DA728X_CALL_SEQUENCE_NEW 11 /* SequenceBuilder::new() */
 #define DA728X_CALL_ADD_FRAME 12    /* SequenceBuilder::add_frame(the frame built) */
+/* In da728x_assemble only, each adding what is built to the memory under
+ * construction and leaving the snippet and the sequence as they are: */
+#define DA728X_CALL_ADD_SNIPPET 13  /* WaveformMemoryBuilder::add_snippet(the snippet built) */
+#define DA728X_CALL_ADD_SEQUENCE 14 /* WaveformMemoryBuilder::add_sequence(the sequence built) */
 /* Any other code is no call: it changes nothing and its answer is 0. */
 
 /* Runs the calls, builds the snippet, the frame or the sequence, and encodes it
@@ -73,6 +77,35 @@ uint32_t da728x_sequence(const uint8_t *calls, size_t calls_len,
 /* Runs the calls; SequenceBuilder::current_len of the sequence. */
 size_t da728x_current_len(const uint8_t *calls, size_t calls_len,
                           uint8_t *answers, size_t answers_len);
+
+/* ---- images ----------------------------------------------------------- */
+
+/* Runs the calls, also on a memory under construction that begins as
+ * WaveformMemoryBuilder::new(false), and builds the image. 0, and its hundred
+ * bytes are copied into the front of image, as many as fit; the other bytes of
+ * image stay. Or the number of build's refusal (9, 10, 8), and then image stays
+ * as it was. */
+uint8_t da728x_assemble(const uint8_t *calls, size_t calls_len,
+                        uint8_t *answers, size_t answers_len,
+                        uint8_t *image, size_t image_len);
+
+/* The rest reads an image: a hundred bytes that the builders can make. Snippets,
+ * points, sequences and frames count from 0.
+ *
+ * 256 times the number of snippets plus the number of sequences; 0 if the bytes
+ * are no image, which has at least one of each. */
+uint16_t da728x_read_counts(const uint8_t *image, size_t image_len);
+
+/* The byte of a point; 256 if there is none, also if the bytes are no image. */
+uint16_t da728x_read_point(const uint8_t *image, size_t image_len,
+                           size_t snippet, size_t point);
+
+/* The fields of a frame: the snippet number in bits 0..7, the gain code in 8..15,
+ * the timebase code in 16..23, the loop count in 24..31 (255 if absent) and the
+ * frequency in 32..47 (65535 if absent); 2^48 if there is none, also if the bytes
+ * are no image. The loop count is absent in a frame of one byte only. */
+uint64_t da728x_read_frame(const uint8_t *image, size_t image_len,
+                           size_t sequence, size_t frame);
 
 /* ---- registers -------------------------------------------------------- */
 

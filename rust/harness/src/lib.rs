@@ -1,7 +1,10 @@
 //! What the comparisons of the proved library with the published Rust share.
 
+pub mod generate;
+pub mod images;
 pub mod lists;
 pub mod oracle;
+pub mod patterns;
 pub mod random;
 pub mod registers;
 

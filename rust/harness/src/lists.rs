@@ -32,16 +32,22 @@ pub fn library(calls: &[u8], room: usize) -> [Left; 4] {
     ]
 }
 
-/// What the published Rust leaves for the same; `None` is a record that is no call.
+/// What the published Rust leaves for the same; `None` is a record that is no call, and neither is
+/// one that adds to a memory.
 pub fn published(calls: &[Option<Call>], room: usize) -> [Left; 4] {
     let mut builders = Builders::default();
-    let answered: Vec<u8> =
-        calls.iter().map(|call| call.map_or(0, |call| builders.call(call))).collect();
+    let answered: Vec<u8> = calls
+        .iter()
+        .map(|call| match call {
+            None | Some(Call::AddSnippet | Call::AddSequence) => 0,
+            Some(call) => builders.call(*call),
+        })
+        .collect();
     let store = |answers: &mut [u8]| {
         let fitting = answered.len().min(answers.len());
         answers[..fitting].copy_from_slice(&answered[..fitting]);
     };
-    let Builders { snippet, frame, sequence } = builders;
+    let Builders { snippet, frame, sequence, .. } = builders;
     let number = |error| number(&error);
     [
         left(room, |answers, out| {

@@ -1,6 +1,7 @@
 //! The published Rust, run call by call.
 
 use da728x::errors::Error;
+use da728x::waveform::WaveformMemoryBuilder;
 use da728x::waveform::{self, FrameBuilder, PwlPoint, SequenceBuilder, SnippetBuilder};
 use yambelugo::{Call, Gain, Timebase};
 
@@ -36,12 +37,13 @@ pub fn point(byte: u8) -> PwlPoint {
     point
 }
 
-/// A snippet, a frame and a sequence under construction.
+/// A snippet, a frame, a sequence and a memory under construction.
 #[derive(Clone)]
 pub struct Builders {
     pub snippet: SnippetBuilder,
     pub frame: FrameBuilder,
     pub sequence: SequenceBuilder,
+    pub memory: WaveformMemoryBuilder,
 }
 
 impl Default for Builders {
@@ -50,6 +52,7 @@ impl Default for Builders {
             snippet: SnippetBuilder::new(),
             frame: FrameBuilder::silence(),
             sequence: SequenceBuilder::new(),
+            memory: WaveformMemoryBuilder::new(false),
         }
     }
 }
@@ -87,6 +90,14 @@ impl Builders {
                 let added = self.sequence.add_frame(frame.build().unwrap());
                 keep(added, &mut self.sequence)
             }
+            Call::AddSnippet => {
+                let added = self.snippet.build().and_then(|it| self.memory.add_snippet(it));
+                keep(added, &mut self.memory)
+            }
+            Call::AddSequence => {
+                let added = self.sequence.build().and_then(|it| self.memory.add_sequence(it));
+                keep(added, &mut self.memory)
+            }
         }
     }
 }
@@ -102,7 +113,7 @@ fn keep<B>(made: Result<B, Error>, builder: &mut B) -> u8 {
     }
 }
 
-fn gain(gain: Gain) -> waveform::Gain {
+pub fn gain(gain: Gain) -> waveform::Gain {
     match gain {
         Gain::Full => waveform::Gain::Full,
         Gain::Half => waveform::Gain::Half,
@@ -111,7 +122,7 @@ fn gain(gain: Gain) -> waveform::Gain {
     }
 }
 
-fn timebase(timebase: Timebase) -> waveform::Timebase {
+pub fn timebase(timebase: Timebase) -> waveform::Timebase {
     match timebase {
         Timebase::Ms5_44 => waveform::Timebase::Ms5_44,
         Timebase::Ms21_76 => waveform::Timebase::Ms21_76,

@@ -40,6 +40,17 @@ unsafe extern "C" {
         answers: *mut u8,
         answers_len: usize,
     ) -> usize;
+    fn da728x_assemble(
+        calls: *const u8,
+        calls_len: usize,
+        answers: *mut u8,
+        answers_len: usize,
+        image: *mut u8,
+        image_len: usize,
+    ) -> u8;
+    fn da728x_read_counts(image: *const u8, image_len: usize) -> u16;
+    fn da728x_read_point(image: *const u8, image_len: usize, snippet: usize, point: usize) -> u16;
+    fn da728x_read_frame(image: *const u8, image_len: usize, sequence: usize, frame: usize) -> u64;
     fn da728x_register_addresses(out: *mut u8, out_len: usize) -> usize;
     fn da728x_read_interrupts(byte: u8, out: *mut u8, out_len: usize) -> usize;
     fn da728x_read_actuator(byte: u8, out: *mut u8, out_len: usize) -> usize;
@@ -101,6 +112,10 @@ fn empty_slices() {
         assert_eq!(da728x_frame(list, 0, none, 0, none, 0), 0);
         assert_eq!(da728x_sequence(list, 0, none, 0, none, 0), 10 * 65536);
         assert_eq!(da728x_current_len(list, 0, none, 0), 0);
+        assert_eq!(da728x_assemble(list, 0, none, 0, none, 0), 9);
+        assert_eq!(da728x_read_counts(list, 0), 0);
+        assert_eq!(da728x_read_point(list, 0, 0, 0), 256);
+        assert_eq!(da728x_read_frame(list, 0, 0, 0), 1 << 48);
         assert_eq!(da728x_register_addresses(none, 0), 0);
         for read in
             [da728x_read_interrupts, da728x_read_actuator, da728x_read_control, da728x_read_trigger]
@@ -143,8 +158,10 @@ fn codes_of_calls() {
         ("FREQUENCY_HZ", Call::FrequencyHz(0)),
         ("SEQUENCE_NEW", Call::SequenceNew),
         ("ADD_FRAME", Call::AddFrame),
+        ("ADD_SNIPPET", Call::AddSnippet),
+        ("ADD_SEQUENCE", Call::AddSequence),
     ]
     .map(|(name, call)| (name, call.encode()[0]));
     assert_eq!(defined, written);
-    compared("codes of calls", defined.len(), 12);
+    compared("codes of calls", defined.len(), 14);
 }

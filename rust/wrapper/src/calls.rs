@@ -34,7 +34,7 @@ pub enum Timebase {
     Ms87_04 = 3,
 }
 
-/// One builder call, on the snippet, the frame or the sequence under construction.
+/// One builder call, on the snippet, the frame, the sequence or the memory under construction.
 #[derive(Debug, Clone, Copy, PartialEq, Eq)]
 pub enum Call {
     /// Begins the snippet anew, without points.
@@ -61,6 +61,12 @@ pub enum Call {
     SequenceNew,
     /// Adds the frame, as it is built now, to the sequence.
     AddFrame,
+    /// Adds the snippet, as it is built now, to the memory. No call but in
+    /// [`assemble`](crate::assemble).
+    AddSnippet,
+    /// Adds the sequence, as it is built now, to the memory. No call but in
+    /// [`assemble`](crate::assemble).
+    AddSequence,
 }
 
 impl Call {
@@ -79,6 +85,8 @@ impl Call {
             Call::FrequencyHz(frequency) => (10, frequency as u8, (frequency >> 8) as u8),
             Call::SequenceNew => (11, 0, 0),
             Call::AddFrame => (12, 0, 0),
+            Call::AddSnippet => (13, 0, 0),
+            Call::AddSequence => (14, 0, 0),
         };
         [code, a, b, 0]
     }

@@ -48,6 +48,28 @@ unsafe extern "C" {
         answers_len: usize,
     ) -> usize;
 
+    pub fn da728x_assemble(
+        calls: *const u8,
+        calls_len: usize,
+        answers: *mut u8,
+        answers_len: usize,
+        image: *mut u8,
+        image_len: usize,
+    ) -> u8;
+    pub fn da728x_read_counts(image: *const u8, image_len: usize) -> u16;
+    pub fn da728x_read_point(
+        image: *const u8,
+        image_len: usize,
+        snippet: usize,
+        point: usize,
+    ) -> u16;
+    pub fn da728x_read_frame(
+        image: *const u8,
+        image_len: usize,
+        sequence: usize,
+        frame: usize,
+    ) -> u64;
+
     pub fn da728x_register_addresses(out: *mut u8, out_len: usize) -> usize;
     pub fn da728x_read_interrupts(byte: u8, out: *mut u8, out_len: usize) -> usize;
     pub fn da728x_read_actuator(byte: u8, out: *mut u8, out_len: usize) -> usize;

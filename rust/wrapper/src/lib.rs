@@ -1,7 +1,7 @@
 //! Safe calls to the proved DA7280 driver, the C functions of `include/da728x.h`.
 //!
-//! Snippets, frames and sequences are made by lists of builder calls. Each call gets an answer; a
-//! refused one adds nothing.
+//! Snippets, frames, sequences and images are made by lists of builder calls. Each call gets an
+//! answer; a refused one adds nothing. Images are also read back.
 //!
 //! ```
 //! use yambelugo::{Call, Error};
@@ -19,10 +19,12 @@
 mod calls;
 mod error;
 mod ffi;
+mod image;
 mod point;
 mod registers;
 
 pub use calls::{Call, Gain, Timebase, current_len, frame, sequence, snippet};
 pub use error::Error;
+pub use image::{Frame, IMAGE, assemble, read_counts, read_frame, read_point};
 pub use point::PwlPoint;
 pub use registers::{Group, REGISTERS, register_addresses};

@@ -32,7 +32,12 @@ impl PwlPoint {
 
     fn new(ramp: u8, timebases: u8, amplitude: u8) -> Result<Self, Error> {
         let answer = ffi::da728x_point(ramp, timebases, amplitude);
-        told(answer.into(), 256).map(|byte| Self { byte: byte as u8 })
+        told(answer.into(), 256).map(|byte| Self::from_byte(byte as u8))
+    }
+
+    /// The point with this byte; each byte stands for one.
+    pub(crate) const fn from_byte(byte: u8) -> Self {
+        Self { byte }
     }
 
     /// The byte that stands for this point.
