@@ -7,11 +7,13 @@ use Rattle.content.specs.ReadImage.{readImage}
 use Rattle.content.proofs.Images.{image-codec, image-length, same-image, refuses-image, read-same}
 use Rattle.content.proofs.Sameness.{canonical}
 use Rattle.pattern.specs.Demand.{Pattern, content, Demand3}
+use Rattle.pattern.proofs.Flag.{same-number, same-item}
 use Rattle.pattern.proofs.Memories.{image-from}
 
 pub demand3 : Demand3
 demand3 =
     record {
+      flag = λ a ks. (same-number a ks, same-item a ks);
       hundred = λ p e. let w = image-from (p .acceleration) (p .calls) e in ap length (sym (w .1)) ∙ image-length (content p) (w .0);
       laidOut = λ p e. image-from (p .acceleration) (p .calls) e;
       apart = λ p q e f.

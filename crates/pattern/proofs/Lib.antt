@@ -1,4 +1,5 @@
 pub mod Demand3
+pub mod Flag
 pub mod Frames
 pub mod Memories
 pub mod Outcomes

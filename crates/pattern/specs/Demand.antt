@@ -2,7 +2,7 @@
 use Prim.Native.Nat.{ℕ}
 use mathlib.Core.Path.{_≡_}
 use mathlib.Core.Logic.{_↔_}
-use mathlib.Core.Bool.{Bool}
+use mathlib.Core.Bool.{Bool, false}
 use mathlib.Core.List.{List}
 use mathlib.Core.Option.{Option, none, some}
 use lib.ListN.{length}
@@ -31,6 +31,9 @@ abbrev pub ImageOf : List ℕ → Content → Type 0
 ImageOf l c = Admitted c × (imageOf c ≡ l)
 
 pub record Demand3 : Type 0 where
+  -- the acceleration flag changes nothing: the refusal and the image are those without it
+  pub flag : (a : Bool) (ks : List MemoryCall)
+      → (builtFrom a ks .number ≡ builtFrom false ks .number) × (builtFrom a ks .item ≡ builtFrom false ks .item)
   -- a built image is a hundred bytes
   pub hundred : (p : Pattern) → IsBuilt p → length (image p) ≡ 100
   -- what its accepted calls added is admitted, and its image is laid out as document 01 says
