@@ -35,8 +35,8 @@ uint8_t da728x_point_amplitude(uint8_t byte);
 /* ---- builder calls ---------------------------------------------------- */
 
 /* A list of builder calls is made of records of four bytes: a code, two
- * arguments a and b, and a byte that says nothing. A shorter last record says
- * nothing either. The calls run in order on one snippet, one frame and one
+ * arguments a and b, and a byte that says nothing. A shorter last record is no
+ * record: it has no answer. The calls run in order on one snippet, one frame and one
  * sequence under construction, which begin as SnippetBuilder::new,
  * FrameBuilder::silence and SequenceBuilder::new. The answer to the i-th call
  * (0, or the number of its refusal) is stored at answers[i] where there is such
@@ -57,13 +57,15 @@ uint8_t da728x_point_amplitude(uint8_t byte);
  * construction and leaving the snippet and the sequence as they are: */
 #define DA728X_CALL_ADD_SNIPPET 13  /* WaveformMemoryBuilder::add_snippet(the snippet built) */
 #define DA728X_CALL_ADD_SEQUENCE 14 /* WaveformMemoryBuilder::add_sequence(the sequence built) */
-/* Any other code is no call: it changes nothing and its answer is 0. */
+/* Any other code is no call: it changes nothing; its answer is 0 and has its place
+ * among the answers. */
 
 /* Runs the calls, builds the snippet, the frame or the sequence, and encodes it
  * into the front of out, as much as fits; the other bytes of out stay.
  * The answer of encode_into (for a snippet its full length, else the bytes
  * copied), or 65536 times the number of build's refusal (9, 10), and then out
- * stays as it was. */
+ * stays as it was; the answers of the calls are stored all the same. A frame is
+ * never refused. */
 uint32_t da728x_snippet(const uint8_t *calls, size_t calls_len,
                         uint8_t *answers, size_t answers_len,
                         uint8_t *out, size_t out_len);
@@ -84,7 +86,7 @@ size_t da728x_current_len(const uint8_t *calls, size_t calls_len,
  * WaveformMemoryBuilder::new(false), and builds the image. 0, and its hundred
  * bytes are copied into the front of image, as many as fit; the other bytes of
  * image stay. Or the number of build's refusal (9, 10, 8), and then image stays
- * as it was. */
+ * as it was; the answers of the calls are stored all the same. */
 uint8_t da728x_assemble(const uint8_t *calls, size_t calls_len,
                         uint8_t *answers, size_t answers_len,
                         uint8_t *image, size_t image_len);

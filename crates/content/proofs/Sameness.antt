@@ -1,4 +1,4 @@
--- Contents are the same, in the user's words, exactly when they are equal as they are read back.
+-- Contents are the same, in the words of demand 3, exactly when they are equal as they are read back.
 -- Assumes nothing.
 use mathlib.Core.Path.{_≡_, refl, sym, ap, _∙_}
 use mathlib.Core.List.{List, [], _∷_, map}

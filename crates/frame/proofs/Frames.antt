@@ -1,4 +1,4 @@
--- Admitted frames agree, in the user's words, exactly when their bytes are the same.
+-- Admitted frames agree, in the words of demand 3, exactly when their bytes are the same.
 -- Assumes nothing.
 use mathlib.Core.Path.{_≡_, sym, ap, _∙_}
 use mathlib.Core.Bool.{Bool, true, false, cond}

@@ -1,6 +1,6 @@
 // Frames and their builder (waveform/frame.rs; document 01, 'Points, frames, sequences').
 // Proved: each function answers what specs/ says of its arguments, whatever the builder's fields hold, and a refusal hands the
-// builder back as it came in. proofs/Frames.antt: frames agree, in the user's words, exactly when their bytes are the same.
+// builder back as it came in. proofs/Frames.antt: frames agree, in the words of demand 3, exactly when their bytes are the same.
 // `build` gives the frame itself, since it cannot refuse; `as_bytes` gives the array, of which the first `byte_len` are the
 // frame's; no function here takes a closure.
 ghost use mathlib.Core.Path.{_≡_};

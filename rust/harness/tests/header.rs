@@ -165,3 +165,92 @@ fn codes_of_calls() {
     assert_eq!(defined, written);
     compared("codes of calls", defined.len(), 14);
 }
+
+/// A function's name, the types of its arguments and the type of its answer, in Rust's words.
+type Prototype = (String, Vec<String>, String);
+
+fn prototype(name: &str, arguments: impl Iterator<Item = String>, answer: &str) -> Prototype {
+    (name.trim().to_string(), arguments.collect(), answer.trim().to_string())
+}
+
+fn of_c(kind: &str) -> String {
+    let (kind, kept) =
+        kind.trim().strip_prefix("const ").map_or((kind.trim(), "*mut "), |kind| (kind, "*const "));
+    let (kind, name) = kind.split_once(' ').unwrap();
+    let word = match kind {
+        "size_t" => "usize",
+        "uint8_t" => "u8",
+        "uint16_t" => "u16",
+        "uint32_t" => "u32",
+        "uint64_t" => "u64",
+        _ => panic!("{kind}"),
+    };
+    if name.starts_with('*') { format!("{kept}{word}") } else { word.to_string() }
+}
+
+/// The functions that the header declares.
+fn declared() -> Vec<Prototype> {
+    let header = text("include/da728x.h");
+    let mut code = String::new();
+    for part in header.split("/*") {
+        code.push_str(part.split_once("*/").map_or(part, |(_, code)| code));
+    }
+    let lines = code.lines().filter(|line| !line.starts_with('#')).collect::<Vec<_>>().join(" ");
+    let (_, body) = lines.split_once('{').unwrap();
+    let statements = body.split(';').filter(|it| it.contains("da728x_"));
+    statements
+        .map(|it| {
+            let (head, arguments) = it.trim().strip_suffix(')').unwrap().split_once('(').unwrap();
+            let name = head.split_whitespace().nth(1).unwrap();
+            prototype(name, arguments.split(',').map(of_c), &of_c(head))
+        })
+        .collect()
+}
+
+/// The functions that the proved crate exports: a slice is a pointer and a length.
+fn exported() -> Vec<Prototype> {
+    let text = text("crates/capi/src/lib.rt");
+    let lines = text.lines().filter_map(|line| line.strip_prefix("pub extern \"C\" fn "));
+    lines
+        .map(|line| {
+            let (name, rest) = line.split_once('(').unwrap();
+            let (arguments, answer) = rest.split_once(") -> ").unwrap();
+            let kinds = arguments.split(", ").flat_map(|it| match it.split_once(": ").unwrap().1 {
+                "&[u8]" => vec!["*const u8".to_string(), "usize".to_string()],
+                "&mut [u8]" => vec!["*mut u8".to_string(), "usize".to_string()],
+                kind => vec![kind.to_string()],
+            });
+            prototype(name, kinds, answer)
+        })
+        .collect()
+}
+
+/// The functions that the wrapper calls.
+fn wrapped() -> Vec<Prototype> {
+    let text = text("rust/wrapper/src/ffi.rs");
+    let (_, body) = text.split_once("unsafe extern \"C\" {").unwrap();
+    let (body, _) = body.split_once("\n}").unwrap();
+    let statements = body.split(';').filter(|it| it.contains("fn da728x_"));
+    statements
+        .map(|it| {
+            let (_, it) = it.split_once("fn ").unwrap();
+            let (name, rest) = it.split_once('(').unwrap();
+            let (arguments, answer) = rest.split_once(") -> ").unwrap();
+            let arguments = arguments.split(',').filter_map(|it| it.split_once(": "));
+            prototype(name, arguments.map(|(_, kind)| kind.trim().to_string()), answer)
+        })
+        .collect()
+}
+
+/// The header and the wrapper declare what the proved crate exports, with its types.
+#[test]
+fn prototypes_are_those_of_the_exports() {
+    let sorted = |mut list: Vec<Prototype>| {
+        list.sort();
+        list
+    };
+    let exported = sorted(exported());
+    assert_eq!(sorted(declared()), exported);
+    assert_eq!(sorted(wrapped()), exported);
+    compared("prototypes", exported.len(), 21);
+}
