@@ -45,6 +45,11 @@ fn show_frame(f: Frame) {
 
 fn show_sequence(b: SequenceBuilder) {
     let r = b.build();
+    let a = r.answer;
+    if 0 < a.number() {
+        io::write_all(1, b"  refused\n");
+        return;
+    }
     let s = r.sequence;
     let mut out = [0u8; 96];
     let n = s.encode_into(&mut out);
