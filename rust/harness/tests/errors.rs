@@ -1,8 +1,8 @@
-//! The names of the errors are the published ones.
+//! The names of the errors are the published ones, and their numbers those that the proofs are about.
 
 use da728x::errors::Error as Published;
 use embedded_hal_async::i2c::ErrorKind;
-use harness::{compared, oracle};
+use harness::{compared, oracle, text};
 use yambelugo::Error;
 
 #[test]
@@ -36,4 +36,22 @@ fn errors_have_the_published_names() {
     names.sort();
     names.dedup();
     compared("names of errors", names.len(), 17);
+}
+
+/// The wrapper gives each number the name that the proved crate gives it.
+#[test]
+fn numbers_are_those_of_the_definitions() {
+    let text = text("crates/errors/specs/Number.antt");
+    let mut cases = 0;
+    for line in text.lines().filter_map(|line| line.strip_prefix("errorNumber ")) {
+        let (shape, number) = line.split_once(" = ").unwrap();
+        let (_, name) = shape.split_once("Error.").unwrap();
+        let name = name.split(' ').next().unwrap();
+        let error = Error::from_number(number.parse().unwrap(), 0).unwrap();
+        assert_eq!(format!("{error:?}").split('(').next().unwrap(), name);
+        assert_eq!(error.number().to_string(), number);
+        cases += 1;
+    }
+    compared("numbers of errors", cases, 19);
+    assert!(Error::from_number(0, 0).is_none() && Error::from_number(20, 0).is_none());
 }
