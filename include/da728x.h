@@ -9,7 +9,7 @@
  *    1 InvalidTimebase      2 InvalidAmplitude     3 InvalidSnippetId
  *    4 InvalidLoopCount     5 InvalidFrequency     6 TooManySnippets
  *    7 TooManySequences     8 WaveformMemoryFull   9 EmptySnippet
- *   10 EmptySequence; 0 is no refusal.
+ *   10 EmptySequence      18 NotAnImage
  */
 #ifndef DA728X_H
 #define DA728X_H
@@ -94,18 +94,19 @@ uint8_t da728x_assemble(const uint8_t *calls, size_t calls_len,
 /* The rest reads an image: a hundred bytes that the builders can make. Snippets,
  * points, sequences and frames count from 0.
  *
- * 256 times the number of snippets plus the number of sequences; 0 if the bytes
- * are no image, which has at least one of each. */
+ * 256 times the number of snippets plus the number of sequences, at least one of
+ * each; or 18 if the bytes are no image. */
 uint16_t da728x_read_counts(const uint8_t *image, size_t image_len);
 
-/* The byte of a point; 256 if there is none, also if the bytes are no image. */
+/* The byte of a point; 256 if there is no such point; 256 * 18 if the bytes are no
+ * image. */
 uint16_t da728x_read_point(const uint8_t *image, size_t image_len,
                            size_t snippet, size_t point);
 
 /* The fields of a frame: the snippet number in bits 0..7, the gain code in 8..15,
  * the timebase code in 16..23, the loop count in 24..31 (255 if absent) and the
- * frequency in 32..47 (65535 if absent); 2^48 if there is none, also if the bytes
- * are no image. The loop count is absent in a frame of one byte only. */
+ * frequency in 32..47 (65535 if absent); 2^48 if there is no such frame; 2^48 * 18
+ * if the bytes are no image. The loop count is absent in a frame of one byte only. */
 uint64_t da728x_read_frame(const uint8_t *image, size_t image_len,
                            size_t sequence, size_t frame);
 

@@ -6,9 +6,9 @@ ghost use lib.Dec.{ltb};
 ghost use Prim.Native.Nat.{min};
 ghost use lib.ListN.{length};
 ghost use Rattle.snippet.specs.Point.{point, pointTold, rampIn, timebasesIn, amplitudeIn};
-ghost use Rattle.snippet.specs.Snippet.{snippetBytes, builtSnippet};
-ghost use Rattle.frame.specs.Frame.{frameBytes, builtFrame};
-ghost use Rattle.sequence.specs.Sequence.{sequenceBytes, builtSequence};
+ghost use Rattle.snippet.specs.Snippet.{snippetBytes};
+ghost use Rattle.frame.specs.Frame.{frameBytes};
+ghost use Rattle.sequence.specs.Sequence.{sequenceBytes};
 ghost use Rattle.laws.specs.Copied.{copied};
 ghost use Rattle.assemble.specs.Assembled.{first, numbers, patternCallsIn, assembled, imageOut};
 ghost use Rattle.content.specs.ReadImage.{readImage};
@@ -20,7 +20,7 @@ ghost use Rattle.registers_actuator.specs.Table as actuator;
 ghost use Rattle.registers_control.specs.Table as control;
 ghost use Rattle.registers_trigger.specs.Table as trigger;
 ghost use Rattle.capi.specs.Points.{pointWord, flagByte};
-ghost use Rattle.capi.specs.Items.{buildersOf, answered, itemWord, itemOut};
+ghost use Rattle.capi.specs.Items.{buildersOf, snippetOf, frameOf, sequenceOf, answered, itemWord, itemOut};
 use snippet::PointAnswer;
 use snippet::PwlPoint;
 
@@ -68,12 +68,12 @@ pub extern "C" fn da728x_point_amplitude(byte: u8) -> u8
 #[no_mangle]
 pub extern "C" fn da728x_snippet(calls: &[u8], answers: &mut [u8], out: &mut [u8]) -> u32
     ensures { λ r. ⌜ r
-        ≡ itemWord (builtSnippet (buildersOf (now (calls .entry)) .snippet) .number)
-        (length (snippetBytes (builtSnippet (buildersOf (now (calls .entry)) .snippet) .item))) ⌝ }
+        ≡ itemWord (snippetOf (now (calls .entry)) .number)
+        (length (snippetBytes (snippetOf (now (calls .entry)) .item))) ⌝ }
     ensures { λ _. ⌜ now (answers .exit) ≡ answered (now (calls .entry)) (now (answers .entry)) ⌝ }
     ensures { λ _. ⌜ now (out .exit)
-        ≡ itemOut (builtSnippet (buildersOf (now (calls .entry)) .snippet) .number) (now (out .entry))
-        (snippetBytes (builtSnippet (buildersOf (now (calls .entry)) .snippet) .item)) ⌝ }
+        ≡ itemOut (snippetOf (now (calls .entry)) .number) (now (out .entry))
+        (snippetBytes (snippetOf (now (calls .entry)) .item)) ⌝ }
 {
     let b = calls::run(calls, answers);
     let s = b.snippet;
@@ -90,10 +90,10 @@ pub extern "C" fn da728x_snippet(calls: &[u8], answers: &mut [u8], out: &mut [u8
 #[no_mangle]
 pub extern "C" fn da728x_frame(calls: &[u8], answers: &mut [u8], out: &mut [u8]) -> u32
     ensures { λ r. ⌜ r
-        ≡ min (length (frameBytes (builtFrame (buildersOf (now (calls .entry)) .frame)))) (length (now (out .entry))) ⌝ }
+        ≡ min (length (frameBytes (frameOf (now (calls .entry))))) (length (now (out .entry))) ⌝ }
     ensures { λ _. ⌜ now (answers .exit) ≡ answered (now (calls .entry)) (now (answers .entry)) ⌝ }
     ensures { λ _. ⌜ now (out .exit)
-        ≡ copied (now (out .entry)) (frameBytes (builtFrame (buildersOf (now (calls .entry)) .frame))) ⌝ }
+        ≡ copied (now (out .entry)) (frameBytes (frameOf (now (calls .entry)))) ⌝ }
 {
     let b = calls::run(calls, answers);
     let f = b.frame;
@@ -103,12 +103,12 @@ pub extern "C" fn da728x_frame(calls: &[u8], answers: &mut [u8], out: &mut [u8])
 #[no_mangle]
 pub extern "C" fn da728x_sequence(calls: &[u8], answers: &mut [u8], out: &mut [u8]) -> u32
     ensures { λ r. ⌜ r
-        ≡ itemWord (builtSequence (buildersOf (now (calls .entry)) .sequence) .number)
-        (min (length (sequenceBytes (builtSequence (buildersOf (now (calls .entry)) .sequence) .item))) (length (now (out .entry)))) ⌝ }
+        ≡ itemWord (sequenceOf (now (calls .entry)) .number)
+        (min (length (sequenceBytes (sequenceOf (now (calls .entry)) .item))) (length (now (out .entry)))) ⌝ }
     ensures { λ _. ⌜ now (answers .exit) ≡ answered (now (calls .entry)) (now (answers .entry)) ⌝ }
     ensures { λ _. ⌜ now (out .exit)
-        ≡ itemOut (builtSequence (buildersOf (now (calls .entry)) .sequence) .number) (now (out .entry))
-        (sequenceBytes (builtSequence (buildersOf (now (calls .entry)) .sequence) .item)) ⌝ }
+        ≡ itemOut (sequenceOf (now (calls .entry)) .number) (now (out .entry))
+        (sequenceBytes (sequenceOf (now (calls .entry)) .item)) ⌝ }
 {
     let b = calls::run(calls, answers);
     let q = b.sequence;

@@ -369,10 +369,11 @@ fn scan(image: &[u8]) -> Reading
     refused()
 }
 
-// The lists whose image the bytes are, or NotAnImage.
+// The lists whose image the bytes are, or NotAnImage. The last clause fixes what no list shows: the bytes behind the lists.
 pub fn read(image: &[u8]) -> Reading
     ensures { λ r. ⌜ readingTold r ≡ imageTold (readImage (now (image .entry))) ⌝ }
     ensures { λ r. ⌜ RefusedEmpty (r .answer) r ⌝ }
+    ensures { λ r. ⌜ r ≡ scanned (now (image .entry)) ⌝ }
 {
     scan(image)
 }

@@ -12,9 +12,9 @@ use Rattle.frame.specs.Frame.{gainCode, timebaseCode}
 use Rattle.content.specs.Content.{Point, Content, byteOf}
 use Rattle.items.specs.Items.{element}
 
--- 256 times the number of snippets and the number of sequences, or 0 for what is no image
+-- 256 times the number of snippets and the number of sequences, or 18 for what is no image
 abbrev pub countsWord : Option Content → ℕ
-countsWord none = 0
+countsWord none = 18
 countsWord (some c) = length (c .snippets) * 256 + length (c .sequences)
 
 -- a byte, or 256 where there is none
@@ -32,8 +32,9 @@ abbrev pub pointCode : Option Point → ℕ
 pointCode none = 256
 pointCode (some p) = byteOf p
 
+-- 18 * 256 for what is no image
 abbrev pub pointIn : Option Content → ℕ → ℕ → ℕ
-pointIn none i j = 256
+pointIn none i j = 4608
 pointIn (some c) i j = pointCode (element (c .snippets) i j)
 
 -- a loop count, 255 if absent; a frequency, 65535 if absent
@@ -59,6 +60,7 @@ abbrev pub frameCode : Option FrameBuilder → ℕ
 frameCode none = 281474976710656
 frameCode (some f) = frameWord f
 
+-- 18 * 2 ^ 48 for what is no image
 abbrev pub frameIn : Option Content → ℕ → ℕ → ℕ
-frameIn none i j = 281474976710656
+frameIn none i j = 5066549580791808
 frameIn (some c) i j = frameCode (element (c .sequences) i j)

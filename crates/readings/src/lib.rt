@@ -12,7 +12,7 @@ use frame::LoopCount;
 use items::FrameAt;
 use items::PointAt;
 
-// 256 times the number of snippets and the number of sequences, or 0 for what is no image.
+// 256 times the number of snippets and the number of sequences, or 18 for what is no image.
 pub fn counts(image: &[u8]) -> u16
     ensures { λ r. ⌜ r ≡ countsWord (readImage (now (image .entry))) ⌝ }
 {
@@ -24,11 +24,11 @@ pub fn counts(image: &[u8]) -> u16
             let q = r.sequences;
             (shown(p.count, 15) as u16) * 256 + (shown(q.count, 16) as u16)
         }
-        Answer::Refused(_) => 0,
+        Answer::Refused(_) => 18,
     }
 }
 
-// The byte of the j-th point of the i-th snippet, or 256.
+// The byte of the j-th point of the i-th snippet, or 256, or 18 * 256 for what is no image.
 pub fn point(image: &[u8], i: usize, j: usize) -> u16
     ensures { λ r. ⌜ r ≡ pointIn (readImage (now (image .entry))) i j ⌝ }
 {
@@ -39,11 +39,11 @@ pub fn point(image: &[u8], i: usize, j: usize) -> u16
             let p = r.snippets;
             point_code(items::point_at(p, i, j))
         }
-        Answer::Refused(_) => 256,
+        Answer::Refused(_) => 4608,
     }
 }
 
-// The fields of the j-th frame of the i-th sequence, or 2 to the power of 48.
+// The fields of the j-th frame of the i-th sequence, or 2 to the power of 48, or 18 times that for what is no image.
 pub fn frame(image: &[u8], i: usize, j: usize) -> u64
     ensures { λ r. ⌜ r ≡ frameIn (readImage (now (image .entry))) i j ⌝ }
 {
@@ -54,7 +54,7 @@ pub fn frame(image: &[u8], i: usize, j: usize) -> u64
             let q = r.sequences;
             frame_code(items::frame_at(q, i, j))
         }
-        Answer::Refused(_) => 281474976710656,
+        Answer::Refused(_) => 5066549580791808,
     }
 }
 

@@ -113,9 +113,9 @@ fn empty_slices() {
         assert_eq!(da728x_sequence(list, 0, none, 0, none, 0), 10 * 65536);
         assert_eq!(da728x_current_len(list, 0, none, 0), 0);
         assert_eq!(da728x_assemble(list, 0, none, 0, none, 0), 9);
-        assert_eq!(da728x_read_counts(list, 0), 0);
-        assert_eq!(da728x_read_point(list, 0, 0, 0), 256);
-        assert_eq!(da728x_read_frame(list, 0, 0, 0), 1 << 48);
+        assert_eq!(da728x_read_counts(list, 0), 18);
+        assert_eq!(da728x_read_point(list, 0, 0, 0), 18 * 256);
+        assert_eq!(da728x_read_frame(list, 0, 0, 0), 18 << 48);
         assert_eq!(da728x_register_addresses(none, 0), 0);
         for read in
             [da728x_read_interrupts, da728x_read_actuator, da728x_read_control, da728x_read_trigger]

@@ -8,6 +8,9 @@ use crate::point::PwlPoint;
 /// How many bytes an image has.
 pub const IMAGE: usize = 100;
 
+/// The number of `NotAnImage`.
+const NO_IMAGE: u8 = 18;
+
 /// The fields of a frame that was read.
 #[derive(Debug, Clone, Copy, PartialEq, Eq)]
 pub struct Frame {
@@ -75,7 +78,8 @@ pub fn read_counts(image: &[u8]) -> Result<(usize, usize), Error> {
     // SAFETY: the pointer and length are a borrowed slice.
     let [snippets, sequences] =
         unsafe { ffi::da728x_read_counts(image.as_ptr(), image.len()) }.to_be_bytes();
-    if (snippets, sequences) == (0, 0) {
+    if snippets == 0 {
+        debug_assert!(sequences == NO_IMAGE);
         return Err(Error::NotAnImage);
     }
     debug_assert!((1..=15).contains(&snippets) && (1..=16).contains(&sequences));
@@ -96,7 +100,7 @@ pub fn read_counts(image: &[u8]) -> Result<(usize, usize), Error> {
 pub fn read_point(image: &[u8], snippet: usize, point: usize) -> Option<PwlPoint> {
     // SAFETY: the pointer and length are a borrowed slice.
     let answer = unsafe { ffi::da728x_read_point(image.as_ptr(), image.len(), snippet, point) };
-    debug_assert!(answer <= 256, "no point has this byte");
+    debug_assert!(answer <= 256 || answer == 256 * u16::from(NO_IMAGE), "no point has this byte");
     u8::try_from(answer).ok().map(PwlPoint::from_byte)
 }
 
@@ -120,7 +124,8 @@ pub fn read_point(image: &[u8], snippet: usize, point: usize) -> Option<PwlPoint
 pub fn read_frame(image: &[u8], sequence: usize, frame: usize) -> Option<Frame> {
     // SAFETY: the pointer and length are a borrowed slice.
     let answer = unsafe { ffi::da728x_read_frame(image.as_ptr(), image.len(), sequence, frame) };
-    if answer == 1 << 48 {
+    if answer >= 1 << 48 {
+        debug_assert!(answer == 1 << 48 || answer == u64::from(NO_IMAGE) << 48);
         return None;
     }
     let [snippet, gain, timebase, count, low, high, rest @ ..] = answer.to_le_bytes();

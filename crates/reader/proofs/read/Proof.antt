@@ -12,7 +12,8 @@ use Rattle.reader.proofs.read.Tie as tie
 returns : tie.Need-returns
 returns c =
     let image = now (c .before .before .args .image) in
-    subst (λ (r : Reading). Right (readImage image) r) (sym (c .scan .ensures)) (whole image)
+    let right = subst (λ (r : Reading). Right (readImage image) r) (sym (c .scan .ensures)) (whole image) in
+    (right .0, (right .1, c .scan .ensures))
 
 pub read-spec : {M : Type 1} → statement M
 read-spec =
