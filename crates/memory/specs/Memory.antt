@@ -103,10 +103,6 @@ builtTold r = record { number = answerNumber (r .answer); item = r .memory; buil
 
 -- ---- an image that was stored
 
--- the bytes that `as_bytes` shows: the first len, a hundred at most
-abbrev pub shownBytes : WaveformMemory → List ℕ
-shownBytes m = take (m .len) (m .«data»)
-
 -- `from_bytes`: the four values, or 8 for a length above 100
 abbrev pub loaded : List ℕ → ℕ → ℕ → ℕ → Step WaveformMemory
 loaded bytes n snippets sequences =
