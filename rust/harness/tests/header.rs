@@ -1,66 +1,14 @@
 //! What the wrapper cannot say: the C functions as the header declares them.
 
+use ffi::*;
 use harness::{GAINS, TIMEBASES, compared, oracle, text};
 use std::ptr::{null, null_mut};
 use yambelugo::{Call, PwlPoint};
 
-// SAFETY: written from the header; the functions on numbers return on every input.
-unsafe extern "C" {
-    safe fn da728x_point(ramp: u8, timebases: u8, amplitude: u8) -> u16;
-    safe fn da728x_point_is_ramp(byte: u8) -> u8;
-    safe fn da728x_point_timebases(byte: u8) -> u8;
-    safe fn da728x_point_amplitude(byte: u8) -> u8;
-    fn da728x_snippet(
-        calls: *const u8,
-        calls_len: usize,
-        answers: *mut u8,
-        answers_len: usize,
-        out: *mut u8,
-        out_len: usize,
-    ) -> u32;
-    fn da728x_frame(
-        calls: *const u8,
-        calls_len: usize,
-        answers: *mut u8,
-        answers_len: usize,
-        out: *mut u8,
-        out_len: usize,
-    ) -> u32;
-    fn da728x_sequence(
-        calls: *const u8,
-        calls_len: usize,
-        answers: *mut u8,
-        answers_len: usize,
-        out: *mut u8,
-        out_len: usize,
-    ) -> u32;
-    fn da728x_current_len(
-        calls: *const u8,
-        calls_len: usize,
-        answers: *mut u8,
-        answers_len: usize,
-    ) -> usize;
-    fn da728x_assemble(
-        calls: *const u8,
-        calls_len: usize,
-        answers: *mut u8,
-        answers_len: usize,
-        image: *mut u8,
-        image_len: usize,
-    ) -> u8;
-    fn da728x_read_counts(image: *const u8, image_len: usize) -> u16;
-    fn da728x_read_point(image: *const u8, image_len: usize, snippet: usize, point: usize) -> u16;
-    fn da728x_read_frame(image: *const u8, image_len: usize, sequence: usize, frame: usize) -> u64;
-    fn da728x_register_addresses(out: *mut u8, out_len: usize) -> usize;
-    fn da728x_read_interrupts(byte: u8, out: *mut u8, out_len: usize) -> usize;
-    fn da728x_read_actuator(byte: u8, out: *mut u8, out_len: usize) -> usize;
-    fn da728x_read_control(byte: u8, out: *mut u8, out_len: usize) -> usize;
-    fn da728x_read_trigger(byte: u8, out: *mut u8, out_len: usize) -> usize;
-    fn da728x_replace_interrupts(byte: u8, value: u8, out: *mut u8, out_len: usize) -> usize;
-    fn da728x_replace_actuator(byte: u8, value: u8, out: *mut u8, out_len: usize) -> usize;
-    fn da728x_replace_control(byte: u8, value: u8, out: *mut u8, out_len: usize) -> usize;
-    fn da728x_replace_trigger(byte: u8, value: u8, out: *mut u8, out_len: usize) -> usize;
-}
+/// The wrapper's declarations, held against the header below.
+#[allow(dead_code)]
+#[path = "../../wrapper/src/ffi.rs"]
+mod ffi;
 
 /// Also with flags that are neither 0 nor 1.
 #[test]

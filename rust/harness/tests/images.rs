@@ -1,5 +1,6 @@
 //! Random lists of calls that make images, against the published Rust.
 
+use ffi::da728x_assemble;
 use harness::generate::{list, with_noise};
 use harness::images::{added, hundred};
 use harness::lists::MARKER;
@@ -9,17 +10,10 @@ use harness::random::Random;
 use harness::{compared, encoded};
 use yambelugo::{Call, IMAGE};
 
-// SAFETY: written from the header.
-unsafe extern "C" {
-    fn da728x_assemble(
-        calls: *const u8,
-        calls_len: usize,
-        answers: *mut u8,
-        answers_len: usize,
-        image: *mut u8,
-        image_len: usize,
-    ) -> u8;
-}
+/// The wrapper's declarations, which `header` holds against the header.
+#[allow(dead_code)]
+#[path = "../../wrapper/src/ffi.rs"]
+mod ffi;
 
 /// Lists of each kind.
 const LISTS: usize = 130_000;
