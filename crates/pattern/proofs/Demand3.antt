@@ -1,6 +1,7 @@
 -- Demand 3, whole.
 -- Assumes nothing.
 use mathlib.Core.Path.{_≡_, sym, ap, _∙_}
+use mathlib.Core.Bool.{false}
 use lib.ListN.{length}
 use Rattle.content.specs.Content.{imageOf}
 use Rattle.content.specs.ReadImage.{readImage}
@@ -9,6 +10,7 @@ use Rattle.content.proofs.Sameness.{canonical}
 use Rattle.pattern.specs.Demand.{Pattern, content, Demand3}
 use Rattle.pattern.proofs.Flag.{same-number, same-item}
 use Rattle.pattern.proofs.Memories.{image-from}
+use Rattle.pattern.proofs.Reached.{callsOf, content-reached, built-reached}
 
 pub demand3 : Demand3
 demand3 =
@@ -16,6 +18,7 @@ demand3 =
       flag = λ a ks. (same-number a ks, same-item a ks);
       hundred = λ p e. let w = image-from (p .acceleration) (p .calls) e in ap length (sym (w .1)) ∙ image-length (content p) (w .0);
       laidOut = λ p e. image-from (p .acceleration) (p .calls) e;
+      admits = λ c a. (record { acceleration = false; calls = callsOf c }, built-reached c a, content-reached c a);
       apart = λ p q e f.
           let v = image-from (p .acceleration) (p .calls) e in
           let w = image-from (q .acceleration) (q .calls) f in

@@ -37,7 +37,7 @@ built-bytes b = go (hasSecond b) where
 
 -- ---- the fields
 
-abbrev fieldsAfter : FrameBuilder → List FrameCall → FrameBuilder
+abbrev pub fieldsAfter : FrameBuilder → List FrameCall → FrameBuilder
 fieldsAfter b ks =
     record {
       «snippet_id» = b .«snippet_id»;
@@ -59,7 +59,7 @@ frequency-after b f ks = go (decLe f 511) where
   go (yes h) = simp (le-ltb 511 f h)
   go (no h) = let h′ : 511 < f = omega arith in simp (lt-ltb 511 f h′)
 
-ran-fields : (ks : List FrameCall) (b : FrameBuilder) → frameRan b ks ≡ fieldsAfter b ks
+pub ran-fields : (ks : List FrameCall) (b : FrameBuilder) → frameRan b ks ≡ fieldsAfter b ks
 ran-fields [] b = refl
 ran-fields (gain g ∷ ks) b = ran-fields ks (frameStep b (gain g) .builder)
 ran-fields (timebase t ∷ ks) b = ran-fields ks (frameStep b (timebase t) .builder)

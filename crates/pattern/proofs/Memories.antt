@@ -24,7 +24,7 @@ use Rattle.memory.specs.Image.{imageSize, imageBytes}
 use Rattle.memory.specs.Memory.{newMemory, withSnippet, withSequence, imageNumber, answered, snippetItems, sequenceItems, builtMemory}
 use Rattle.content.specs.Content.{Point, Content, pointBytes, framesBytes, imageOf, SnippetAdmitted, SequenceAdmitted, Admitted}
 use Rattle.content.proofs.Codec.{all-append}
-use Rattle.pattern.specs.Calls.{MemoryCall, addSnippet, addSequence, Item, points, frames, snippetsOf, sequencesOf, contentOf, withBuiltSnippet, withBuiltSequence, memoryStep, addedItem, memoryFrom, contentFrom, builtFrom, snippetFrom, pointsFrom, sequenceFrom, framesFrom}
+use Rattle.pattern.specs.Calls.{held, MemoryCall, addSnippet, addSequence, Item, points, frames, snippetsOf, sequencesOf, contentOf, withBuiltSnippet, withBuiltSequence, memoryStep, addedItem, memoryFrom, contentFrom, builtFrom, snippetFrom, pointsFrom, sequenceFrom, framesFrom}
 use Rattle.pattern.proofs.Outcomes.{Outcome, all-calls, Shows, shows-more}
 use Rattle.pattern.proofs.Snippets as snippet
 use Rattle.pattern.proofs.Snippets.{snippet-holds}
@@ -37,7 +37,7 @@ pub record Holds (b : WaveformMemoryBuilder) (is : List Item) : Type 0 where
   pub snippet : All SnippetAdmitted (snippetsOf is)
   pub sequence : All SequenceAdmitted (sequencesOf is)
 
-none-held : (a : Bool) → Holds (newMemory a) []
+pub none-held : (a : Bool) → Holds (newMemory a) []
 none-held a =
     record {
       snippets = record { long = refl; shown = refl; counted = refl; room = omega arith };
@@ -137,7 +137,7 @@ with-sequence b is s fs h k = some (decLe 1 (s .len)) where
   some (yes p) = full p (decLe 16 (b .«num_sequences»))
   some (no p) = let p′ : s .len < 1 = omega arith in simp (lt-ltb _ _ p′) (inr (omega arith, h))
 
-one-call : (b : WaveformMemoryBuilder) (is : List Item) (k : MemoryCall) → Holds b is → Added is (memoryStep b k) (addedItem k)
+pub one-call : (b : WaveformMemoryBuilder) (is : List Item) (k : MemoryCall) → Holds b is → Added is (memoryStep b k) (addedItem k)
 one-call b is (addSnippet ks) h = with-snippet b is (snippetFrom ks) (pointsFrom ks) h (snippet-holds ks)
 one-call b is (addSequence ms) h = with-sequence b is (sequenceFrom ms) (framesFrom ms) h (sequence-holds ms)
 
@@ -189,6 +189,9 @@ built b is h e =
       simp e (ap₂ imageBytes (sym (h .snippets .shown)) (sym (h .sequences .shown))),
     )
 
+pub memory-holds : (a : Bool) (ks : List MemoryCall) → Holds (memoryFrom a ks) (held memoryStep addedItem (newMemory a) ks)
+memory-holds a ks = all-calls memoryStep addedItem Holds one-call ks (newMemory a) [] (none-held a)
+
 pub image-from : (a : Bool) (ks : List MemoryCall) → builtFrom a ks .number ≡ 0
     → Admitted (contentFrom a ks) × (imageOf (contentFrom a ks) ≡ builtFrom a ks .item .«data»)
-image-from a ks e = built (memoryFrom a ks) _ (all-calls memoryStep addedItem Holds one-call ks (newMemory a) [] (none-held a)) e
+image-from a ks e = built (memoryFrom a ks) _ (memory-holds a ks) e

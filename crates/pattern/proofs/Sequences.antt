@@ -34,7 +34,7 @@ pub record Holds (b : SequenceBuilder) (fs : List FrameBuilder) : Type 0 where
   pub few : length fs ≤ 32
   pub good : All FrameAdmitted fs
 
-none-held : Holds newSequence []
+pub none-held : Holds newSequence []
 none-held = record { long = refl; shown = refl; counted = refl; frames = refl; room = omega arith; few = omega arith; good = tt }
 
 over-shown : (d xs : List ℕ) (n : ℕ) → n + length xs ≤ length d → take (n + length xs) (over d n xs) ≡ take n d ++ xs
@@ -89,7 +89,7 @@ with-made b fs m (gives f) o h =
     with-frame b fs (builtFrame (frameRan f (m .calls))) (frameFrom m) (built-bytes (frameRan f (m .calls)) ∙ ap bytesOf (o .0)) (o .1) h
 with-made b fs m (refuses n) o h = inr (o, h)
 
-one-call : (b : SequenceBuilder) (fs : List FrameBuilder) (m : FrameCalls) → Holds b fs → Added b fs (sequenceStep b m) (frameFrom m)
+pub one-call : (b : SequenceBuilder) (fs : List FrameBuilder) (m : FrameCalls) → Holds b fs → Added b fs (sequenceStep b m) (frameFrom m)
 one-call b fs m h = with-made b fs m (begun (m .begin)) (frame-outcome (m .begin) (m .calls)) h
 
 pub sequence-holds : (ms : List FrameCalls) → Holds (sequenceFrom ms) (framesFrom ms)

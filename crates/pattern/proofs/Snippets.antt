@@ -31,7 +31,7 @@ pub record Holds (b : SnippetBuilder) (ps : List Point) : Type 0 where
   pub shows : Shows 16 code.byteOf byteOf (b .points) (b .len) ps
   pub good : All Good ps
 
-none-held : Holds newSnippet []
+pub none-held : Holds newSnippet []
 none-held = record { shows = record { long = refl; shown = refl; counted = refl; room = omega arith }; good = tt }
 
 abbrev Made : SnippetBuilder → List Point → Step SnippetBuilder → Point → Type 0
@@ -67,7 +67,7 @@ with-made b ps r t a h = low (decLe 1 t) where
   low (yes u) = high u (decLe t 8)
   low (no u) = let u′ : t < 1 = omega arith in simp (lt-ltb _ _ u′) (inr (omega arith, h))
 
-one-call : (b : SnippetBuilder) (ps : List Point) (k : SnippetCall) → Holds b ps → Made b ps (snippetStep b k) (addedPoint k)
+pub one-call : (b : SnippetBuilder) (ps : List Point) (k : SnippetCall) → Holds b ps → Made b ps (snippetStep b k) (addedPoint k)
 one-call b ps (ramp t a) h = with-made b ps true t a h
 one-call b ps (step t a) h = with-made b ps false t a h
 one-call b ps (point x) h = with-point b ps (x % 256) (pointIn (x % 256)) (sym (byte-back (x % 256) (omega arith))) (byte-admitted (x % 256)) h

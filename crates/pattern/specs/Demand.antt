@@ -38,6 +38,8 @@ pub record Demand3 : Type 0 where
   pub hundred : (p : Pattern) → IsBuilt p → length (image p) ≡ 100
   -- what its accepted calls added is admitted, and its image is laid out as document 01 says
   pub laidOut : (p : Pattern) → IsBuilt p → ImageOf (image p) (content p)
+  -- "The builders admit ..": what is admitted is what some calls build
+  pub admits : (c : Content) → Admitted c → (p : Pattern) × IsBuilt p × (content p ≡ c)
   -- "Two images .. are equal exactly when .." their contents are the same
   pub apart : (p q : Pattern) → IsBuilt p → IsBuilt q → (image p ≡ image q) ↔ Same (content p) (content q)
   -- "it returns lists that the builders admit and whose image those bytes are"
