@@ -3,7 +3,7 @@
 use mathlib.Core.Path.{_≡_, refl, sym, ap, ap₂, _∙_, subst}
 use mathlib.Core.Logic.{_⊎_, inl, inr}
 use mathlib.Core.Bool.{Bool, true, false, cond}
-use mathlib.Core.List.{List, [], _∷_, _++_, map}
+use mathlib.Core.List.{List, [], _∷_, _++_, map, append-nil}
 use Prim.Native.Nat.{ℕ, zero, suc, _+_, _-_, _≤_, _<_}
 use native.Mathlib.Decide.{decLe}
 use native.Mathlib.Omega.{arith}
@@ -48,25 +48,15 @@ none-held a =
 
 -- ---- items in order
 
-snippets-points : (is : List Item) (ps : List Point) → snippetsOf (is ++ (points ps ∷ [])) ≡ snippetsOf is ++ (ps ∷ [])
-snippets-points [] ps = refl
-snippets-points (points qs ∷ is) ps = ap (λ l. qs ∷ l) (snippets-points is ps)
-snippets-points (frames fs ∷ is) ps = snippets-points is ps
+pub snippets-append : (xs ys : List Item) → snippetsOf (xs ++ ys) ≡ snippetsOf xs ++ snippetsOf ys
+snippets-append [] ys = refl
+snippets-append (points ps ∷ xs) ys = ap (λ (l : List (List Point)). ps ∷ l) (snippets-append xs ys)
+snippets-append (frames fs ∷ xs) ys = snippets-append xs ys
 
-snippets-frames : (is : List Item) (fs : List FrameBuilder) → snippetsOf (is ++ (frames fs ∷ [])) ≡ snippetsOf is
-snippets-frames [] fs = refl
-snippets-frames (points qs ∷ is) fs = ap (λ l. qs ∷ l) (snippets-frames is fs)
-snippets-frames (frames gs ∷ is) fs = snippets-frames is fs
-
-sequences-points : (is : List Item) (ps : List Point) → sequencesOf (is ++ (points ps ∷ [])) ≡ sequencesOf is
-sequences-points [] ps = refl
-sequences-points (points qs ∷ is) ps = sequences-points is ps
-sequences-points (frames fs ∷ is) ps = ap (λ l. fs ∷ l) (sequences-points is ps)
-
-sequences-frames : (is : List Item) (fs : List FrameBuilder) → sequencesOf (is ++ (frames fs ∷ [])) ≡ sequencesOf is ++ (fs ∷ [])
-sequences-frames [] fs = refl
-sequences-frames (points qs ∷ is) fs = sequences-frames is fs
-sequences-frames (frames gs ∷ is) fs = ap (λ l. gs ∷ l) (sequences-frames is fs)
+pub sequences-append : (xs ys : List Item) → sequencesOf (xs ++ ys) ≡ sequencesOf xs ++ sequencesOf ys
+sequences-append [] ys = refl
+sequences-append (points ps ∷ xs) ys = sequences-append xs ys
+sequences-append (frames fs ∷ xs) ys = ap (λ (l : List (List FrameBuilder)). fs ∷ l) (sequences-append xs ys)
 
 -- a builder by the snippets and the sequences of its items
 holds-of : (b : WaveformMemoryBuilder) (is : List Item) (ss : List (List Point)) (qs : List (List FrameBuilder)) → snippetsOf is ≡ ss → sequencesOf is ≡ qs
@@ -101,7 +91,7 @@ with-snippet b is s ps h k = some (decLe 1 (s .len)) where
       simp (le-ltb _ _ p, lt-leb _ _ q′)
       (inl (
         refl,
-        holds-of _ _ _ _ (snippets-points is ps) (sequences-points is ps)
+        holds-of _ _ _ _ (snippets-append is (points ps ∷ [])) (sequences-append is (points ps ∷ []) ∙ append-nil (sequencesOf is))
             (shows-more 15 snippetBytes pointBytes (b .snippets) (b .«num_snippets») (snippetsOf is) (record { points = s .points; len = s .len }) ps (h .snippets) q′ (map-take code.byteOf (s .len) (s .points) ∙ k .shows .shown))
             (h .sequences)
             (all-append SnippetAdmitted (snippetsOf is) (ps ∷ []) (h .snippet) (record { some = omega (arith, k .shows .counted); few = omega (arith, k .shows .counted, k .shows .room); each = k .good }, tt))
@@ -126,7 +116,7 @@ with-sequence b is s fs h k = some (decLe 1 (s .len)) where
       simp (le-ltb _ _ p, lt-leb _ _ q′)
       (inl (
         refl,
-        holds-of _ _ _ _ (snippets-frames is fs) (sequences-frames is fs)
+        holds-of _ _ _ _ (snippets-append is (frames fs ∷ []) ∙ append-nil (snippetsOf is)) (sequences-append is (frames fs ∷ []))
             (h .snippets)
             (shows-more 16 sequenceBytes framesBytes (b .sequences) (b .«num_sequences») (sequencesOf is) (record { «data» = s .«data»; len = s .len }) fs (h .sequences) q′ (k .shown))
             (h .snippet)

@@ -36,7 +36,9 @@ use Rattle.pattern.proofs.Outcomes.{Outcome}
 use Rattle.pattern.proofs.Snippets as snippet
 use Rattle.pattern.proofs.Frames.{built-bytes, fieldsAfter, ran-fields}
 use Rattle.pattern.proofs.Sequences as sequence
+use Rattle.pattern.proofs.Sequences.{frames-append}
 use Rattle.pattern.proofs.Memories as memory
+use Rattle.pattern.proofs.Memories.{snippets-append, sequences-append}
 
 -- ---- any builder
 
@@ -147,10 +149,6 @@ ran-plain n ks b e = ran-fields ks (plainFrame n) ∙ ap (λ (m : ℕ). fieldsAf
 abbrev pub FramesFit : List FrameBuilder → Type 0
 FramesFit fs = (length (framesBytes fs) ≤ 96) × (length fs ≤ 32) × All FrameAdmitted fs
 
-frames-append : (xs ys : List FrameBuilder) → framesBytes (xs ++ ys) ≡ framesBytes xs ++ framesBytes ys
-frames-append [] ys = refl
-frames-append (x ∷ xs) ys = ap (λ (l : List ℕ). bytesOf x ++ l) (frames-append xs ys) ∙ sym (append-assoc (bytesOf x) (framesBytes xs) (framesBytes ys))
-
 frames-less : (xs ys : List FrameBuilder) → FramesFit (xs ++ ys) → FramesFit xs
 frames-less xs ys f = (
   let n = ap length (frames-append xs ys) ∙ length-append (framesBytes xs) (framesBytes ys) in omega (arith, f .0),
@@ -195,16 +193,6 @@ record ItemsFit (is : List Item) : Type 0 where
   fewSequences : length (sequencesOf is) ≤ 16
   sequence : All SequenceAdmitted (sequencesOf is)
   short : All Short (sequencesOf is)
-
-snippets-append : (xs ys : List Item) → snippetsOf (xs ++ ys) ≡ snippetsOf xs ++ snippetsOf ys
-snippets-append [] ys = refl
-snippets-append (points ps ∷ xs) ys = ap (λ (l : List (List Point)). ps ∷ l) (snippets-append xs ys)
-snippets-append (frames fs ∷ xs) ys = snippets-append xs ys
-
-sequences-append : (xs ys : List Item) → sequencesOf (xs ++ ys) ≡ sequencesOf xs ++ sequencesOf ys
-sequences-append [] ys = refl
-sequences-append (points ps ∷ xs) ys = sequences-append xs ys
-sequences-append (frames fs ∷ xs) ys = ap (λ (l : List (List FrameBuilder)). fs ∷ l) (sequences-append xs ys)
 
 items-less : (xs ys : List Item) → ItemsFit (xs ++ ys) → ItemsFit xs
 items-less xs ys f =

@@ -44,9 +44,12 @@ over-shown d xs n h =
 over-long : (d xs : List ℕ) (n : ℕ) → n + length xs ≤ length d → length (over d n xs) ≡ length d
 over-long d xs n h = simp (length-append, length-take, length-drop) (omega arith)
 
-pub frames-snoc : (fs : List FrameBuilder) (f : FrameBuilder) → framesBytes (fs ++ (f ∷ [])) ≡ framesBytes fs ++ bytesOf f
-frames-snoc [] f = append-nil {A = ℕ} (bytesOf f)
-frames-snoc (g ∷ fs) f = ap (λ (l : List ℕ). bytesOf g ++ l) (frames-snoc fs f) ∙ sym (append-assoc (bytesOf g) (framesBytes fs) (bytesOf f))
+pub frames-append : (xs ys : List FrameBuilder) → framesBytes (xs ++ ys) ≡ framesBytes xs ++ framesBytes ys
+frames-append [] ys = refl
+frames-append (x ∷ xs) ys = ap (λ (l : List ℕ). bytesOf x ++ l) (frames-append xs ys) ∙ sym (append-assoc (bytesOf x) (framesBytes xs) (framesBytes ys))
+
+frames-snoc : (fs : List FrameBuilder) (f : FrameBuilder) → framesBytes (fs ++ (f ∷ [])) ≡ framesBytes fs ++ bytesOf f
+frames-snoc fs f = frames-append fs (f ∷ []) ∙ ap (λ (l : List ℕ). framesBytes fs ++ l) (append-nil {A = ℕ} (bytesOf f))
 
 abbrev Added : SequenceBuilder → List FrameBuilder → Step SequenceBuilder → FrameBuilder → Type 0
 Added b fs s f = Outcome (s .number) (Holds (s .builder) (fs ++ (f ∷ []))) (Holds (s .builder) fs)
