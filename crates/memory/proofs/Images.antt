@@ -81,7 +81,7 @@ laid-image ss qs h =
     ∙ laid-all xs p [] (98 - length xs) 2 (2 + length ss + length qs) (1 + length ss + length qs) refl (omega arith) (omega arith) (omega arith)
     ∙ simp (k, append-assoc)
 
-joined-length : (ss qs : List (List ℕ)) → length (joined (ss ++ qs)) ≡ length (joined ss) + length (joined qs)
+pub joined-length : (ss qs : List (List ℕ)) → length (joined (ss ++ qs)) ≡ length (joined ss) + length (joined qs)
 joined-length [] qs = omega arith
 joined-length (x ∷ ss) qs = simp (length-append, joined-length ss qs) (omega arith)
 

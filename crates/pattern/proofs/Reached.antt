@@ -30,6 +30,7 @@ use Rattle.sequence.specs.Sequence.{newSequence}
 use Rattle.memory.specs.declared.WaveformMemoryBuilder.{WaveformMemoryBuilder}
 use Rattle.memory.specs.Image.{joined, imageSize}
 use Rattle.memory.specs.Memory.{newMemory, imageNumber, builtMemory}
+use Rattle.memory.proofs.Images.{joined-length}
 use Rattle.content.specs.Content.{Point, Content, pointBytes, framesBytes, SnippetAdmitted, SequenceAdmitted, Admitted}
 use Rattle.pattern.specs.Calls.{ran, held, SnippetCall, ramp, step, snippetStep, addedPoint, pointsFrom, FrameCall, gain, timebase, loopCount, frequencyHz, Begin, new, silence, begun, FrameCalls, numberOf, frameFrom, frameRan, withMadeFrame, sequenceStep, framesFrom, snippetFrom, sequenceFrom, MemoryCall, addSnippet, addSequence, Item, points, frames, snippetsOf, sequencesOf, contentOf, memoryStep, addedItem, contentFrom, builtFrom}
 use Rattle.pattern.proofs.Outcomes.{Outcome}
@@ -271,11 +272,6 @@ sequences-back : (c : Content) → sequencesOf (itemsOf c) ≡ c .sequences
 sequences-back c =
     sequences-append (map points (c .snippets)) (map frames (c .sequences))
     ∙ ap₂ (λ (u v : List (List FrameBuilder)). u ++ v) (sequences-of-points (c .snippets)) (sequences-of-frames (c .sequences))
-
-joined-length : (xs ys : List (List ℕ)) → length (joined (xs ++ ys)) ≡ length (joined xs) + length (joined ys)
-joined-length [] ys = omega arith
-joined-length (x ∷ xs) ys =
-    let n = length-append x (joined (xs ++ ys)) in let m = length-append x (joined xs) in let r = joined-length xs ys in omega arith
 
 all-short : (qs : List (List FrameBuilder)) → length (joined (map framesBytes qs)) ≤ 96 → All Short qs
 all-short [] h = tt
