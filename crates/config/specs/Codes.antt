@@ -12,6 +12,8 @@ use Rattle.config.specs.declared.OperationMode.{OperationMode}
 use Rattle.config.specs.declared.OperationMode.the-variants.{INACTIVE, «DRO_MODE», «PWM_MODE», «RTWM_MODE», «ETWM_MODE»}
 use Rattle.config.specs.declared.DrivingMode.{DrivingMode}
 use Rattle.config.specs.declared.DrivingMode.the-variants.{«FREQUENCY_TRACK», WIDEBAND, «CUSTOM_WAVEFORM»}
+use Rattle.config.specs.declared.Variant.{Variant}
+use Rattle.config.specs.declared.Variant.the-variants.{DA7280, DA7281, DA7282}
 
 abbrev pub actuatorCode : ActuatorType → ℕ
 actuatorCode LRA = 0
@@ -52,3 +54,11 @@ drivingCode «CUSTOM_WAVEFORM» = 2
 
 abbrev pub drivingAt : ℕ → DrivingMode
 drivingAt code = getD («FREQUENCY_TRACK» ∷ WIDEBAND ∷ []) code «CUSTOM_WAVEFORM»
+
+abbrev pub variantCode : Variant → ℕ
+variantCode DA7280 = 0
+variantCode DA7281 = 1
+variantCode DA7282 = 2
+
+abbrev pub variantAt : ℕ → Variant
+variantAt code = getD (DA7280 ∷ DA7281 ∷ []) code DA7282

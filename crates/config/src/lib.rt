@@ -1,8 +1,8 @@
-// The settings of an actuator and of the chip (config.rs; document 01, 'Settings to registers').
+// The settings of an actuator and of the chip (config.rs; document 01, 'Settings to registers'), and the chip's variant (lib.rs).
 // An `Option` is an enum of given or absent. The three triggers are three fields, since a field that is an array of enums is
 // not a covered form. Proved: each choice's code is the Rust's number for it, and a code past the last counts as the last.
 ghost use mathlib.Core.Path.{_≡_};
-ghost use Rattle.config.specs.Codes.{actuatorCode, triggerModeCode, polarityCode, operationCode, drivingCode, actuatorAt, triggerModeAt, polarityAt, operationAt, drivingAt};
+ghost use Rattle.config.specs.Codes.{actuatorCode, triggerModeCode, polarityCode, operationCode, drivingCode, variantCode, actuatorAt, triggerModeAt, polarityAt, operationAt, drivingAt, variantAt};
 
 pub struct ActuatorConfig {
     pub actuator_type: ActuatorType,
@@ -69,6 +69,13 @@ pub enum DrivingMode {
     FREQUENCY_TRACK,
     WIDEBAND,
     CUSTOM_WAVEFORM,
+}
+
+// lib.rs
+pub enum Variant {
+    DA7280,
+    DA7281,
+    DA7282,
 }
 
 impl ActuatorType {
@@ -177,6 +184,28 @@ impl DrivingMode {
             0 => DrivingMode::FREQUENCY_TRACK,
             1 => DrivingMode::WIDEBAND,
             _ => DrivingMode::CUSTOM_WAVEFORM,
+        }
+    }
+}
+
+impl Variant {
+    pub fn code(self) -> u8
+        ensures { λ r. ⌜ r ≡ variantCode self ⌝ }
+    {
+        match self {
+            Variant::DA7280 => 0,
+            Variant::DA7281 => 1,
+            Variant::DA7282 => 2,
+        }
+    }
+
+    pub fn from_code(code: u8) -> Variant
+        ensures { λ r. ⌜ r ≡ variantAt code ⌝ }
+    {
+        match code {
+            0 => Variant::DA7280,
+            1 => Variant::DA7281,
+            _ => Variant::DA7282,
         }
     }
 }

@@ -1,0 +1,207 @@
+// The checks that `configure` makes before its first exchange (lib.rs; document 01, 'Settings to registers').
+// Proved: the answer is the number of the first check of specs/Checks.antt that fails, in that order. proofs/Accepted.antt: what
+// holds of settings that pass them all.
+ghost use mathlib.Core.Path.{_≡_};
+ghost use mathlib.Core.Bool.{not, _&&_, _||_};
+ghost use lib.Dec.{ltb, eqb};
+ghost use Rattle.errors.specs.Number.{answerNumber};
+ghost use Rattle.checks.specs.Checks as spec;
+use config::ActuatorConfig;
+use config::DeviceConfig;
+use config::DrivingMode;
+use config::OperationMode;
+use config::Trigger;
+use config::Variant;
+use errors::Answer;
+use errors::Error;
+
+pub fn configure_checks(variant: Variant, actuator: ActuatorConfig, device: DeviceConfig) -> Answer
+    ensures { λ r. ⌜ answerNumber r ≡ spec.configureNumber variant actuator device ⌝ }
+{
+    let mode = device.driving_mode;
+    if needs_tracking(device) {
+        return Answer::Refused(Error::WrongMode);
+    }
+    if lacks_trigger(device) {
+        return Answer::Refused(Error::MissingTriggerConfigInEtwmMode);
+    }
+    if has_too_many_triggers(variant, device) {
+        return Answer::Refused(Error::NotSupported);
+    }
+    if 6000 < actuator.nominal_max_mV {
+        return Answer::Refused(Error::InvalidValue);
+    }
+    if 6000 < actuator.absolute_max_mV {
+        return Answer::Refused(Error::InvalidValue);
+    }
+    if 252 < actuator.max_current_mA {
+        return Answer::Refused(Error::InvalidValue);
+    }
+    if outside_impedance(actuator.impedance_mOhm) {
+        return Answer::Refused(Error::InvalidValue);
+    }
+    if outside_band(mode, actuator.frequency_Hz) {
+        return Answer::Refused(Error::InvalidValue);
+    }
+    // from here on the checks that the Rust lacks
+    if 5990 < actuator.nominal_max_mV {
+        return Answer::Refused(Error::InvalidValue);
+    }
+    if 5990 < actuator.absolute_max_mV {
+        return Answer::Refused(Error::InvalidValue);
+    }
+    if actuator.max_current_mA < 29 {
+        return Answer::Refused(Error::InvalidValue);
+    }
+    if triggers_above_15(device) {
+        return Answer::Refused(Error::InvalidValue);
+    }
+    if device.rapid_stop {
+        return Answer::Refused(Error::NotSupported);
+    }
+    Answer::Done
+}
+
+// Whether a frequency lies outside the band of the driving mode.
+pub fn outside_band(mode: DrivingMode, hz: u16) -> bool
+    ensures { λ r. ⌜ r ≡ spec.outsideBand mode hz ⌝ }
+{
+    if is_tracking(mode) {
+        if hz < 50 {
+            return true;
+        }
+        return 300 < hz;
+    }
+    if hz < 25 {
+        return true;
+    }
+    1024 < hz
+}
+
+pub fn is_tracking(mode: DrivingMode) -> bool
+    ensures { λ r. ⌜ r ≡ spec.tracking mode ⌝ }
+{
+    match mode {
+        DrivingMode::FREQUENCY_TRACK => true,
+        DrivingMode::WIDEBAND => false,
+        DrivingMode::CUSTOM_WAVEFORM => false,
+    }
+}
+
+pub fn is_etwm(mode: OperationMode) -> bool
+    ensures { λ r. ⌜ r ≡ spec.etwm mode ⌝ }
+{
+    match mode {
+        OperationMode::INACTIVE => false,
+        OperationMode::DRO_MODE => false,
+        OperationMode::PWM_MODE => false,
+        OperationMode::RTWM_MODE => false,
+        OperationMode::ETWM_MODE => true,
+    }
+}
+
+// Acceleration or rapid stop when not tracking.
+fn needs_tracking(device: DeviceConfig) -> bool
+    ensures { λ r. ⌜ r ≡ (not (spec.tracking (device .«driving_mode»)) && (device .acceleration || device .«rapid_stop»)) ⌝ }
+{
+    let mode = device.driving_mode;
+    if is_tracking(mode) {
+        return false;
+    }
+    if device.acceleration {
+        return true;
+    }
+    device.rapid_stop
+}
+
+// In ETWM mode, no trigger.
+fn lacks_trigger(device: DeviceConfig) -> bool
+    ensures { λ r. ⌜ r ≡ (spec.etwm (device .«operation_mode») && eqb (spec.triggersGiven device) 0) ⌝ }
+{
+    let mode = device.operation_mode;
+    if is_etwm(mode) {
+        return triggers_given(device) == 0;
+    }
+    false
+}
+
+// In ETWM mode, more than one trigger on the DA7281.
+fn has_too_many_triggers(variant: Variant, device: DeviceConfig) -> bool
+    ensures { λ r. ⌜ r ≡ (spec.etwm (device .«operation_mode») && (spec.isDA7281 variant && ltb 1 (spec.triggersGiven device))) ⌝ }
+{
+    let mode = device.operation_mode;
+    if is_etwm(mode) {
+        if is_DA7281(variant) {
+            return 1 < triggers_given(device);
+        }
+        return false;
+    }
+    false
+}
+
+fn is_DA7281(variant: Variant) -> bool
+    ensures { λ r. ⌜ r ≡ spec.isDA7281 variant ⌝ }
+{
+    match variant {
+        Variant::DA7280 => false,
+        Variant::DA7281 => true,
+        Variant::DA7282 => false,
+    }
+}
+
+fn outside_impedance(mOhm: u16) -> bool
+    ensures { λ r. ⌜ r ≡ (ltb mOhm 4000 || ltb 49999 mOhm) ⌝ }
+{
+    if mOhm < 4000 {
+        return true;
+    }
+    49999 < mOhm
+}
+
+fn triggers_given(device: DeviceConfig) -> u8
+    ensures { λ r. ⌜ r ≡ spec.triggersGiven device ⌝ }
+{
+    let t0 = device.gpi_trigger_0;
+    let t1 = device.gpi_trigger_1;
+    let t2 = device.gpi_trigger_2;
+    given(t0) + given(t1) + given(t2)
+}
+
+// 1 for a trigger that is given, 0 for one that is not.
+fn given(trigger: Trigger) -> u8
+    ensures { λ r. ⌜ r ≡ spec.given trigger ⌝ }
+{
+    match trigger {
+        Trigger::Absent => 0,
+        Trigger::Given(_) => 1,
+    }
+}
+
+// In ETWM mode, a given trigger's sequence number above 15.
+fn triggers_above_15(device: DeviceConfig) -> bool
+    ensures { λ r. ⌜ r ≡ (spec.etwm (device .«operation_mode») && (spec.above15 (device .«gpi_trigger_0») || (spec.above15 (device .«gpi_trigger_1») || spec.above15 (device .«gpi_trigger_2»)))) ⌝ }
+{
+    let mode = device.operation_mode;
+    if is_etwm(mode) {
+        let t0 = device.gpi_trigger_0;
+        let t1 = device.gpi_trigger_1;
+        let t2 = device.gpi_trigger_2;
+        if is_above_15(t0) {
+            return true;
+        }
+        if is_above_15(t1) {
+            return true;
+        }
+        return is_above_15(t2);
+    }
+    false
+}
+
+fn is_above_15(trigger: Trigger) -> bool
+    ensures { λ r. ⌜ r ≡ spec.above15 trigger ⌝ }
+{
+    match trigger {
+        Trigger::Absent => false,
+        Trigger::Given(t) => 15 < t.sequence_id,
+    }
+}

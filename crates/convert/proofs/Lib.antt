@@ -1,0 +1,4 @@
+pub mod Rows
+pub mod Signs
+pub mod Sizes
+pub mod Whole

@@ -1,0 +1,3 @@
+-- The definitions that the contracts of `convert` cite.
+pub mod Convert
+pub mod Trim

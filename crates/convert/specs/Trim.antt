@@ -1,0 +1,62 @@
+-- TRIM4: document 01, 'Settings to registers', with L in µH.
+use Prim.Native.Nat.{ℕ, _-_, _/_, min}
+use mathlib.Core.Bool.{cond}
+use mathlib.Core.List.{List, [], _∷_}
+use lib.Dec.{leb}
+use lib.ListN.{getD}
+use Rattle.field.specs.Layout.{withAt}
+use Rattle.registers_trigger.specs.Table.{trim4}
+
+-- "cap code 3 to 17, 2 to 27, 1 to 40, else 0"
+abbrev pub capCode : ℕ → ℕ
+capCode uH = cond (leb uH 17) 3 (cond (leb uH 27) 2 (cond (leb uH 40) 1 0))
+
+-- "column min(9, max(0, L − 13) / 25)"; what is subtracted from less is 0
+abbrev pub column : ℕ → ℕ
+column uH = min 9 ((uH - 13) / 25)
+
+-- a row of the table: its codes, one for each column, up to this many whole ohms
+pub record Row : Type 0 where
+  pub upTo : ℕ
+  pub codes : List ℕ
+
+abbrev row : ℕ → List ℕ → Row
+row ohms codes = record { upTo = ohms; codes = codes }
+
+-- "rows as in `configure`'s `match`"
+abbrev pub rows : List Row
+rows =
+    row 5 (2 ∷ 2 ∷ 3 ∷ 3 ∷ 3 ∷ 3 ∷ 3 ∷ 3 ∷ 3 ∷ 3 ∷ [])
+    ∷ row 7 (1 ∷ 2 ∷ 2 ∷ 3 ∷ 3 ∷ 3 ∷ 3 ∷ 3 ∷ 3 ∷ 3 ∷ [])
+    ∷ row 9 (1 ∷ 2 ∷ 2 ∷ 2 ∷ 3 ∷ 3 ∷ 3 ∷ 3 ∷ 3 ∷ 3 ∷ [])
+    ∷ row 11 (0 ∷ 1 ∷ 2 ∷ 2 ∷ 2 ∷ 3 ∷ 3 ∷ 3 ∷ 3 ∷ 3 ∷ [])
+    ∷ row 13 (0 ∷ 1 ∷ 2 ∷ 2 ∷ 2 ∷ 2 ∷ 3 ∷ 3 ∷ 3 ∷ 3 ∷ [])
+    ∷ row 15 (0 ∷ 1 ∷ 1 ∷ 2 ∷ 2 ∷ 2 ∷ 2 ∷ 3 ∷ 3 ∷ 3 ∷ [])
+    ∷ row 17 (0 ∷ 1 ∷ 1 ∷ 2 ∷ 2 ∷ 2 ∷ 2 ∷ 2 ∷ 3 ∷ 3 ∷ [])
+    ∷ row 19 (0 ∷ 0 ∷ 1 ∷ 1 ∷ 2 ∷ 2 ∷ 2 ∷ 2 ∷ 2 ∷ 3 ∷ [])
+    ∷ row 21 (0 ∷ 1 ∷ 1 ∷ 2 ∷ 2 ∷ 2 ∷ 3 ∷ 3 ∷ 3 ∷ 3 ∷ [])
+    ∷ row 23 (0 ∷ 1 ∷ 1 ∷ 2 ∷ 2 ∷ 2 ∷ 2 ∷ 3 ∷ 3 ∷ 3 ∷ [])
+    ∷ row 25 (0 ∷ 1 ∷ 1 ∷ 2 ∷ 2 ∷ 2 ∷ 2 ∷ 3 ∷ 3 ∷ 3 ∷ [])
+    ∷ row 27 (0 ∷ 1 ∷ 1 ∷ 2 ∷ 2 ∷ 2 ∷ 2 ∷ 2 ∷ 3 ∷ 3 ∷ [])
+    ∷ row 31 (0 ∷ 1 ∷ 2 ∷ 2 ∷ 2 ∷ 3 ∷ 3 ∷ 3 ∷ 3 ∷ 3 ∷ [])
+    ∷ row 33 (0 ∷ 1 ∷ 2 ∷ 2 ∷ 2 ∷ 2 ∷ 3 ∷ 3 ∷ 3 ∷ 3 ∷ [])
+    ∷ row 35 (0 ∷ 1 ∷ 1 ∷ 2 ∷ 2 ∷ 2 ∷ 3 ∷ 3 ∷ 3 ∷ 3 ∷ [])
+    ∷ row 41 (0 ∷ 1 ∷ 1 ∷ 2 ∷ 2 ∷ 2 ∷ 2 ∷ 3 ∷ 3 ∷ 3 ∷ [])
+    ∷ row 45 (0 ∷ 1 ∷ 2 ∷ 2 ∷ 3 ∷ 3 ∷ 3 ∷ 3 ∷ 3 ∷ 3 ∷ [])
+    ∷ []
+
+-- "last row from 46 ohms"
+abbrev pub lastRow : List ℕ
+lastRow = 0 ∷ 1 ∷ 2 ∷ 2 ∷ 2 ∷ 3 ∷ 3 ∷ 3 ∷ 3 ∷ 3 ∷ []
+
+abbrev pub rowAt : ℕ → List Row → List ℕ
+rowAt ohms [] = lastRow
+rowAt ohms (r ∷ rs) = cond (leb ohms (r .upTo)) (r .codes) (rowAt ohms rs)
+
+-- "The resistance code follows whole ohms, mOhm / 1000, and column"
+abbrev pub resistanceCode : ℕ → ℕ → ℕ
+resistanceCode mOhm uH = getD (rowAt (mOhm / 1000) rows) (column uH) 0
+
+-- both codes in their fields
+abbrev pub trim4Byte : ℕ → ℕ → ℕ
+trim4Byte mOhm uH = withAt trim4 "LOOP_FILT_RES_TRIM" (withAt trim4 "LOOP_FILT_CAP_TRIM" 0 (capCode uH)) (resistanceCode mOhm uH)

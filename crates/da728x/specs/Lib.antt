@@ -1,0 +1,2 @@
+-- The definitions that the contracts of `da728x` cite.
+pub mod Record

@@ -1,0 +1,16 @@
+use borrow.Author.Needs.{needs}
+use Rattle.driver.proofs.above_15.Statement.{statement}
+use Rattle.driver.proofs.above_15.Tie as tie
+use Rattle.driver.proofs.above_15.Reads as reads
+use Rattle.driver.proofs.above_15.Lts as lts
+
+-- src/lib.rt:476:9
+returns : tie.Need-returns
+returns c = ?
+
+-- src/lib.rt:472:1
+returns-2 : tie.Need-returns-2
+returns-2 c = ?
+
+pub above-15-spec : {M : Type 1} → statement M
+above-15-spec = tie.close (tie.spec returns returns-2)

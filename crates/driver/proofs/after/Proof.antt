@@ -1,0 +1,29 @@
+use borrow.Author.Needs.{needs}
+use Rattle.driver.proofs.after.Statement.{statement}
+use Rattle.driver.proofs.after.Tie as tie
+use Rattle.driver.proofs.after.Reads as reads
+use Rattle.driver.proofs.after.Lts as lts
+use Rattle.driver.proofs.handed_back.Reads as handed-back-reads
+
+-- src/lib.rt:510:11
+handed-back-requires : tie.Need-handed-back-requires
+handed-back-requires c κs = search needs
+
+-- src/lib.rt:511:27
+enum-told : tie.Need-enum-told
+enum-told c = search needs
+
+-- src/lib.rt:512:23
+enum-known-next : tie.Need-enum-known-next
+enum-known-next c = search needs
+
+-- src/lib.rt:507:1
+returns : tie.Need-returns
+returns c = ?
+
+-- src/lib.rt:507:1
+returns-2 : tie.Need-returns-2
+returns-2 c = ?
+
+pub after-spec : {M : Type 1} → statement M
+after-spec = tie.close (tie.spec handed-back-requires enum-told enum-known-next returns returns-2)

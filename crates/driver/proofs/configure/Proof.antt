@@ -1,0 +1,53 @@
+use borrow.Author.Needs.{needs}
+use Rattle.driver.proofs.configure.Statement.{statement}
+use Rattle.driver.proofs.configure.Tie as tie
+use Rattle.driver.proofs.configure.Reads as reads
+use Rattle.driver.proofs.configure.Lts as lts
+use Rattle.checks.proofs.configure_checks.Reads as configure-checks-reads
+use Rattle.driver.proofs.begin_with.Reads as begin-with-reads
+use Rattle.plans.proofs.configure.Reads as configure-reads
+
+-- src/lib.rt:77:11
+configure-checks-requires : tie.Need-configure-checks-requires
+configure-checks-requires c κs = search needs
+
+-- src/lib.rt:78:25
+enum-known-e : tie.Need-enum-known-e
+enum-known-e c = search needs
+
+-- src/lib.rt:83:27
+enum-told : tie.Need-enum-told
+enum-told c = search needs
+
+-- src/lib.rt:85:13
+begin-with-requires : tie.Need-begin-with-requires
+begin-with-requires c κs = search needs
+
+-- src/lib.rt:86:13
+configure-requires : tie.Need-configure-requires
+configure-requires c κs = search needs
+
+-- src/lib.rt:72:1
+returns : tie.Need-returns
+returns c = ?
+
+-- src/lib.rt:72:1
+same-length : tie.Need-same-length
+same-length c = search needs
+
+-- src/lib.rt:72:1
+returns-2 : tie.Need-returns-2
+returns-2 c = ?
+
+pub configure-spec : {M : Type 1} → statement M
+configure-spec =
+    tie.close
+    (tie.spec
+    configure-checks-requires
+    enum-known-e
+    enum-told
+    begin-with-requires
+    configure-requires
+    returns
+    same-length
+    returns-2)

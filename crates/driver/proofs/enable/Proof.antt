@@ -1,0 +1,53 @@
+use borrow.Author.Needs.{needs}
+use Rattle.driver.proofs.enable.Statement.{statement}
+use Rattle.driver.proofs.enable.Tie as tie
+use Rattle.driver.proofs.enable.Reads as reads
+use Rattle.driver.proofs.enable.Lts as lts
+use Rattle.driver.proofs.enabled.Reads as enabled-reads
+use Rattle.driver.proofs.run.Reads as run-reads
+use Rattle.registers.proofs.Register.address.Reads as address-reads
+
+-- src/lib.rt:209:45
+enum-told : tie.Need-enum-told
+enum-told c = search needs
+
+-- src/lib.rt:210:28
+enum-known-settings : tie.Need-enum-known-settings
+enum-known-settings c = search needs
+
+-- src/lib.rt:215:29
+address-requires : tie.Need-address-requires
+address-requires c κs = search needs
+
+-- src/lib.rt:215:59
+enabled-requires : tie.Need-enabled-requires
+enabled-requires c κs = search needs
+
+-- src/lib.rt:212:13
+run-requires : tie.Need-run-requires
+run-requires c κs = search needs
+
+-- src/lib.rt:203:1
+returns : tie.Need-returns
+returns c = search needs
+
+-- src/lib.rt:203:1
+same-length : tie.Need-same-length
+same-length c = search needs
+
+-- src/lib.rt:203:1
+returns-2 : tie.Need-returns-2
+returns-2 c = ?
+
+pub enable-spec : {M : Type 1} → statement M
+enable-spec =
+    tie.close
+    (tie.spec
+    enum-told
+    enum-known-settings
+    address-requires
+    enabled-requires
+    run-requires
+    returns
+    same-length
+    returns-2)

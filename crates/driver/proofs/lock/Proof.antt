@@ -1,0 +1,37 @@
+use borrow.Author.Needs.{needs}
+use Rattle.driver.proofs.lock.Statement.{statement}
+use Rattle.driver.proofs.lock.Tie as tie
+use Rattle.driver.proofs.lock.Reads as reads
+use Rattle.driver.proofs.lock.Lts as lts
+use Rattle.driver.proofs.mem_ctl2.Reads as mem-ctl2-reads
+use Rattle.exchange.proofs.push.Reads as push-reads
+use Rattle.registers.proofs.Register.address.Reads as address-reads
+
+-- src/lib.rt:382:25
+address-requires : tie.Need-address-requires
+address-requires c κs = search needs
+
+-- src/lib.rt:382:55
+mem-ctl2-requires : tie.Need-mem-ctl2-requires
+mem-ctl2-requires c κs = search needs
+
+-- src/lib.rt:380:9
+push-requires : tie.Need-push-requires
+push-requires c κs = search needs
+
+-- src/lib.rt:376:1
+same-length : tie.Need-same-length
+same-length c = search needs
+
+-- src/lib.rt:376:1
+returns : tie.Need-returns
+returns c = ?
+
+-- src/lib.rt:376:1
+returns-2 : tie.Need-returns-2
+returns-2 c = ?
+
+pub lock-spec : {M : Type 1} → statement M
+lock-spec =
+    tie.close
+    (tie.spec address-requires mem-ctl2-requires push-requires same-length returns returns-2)

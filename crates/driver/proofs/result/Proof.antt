@@ -1,0 +1,52 @@
+use borrow.Author.Needs.{needs}
+use Rattle.driver.proofs.result.Statement.{statement}
+use Rattle.driver.proofs.result.Tie as tie
+use Rattle.driver.proofs.result.Reads as reads
+use Rattle.driver.proofs.result.Lts as lts
+use Rattle.exchange.proofs.is_completed.Reads as is-completed-reads
+use Rattle.exchange.proofs.memory_reads.Reads as memory-reads-reads
+
+-- src/lib.rt:521:12
+is-completed-requires : tie.Need-is-completed-requires
+is-completed-requires c κs = search needs
+
+-- src/lib.rt:522:17
+memory-reads-requires : tie.Need-memory-reads-requires
+memory-reads-requires c κs = search needs
+
+-- src/lib.rt:523:38
+shared-slice-read-t7 : tie.Need-shared-slice-read-t7
+shared-slice-read-t7 c = search needs
+
+-- src/lib.rt:523:50
+shared-slice-read-t9 : tie.Need-shared-slice-read-t9
+shared-slice-read-t9 c = search needs
+
+-- src/lib.rt:523:62
+shared-slice-read-t11 : tie.Need-shared-slice-read-t11
+shared-slice-read-t11 c = search needs
+
+-- src/lib.rt:523:13
+returns : tie.Need-returns
+returns c = ?
+
+-- src/lib.rt:517:1
+returns-2 : tie.Need-returns-2
+returns-2 c = ?
+
+-- src/lib.rt:517:1
+returns-3 : tie.Need-returns-3
+returns-3 c = ?
+
+pub result-spec : {M : Type 1} → statement M
+result-spec =
+    tie.close
+    (tie.spec
+    is-completed-requires
+    memory-reads-requires
+    shared-slice-read-t7
+    shared-slice-read-t9
+    shared-slice-read-t11
+    returns
+    returns-2
+    returns-3)

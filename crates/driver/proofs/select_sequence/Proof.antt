@@ -1,0 +1,49 @@
+use borrow.Author.Needs.{needs}
+use Rattle.driver.proofs.select_sequence.Statement.{statement}
+use Rattle.driver.proofs.select_sequence.Tie as tie
+use Rattle.driver.proofs.select_sequence.Reads as reads
+use Rattle.driver.proofs.select_sequence.Lts as lts
+use Rattle.driver.proofs.above_15.Reads as above-15-reads
+use Rattle.driver.proofs.run.Reads as run-reads
+use Rattle.driver.proofs.seq_ctl2.Reads as seq-ctl2-reads
+use Rattle.registers.proofs.Register.address.Reads as address-reads
+
+-- src/lib.rt:426:8
+above-15-requires : tie.Need-above-15-requires
+above-15-requires c κs = search needs
+
+-- src/lib.rt:427:9
+returns : tie.Need-returns
+returns c = ?
+
+-- src/lib.rt:432:21
+address-requires : tie.Need-address-requires
+address-requires c κs = search needs
+
+-- src/lib.rt:432:51
+seq-ctl2-requires : tie.Need-seq-ctl2-requires
+seq-ctl2-requires c κs = search needs
+
+-- src/lib.rt:429:5
+run-requires : tie.Need-run-requires
+run-requires c κs = search needs
+
+-- src/lib.rt:422:1
+same-length : tie.Need-same-length
+same-length c = search needs
+
+-- src/lib.rt:422:1
+returns-2 : tie.Need-returns-2
+returns-2 c = ?
+
+pub select-sequence-spec : {M : Type 1} → statement M
+select-sequence-spec =
+    tie.close
+    (tie.spec
+    above-15-requires
+    returns
+    address-requires
+    seq-ctl2-requires
+    run-requires
+    same-length
+    returns-2)

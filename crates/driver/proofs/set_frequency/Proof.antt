@@ -1,0 +1,58 @@
+use borrow.Author.Needs.{needs}
+use Rattle.driver.proofs.set_frequency.Statement.{statement}
+use Rattle.driver.proofs.set_frequency.Tie as tie
+use Rattle.driver.proofs.set_frequency.Reads as reads
+use Rattle.driver.proofs.set_frequency.Lts as lts
+use Rattle.checks.proofs.outside_band.Reads as outside-band-reads
+use Rattle.driver.proofs.begin.Reads as begin-reads
+use Rattle.plans.proofs.frequency.Reads as frequency-reads
+
+-- src/lib.rt:142:45
+enum-told : tie.Need-enum-told
+enum-told c = search needs
+
+-- src/lib.rt:143:28
+enum-known-settings : tie.Need-enum-known-settings
+enum-known-settings c = search needs
+
+-- src/lib.rt:145:16
+outside-band-requires : tie.Need-outside-band-requires
+outside-band-requires c κs = search needs
+
+-- src/lib.rt:146:17
+returns : tie.Need-returns
+returns c = ?
+
+-- src/lib.rt:148:13
+begin-requires : tie.Need-begin-requires
+begin-requires c κs = search needs
+
+-- src/lib.rt:149:13
+frequency-requires : tie.Need-frequency-requires
+frequency-requires c κs = search needs
+
+-- src/lib.rt:136:1
+returns-2 : tie.Need-returns-2
+returns-2 c = search needs
+
+-- src/lib.rt:136:1
+same-length : tie.Need-same-length
+same-length c = search needs
+
+-- src/lib.rt:136:1
+returns-3 : tie.Need-returns-3
+returns-3 c = ?
+
+pub set-frequency-spec : {M : Type 1} → statement M
+set-frequency-spec =
+    tie.close
+    (tie.spec
+    enum-told
+    enum-known-settings
+    outside-band-requires
+    returns
+    begin-requires
+    frequency-requires
+    returns-2
+    same-length
+    returns-3)

@@ -1,0 +1,30 @@
+use borrow.Author.Needs.{needs}
+use Rattle.driver.proofs.update.Statement.{statement}
+use Rattle.driver.proofs.update.Tie as tie
+use Rattle.driver.proofs.update.Reads as reads
+use Rattle.driver.proofs.update.Lts as lts
+use Rattle.driver.proofs.begin.Reads as begin-reads
+use Rattle.exchange.proofs.push.Reads as push-reads
+
+-- src/lib.rt:559:5
+begin-requires : tie.Need-begin-requires
+begin-requires c κs = search needs
+
+-- src/lib.rt:560:5
+push-requires : tie.Need-push-requires
+push-requires c κs = search needs
+
+-- src/lib.rt:561:5
+push-requires-2 : tie.Need-push-requires-2
+push-requires-2 c κs = search needs
+
+-- src/lib.rt:556:1
+same-length : tie.Need-same-length
+same-length c = search needs
+
+-- src/lib.rt:556:1
+returns : tie.Need-returns
+returns c = ?
+
+pub update-spec : {M : Type 1} → statement M
+update-spec = tie.close (tie.spec begin-requires push-requires push-requires-2 same-length returns)

@@ -1,0 +1,16 @@
+use borrow.Author.Needs.{needs}
+use Rattle.driver.proofs.wrong_sign.Statement.{statement}
+use Rattle.driver.proofs.wrong_sign.Tie as tie
+use Rattle.driver.proofs.wrong_sign.Reads as reads
+use Rattle.driver.proofs.wrong_sign.Lts as lts
+
+-- src/lib.rt:185:9
+returns : tie.Need-returns
+returns c = ?
+
+-- src/lib.rt:181:1
+returns-2 : tie.Need-returns-2
+returns-2 c = search needs
+
+pub wrong-sign-spec : {M : Type 1} → statement M
+wrong-sign-spec = tie.close (tie.spec returns returns-2)

@@ -1,0 +1,14 @@
+pub mod Answers
+pub mod Begins
+pub mod Ends
+pub mod Fills
+pub mod Keeps
+pub mod Laid
+pub mod Left
+pub mod Moves
+pub mod Order
+pub mod Plan
+pub mod Pushes
+pub mod Session
+pub mod Takes
+pub mod Turns

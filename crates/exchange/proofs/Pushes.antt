@@ -1,0 +1,86 @@
+-- Pushing steps one after another to a session that was begun is beginning it with them.
+-- Assumes nothing.
+use Prim.Native.Nat.{ℕ, _+_, _-_, _*_, _≤_, _<_}
+use native.Mathlib.Omega.{arith}
+use mathlib.Core.Path.{_≡_, refl, sym, _∙_, ap}
+use mathlib.Core.Bool.{Bool, true, false, cond}
+use mathlib.Core.List.{List, [], _∷_, _++_, append-nil, append-assoc}
+use lib.ListN.{length, drop, replicate, length-append, replicate-append-replicate}
+use lib.Seq.{take-at, drop-at, drop-drop, append-snoc}
+use borrow.Author.Tests.{eq-eqb, lt-ltb}
+use Rattle.laws.specs.Copied.{over}
+use Rattle.exchange.specs.declared.Step.{Step}
+use Rattle.exchange.specs.Steps.{stepBytes}
+use Rattle.exchange.specs.State.{isSession, headOf, Begun, joinedSteps, begunBytes, begunIn, pushed, pushedAll}
+use Rattle.exchange.proofs.Plan.{length-step, length-joined}
+use Rattle.exchange.proofs.Begins.{size}
+
+-- pushing some and then others is pushing them all
+pub push-append : (xs ys : List Step) (st : List ℕ) → pushedAll st (xs ++ ys) ≡ pushedAll (pushedAll st xs) ys
+push-append [] ys st = refl
+push-append (x ∷ xs) ys st = push-append xs ys (pushed st x)
+
+-- the bytes of steps, and of one more
+joined-more : (xs : List Step) (x : Step) → joinedSteps (xs ++ (x ∷ [])) ≡ joinedSteps xs ++ stepBytes x
+joined-more [] x = append-nil (stepBytes x)
+joined-more (y ∷ xs) x = ap (λ (l : List ℕ). stepBytes y ++ l) (joined-more xs x) ∙ sym (append-assoc (stepBytes y) (joinedSteps xs) (stepBytes x))
+
+-- bytes laid over as many behind the first n
+over-at : (p z rest bytes : List ℕ) (n : ℕ) → length p ≡ n → length z ≡ length bytes → over (p ++ (z ++ rest)) n bytes ≡ p ++ bytes ++ rest
+over-at p z rest bytes n e h =
+    let d = ap (drop (length bytes)) (drop-at p (z ++ rest) n e) ∙ drop-at z rest (length bytes) h in
+    let f = sym (drop-drop (length bytes) n (p ++ (z ++ rest))) ∙ d in
+    λ t. take-at p (z ++ rest) n e t ++ bytes ++ f t
+
+-- the zeros behind n steps, of which five go to one more
+abbrev zeros : ℕ → List ℕ
+zeros n = replicate (125 - 5 * n) 0
+
+zeros-more : (n : ℕ) → n < 25 → zeros n ≡ replicate 5 0 ++ zeros (n + 1)
+zeros-more n h =
+    let k : 5 + (125 - 5 * (n + 1)) ≡ 125 - 5 * n = omega arith in
+    sym (replicate-append-replicate {A = ℕ} 5 (125 - 5 * (n + 1)) 0 ∙ ap (λ (m : ℕ). replicate m 0) k)
+
+-- bytes of another number take no step
+push-none : (ys : List Step) (st : List ℕ) → isSession st ≡ false → pushedAll st ys ≡ st
+unfolding pushed
+push-none [] st s = refl
+push-none (y ∷ ys) st s = rw s (push-none ys st s)
+
+module _ (b : Begun) (image : length (b .image) ≡ 100) (handed : length (b .handed) ≡ 37) where
+  -- what stands before the steps, where there are n
+  abbrev front : ℕ → List ℕ
+  front n = headOf (b .address) (b .reads) (b .room) n ++ b .image ++ b .handed
+
+  -- one step more
+  push-one : (xs : List Step) (x : Step) → length xs < 25 → pushed (begunBytes b xs) x ≡ begunBytes b (xs ++ (x ∷ []))
+  unfolding pushed
+  push-one xs x h =
+      let n = length xs in
+      let p = front (n + 1) ++ joinedSteps xs in
+      let e : length p ≡ 153 + 5 * n = simp (length-append, length-joined, image, handed) (omega arith) in
+      let m : n + 1 ≡ length (xs ++ (x ∷ [])) = sym (length-append xs (x ∷ [])) in
+      let k = ap (λ (z : List ℕ). over (p ++ z) (153 + 5 * n) (stepBytes x)) (zeros-more n h) in
+      let o = over-at p (replicate 5 0) (zeros (n + 1)) (stepBytes x) (153 + 5 * n) e (sym (length-step x)) in
+      let a = append-assoc (front (n + 1)) (joinedSteps xs) (stepBytes x) in
+      let j = sym (joined-more xs x) in
+      rw (eq-eqb _ _ (size b xs (omega arith) image handed), lt-ltb _ _ h) (k ∙ o ∙ (λ t. a t ++ zeros (n + 1)) ∙ (λ t. front (m t) ++ j t ++ zeros (m t)))
+
+  -- one after another
+  push-more : (ys xs : List Step) → length (xs ++ ys) ≤ 25 → pushedAll (begunBytes b xs) ys ≡ begunBytes b (xs ++ ys)
+  push-more [] xs h = ap (begunBytes b) (sym (append-nil xs))
+  push-more (y ∷ ys) xs h =
+      let e : xs ++ (y ∷ []) ++ ys ≡ xs ++ y ∷ ys = append-snoc xs y ys in
+      ap (λ (l : List ℕ). pushedAll l ys) (push-one xs y (omega (arith, length-append xs (y ∷ ys))))
+      ∙ push-more ys (xs ++ (y ∷ [])) (rw e h)
+      ∙ ap (begunBytes b) e
+
+-- also where the bytes are no session
+pub pushes : (st : List ℕ) (b : Begun) (xs ys : List Step) → length (b .image) ≡ 100 → length (b .handed) ≡ 37 → length (xs ++ ys) ≤ 25 →
+    pushedAll (begunIn st b xs) ys ≡ begunIn st b (xs ++ ys)
+unfolding begunIn
+pushes st b xs ys image handed h = go (isSession st) refl
+  where
+    go : (s : Bool) → isSession st ≡ s → pushedAll (cond s (begunBytes b xs) st) ys ≡ cond s (begunBytes b (xs ++ ys)) st
+    go true e = push-more b image handed ys xs h
+    go false e = push-none ys st e

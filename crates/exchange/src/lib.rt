@@ -1,0 +1,511 @@
+// Sessions: what lib.rs does over an async bus (document 01, 'Exchanges'). An operation is a list of steps; a session hands out the
+// exchange of one step after the other, takes back the bus's answer, and ends. Its state is bytes that the caller lends, so that
+// firmware can hold it across an await; the layout stands in specs/State.antt.
+//
+// Proved: each function equals its definition for every state, answer and buffer. Bytes of another number than 278 are a session that
+// has ended, and any 278 bytes are some session. proofs/Session.antt: over every list of answers the exchanges are those of the
+// steps, in order, and the count is true.
+ghost use mathlib.Core.Path.{_≡_};
+ghost use mathlib.Core.Bool.{cond};
+ghost use Prim.Native.Nat.{_+_, _*_, _≤_, _<_, min};
+ghost use mathlib.Core.List.{[], _∷_};
+ghost use lib.ListN.{length, set};
+ghost use Rattle.laws.specs.Copied.{over};
+ghost use Rattle.exchange.specs.Steps.{exchange, memoryAddress, chunk, exchangeFor, stepBytes, stepOf};
+ghost use Rattle.exchange.specs.State.{at, addressIn, countIn, roomIn, imageIn, encodedStep, bytesRead, memoryReads, left, noneLeft, slotOf, completed, headOf, begun, begunIn, pushed};
+ghost use Rattle.exchange.specs.Turn.{pendingOf, fittingOf, changed, fitOf, going, moved, stateAfter, bufferAfter, toldOf, turnTold, turnIn};
+use errors::Answer;
+use errors::Error;
+
+pub const SESSION_SIZE: usize = 278;
+
+// How many bytes a record has that a session hands back.
+pub const RECORD_SIZE: usize = 37;
+
+pub enum Step {
+    // The register and what is written.
+    Write(u8, u8),
+    // The register.
+    Read(u8),
+    // The register, and a field of the byte read last, replaced by a value: shift, width, value.
+    Update(u8, u8, u8, u8),
+    // The register, and what it must read.
+    Match(u8, u8),
+    // A part of the image: offset and length.
+    Chunk(u8, u8),
+    // A memory read: its index in the lent buffer.
+    Store(u8),
+}
+
+// What the bus is to do: send the first `len` bytes, and read back `wanted`.
+pub struct Exchange {
+    pub address: u8,
+    pub bytes: [u8; 33],
+    pub len: u8,
+    pub wanted: u8,
+}
+
+// What the bus answers.
+pub enum Reply {
+    Done,
+    Byte(u8),
+    Failed(u8),
+}
+
+// What a session answers: the refusal, if any, the count of exchanges made, and whether it has ended.
+pub struct Turn {
+    pub answer: Answer,
+    pub made: u8,
+    pub ended: bool,
+}
+
+// Where a session stands: at no step, or at one.
+enum Slot {
+    Idle,
+    At(Step),
+}
+
+// How an answer fits a step: not at all; a failure; a write done; a byte read; one for the buffer's index; not the byte that it must be.
+enum Fit {
+    Unfit,
+    Broke(u8),
+    Went,
+    Got(u8),
+    Kept(u8, u8),
+    Wrong(u8),
+}
+
+// Begins a session without steps; the caller's bytes stay as they are if they are not as many as a session has.
+pub fn begin(
+    session: &mut [u8],
+    address: u8,
+    reads: u8,
+    room: usize,
+    image: [u8; 100],
+    handed: [u8; RECORD_SIZE],
+)
+    ensures { λ _. ⌜ now (session .exit) ≡ begunIn (now (session .entry)) (begun address reads room image handed) [] ⌝ }
+{
+    if session.len() == SESSION_SIZE {
+        let head = heading(address, reads, room);
+        let none = [0u8; 125];
+        lay(session, 0, &head);
+        lay(session, 16, &image);
+        lay(session, 116, &handed);
+        lay(session, 153, &none);
+    }
+}
+
+// The first sixteen bytes; the last eight are the length of the read buffer, least byte first.
+fn heading(address: u8, reads: u8, room: usize) -> [u8; 16]
+    ensures { λ r. ⌜ r ≡ headOf address reads room 0 ⌝ }
+{
+    let q1 = room / 256;
+    let q2 = q1 / 256;
+    let q3 = q2 / 256;
+    let q4 = q3 / 256;
+    let q5 = q4 / 256;
+    let q6 = q5 / 256;
+    let q7 = q6 / 256;
+    [
+        address,
+        0,
+        0,
+        0,
+        0,
+        0,
+        0,
+        reads,
+        (room % 256) as u8,
+        (q1 % 256) as u8,
+        (q2 % 256) as u8,
+        (q3 % 256) as u8,
+        (q4 % 256) as u8,
+        (q5 % 256) as u8,
+        (q6 % 256) as u8,
+        (q7 % 256) as u8,
+    ]
+}
+
+// Lays bytes over the caller's from an index on.
+fn lay(lent: &mut [u8], at: usize, bytes: &[u8])
+    requires { ⌜ at + length (now bytes) ≤ length (now lent) ⌝ }
+    ensures { λ _. ⌜ now (lent .exit) ≡ over (now (lent .entry)) at (now (bytes .entry)) ⌝ }
+{
+    laws::copy_into(&mut lent[at..], bytes);
+}
+
+// A step more, where there is room for it.
+pub fn push(session: &mut [u8], step: Step)
+    ensures { λ _. ⌜ now (session .exit) ≡ pushed (now (session .entry)) step ⌝ }
+{
+    if session.len() == SESSION_SIZE {
+        let n = session[6];
+        if n < 25 {
+            let bytes = step_bytes(step);
+            session[6] = n + 1;
+            lay(session, 153 + 5 * (n as usize), &bytes);
+        }
+    }
+}
+
+fn step_bytes(step: Step) -> [u8; 5]
+    ensures { λ r. ⌜ r ≡ stepBytes step ⌝ }
+{
+    match step {
+        Step::Write(register, value) => [0, register, value, 0, 0],
+        Step::Read(register) => [1, register, 0, 0, 0],
+        Step::Update(register, shift, width, value) => [2, register, value, shift, width],
+        Step::Match(register, value) => [3, register, value, 0, 0],
+        Step::Chunk(offset, len) => [4, offset, len, 0, 0],
+        Step::Store(index) => [5, index, 0, 0, 0],
+    }
+}
+
+fn step_of(kind: u8, a: u8, b: u8, c: u8, d: u8) -> Step
+    ensures { λ r. ⌜ r ≡ stepOf kind a b c d ⌝ }
+{
+    match kind {
+        0 => Step::Write(a, b),
+        1 => Step::Read(a),
+        2 => Step::Update(a, c, d, b),
+        3 => Step::Match(a, b),
+        4 => Step::Chunk(a, b),
+        _ => Step::Store(a),
+    }
+}
+
+fn least(a: u8, b: u8) -> u8
+    ensures { λ r. ⌜ r ≡ min a b ⌝ }
+{
+    if a < b { a } else { b }
+}
+
+// The step that comes next.
+fn current(session: &[u8]) -> Slot
+    ensures { λ r. ⌜ r ≡ slotOf (left (now (session .entry))) ⌝ }
+{
+    if session.len() != SESSION_SIZE {
+        return Slot::Idle;
+    }
+    if 0 < session[1] {
+        return Slot::Idle;
+    }
+    let made = session[2];
+    let steps = least(session[6], 25);
+    let all = steps + least(session[7], 100);
+    if all <= made {
+        return Slot::Idle;
+    }
+    if made < steps {
+        let step = step_at(session, made);
+        return Slot::At(step);
+    }
+    Slot::At(Step::Store(made - steps))
+}
+
+// The i-th encoded step.
+fn step_at(session: &[u8], i: u8) -> Step
+    requires { ⌜ (length (now session) ≡ 278) × (i < 25) ⌝ }
+    ensures { λ r. ⌜ r ≡ encodedStep (now (session .entry)) i ⌝ }
+{
+    let k = 5 * (i as usize);
+    step_of(
+        session[153 + k],
+        session[154 + k],
+        session[155 + k],
+        session[156 + k],
+        session[157 + k],
+    )
+}
+
+// The exchange that is to be made next; no bytes once the session has ended.
+pub fn pending(session: &[u8]) -> Exchange
+    ensures { λ r. ⌜ r ≡ pendingOf (now (session .entry)) ⌝ }
+{
+    match current(session) {
+        Slot::Idle => nothing(),
+        Slot::At(step) => exchange_for(session, step),
+    }
+}
+
+fn exchange_for(session: &[u8], step: Step) -> Exchange
+    requires { ⌜ length (now session) ≡ 278 ⌝ }
+    ensures { λ r. ⌜ r ≡ exchangeFor (addressIn (now (session .entry))) (at (now (session .entry)) 3) (imageIn (now (session .entry))) step ⌝ }
+{
+    let address = session[0];
+    match step {
+        Step::Write(register, value) => writing(address, register, value),
+        Step::Read(register) => reading(address, register),
+        Step::Update(register, shift, width, value) => {
+            let updated = field::with(session[3], shift, width, value);
+            writing(address, register, updated)
+        }
+        Step::Match(register, _) => reading(address, register),
+        Step::Chunk(offset, len) => uploading(address, &session[16..116], offset, len),
+        Step::Store(index) => reading(address, memory_address(index)),
+    }
+}
+
+fn nothing() -> Exchange
+    ensures { λ r. ⌜ r ≡ exchange 0 [] 0 ⌝ }
+{
+    let bytes = [0u8; 33];
+    Exchange {
+        address: 0,
+        bytes: bytes,
+        len: 0,
+        wanted: 0,
+    }
+}
+
+fn writing(address: u8, register: u8, value: u8) -> Exchange
+    ensures { λ r. ⌜ r ≡ exchange address (register ∷ value ∷ []) 0 ⌝ }
+{
+    let mut bytes = [0u8; 33];
+    bytes[0] = register;
+    bytes[1] = value;
+    Exchange {
+        address: address,
+        bytes: bytes,
+        len: 2,
+        wanted: 0,
+    }
+}
+
+fn reading(address: u8, register: u8) -> Exchange
+    ensures { λ r. ⌜ r ≡ exchange address (register ∷ []) 1 ⌝ }
+{
+    let mut bytes = [0u8; 33];
+    bytes[0] = register;
+    Exchange {
+        address: address,
+        bytes: bytes,
+        len: 1,
+        wanted: 1,
+    }
+}
+
+fn uploading(address: u8, image: &[u8], offset: u8, len: u8) -> Exchange
+    requires { ⌜ length (now image) ≡ 100 ⌝ }
+    ensures { λ r. ⌜ r ≡ exchange address (memoryAddress offset ∷ chunk (now (image .entry)) offset len) 0 ⌝ }
+{
+    let start = least(offset, 100);
+    let n = least(least(len, 32), 100 - start);
+    let from = start as usize;
+    let mut bytes = [0u8; 33];
+    bytes[0] = memory_address(offset);
+    let behind = from + n as usize;
+    lay(&mut bytes, 1, &image[from..behind]);
+    Exchange {
+        address: address,
+        bytes: bytes,
+        len: n + 1,
+        wanted: 0,
+    }
+}
+
+fn memory_address(index: u8) -> u8
+    ensures { λ r. ⌜ r ≡ memoryAddress index ⌝ }
+{
+    ((0x84 + index as u16) % 256) as u8
+}
+
+// Takes back what the bus answered, with the buffer that a memory read fills (any, where the operation reads none).
+pub fn answer(session: &mut [u8], reply: Reply, buffer: &mut [u8]) -> Turn
+    ensures { λ r. ⌜ turnTold r ≡ toldOf (now (session .entry)) reply (length (now (buffer .entry))) ⌝ }
+    ensures { λ _. ⌜ now (session .exit) ≡ stateAfter (now (session .entry)) reply (length (now (buffer .entry))) ⌝ }
+    ensures { λ _. ⌜ now (buffer .exit) ≡ bufferAfter (now (session .entry)) reply (now (buffer .entry)) ⌝ }
+{
+    match judge(session, reply, buffer.len()) {
+        Fit::Unfit => tell(session, Answer::Refused(Error::OutOfTurn)),
+        Fit::Broke(code) => {
+            go_on(session, 1);
+            tell(session, Answer::Refused(Error::I2c(code)))
+        }
+        Fit::Went => {
+            go_on(session, 0);
+            tell(session, Answer::Done)
+        }
+        Fit::Got(b) => {
+            take_in(session, 0, b);
+            tell(session, Answer::Done)
+        }
+        Fit::Kept(i, b) => {
+            store(buffer, i, b);
+            take_in(session, 0, b);
+            tell(session, Answer::Done)
+        }
+        Fit::Wrong(b) => {
+            take_in(session, 1, b);
+            tell(session, Answer::Refused(Error::VariantMismatch))
+        }
+    }
+}
+
+// An exchange more, without a byte read; broken off or not.
+fn go_on(session: &mut [u8], broken: u8)
+    requires { ⌜ going (now session) ⌝ }
+    ensures { λ _. ⌜ now (session .exit) ≡ moved (now (session .entry)) broken (at (now (session .entry)) 3) (at (now (session .entry)) 4) (at (now (session .entry)) 5) ⌝ }
+{
+    let bytes = [broken, session[2] + 1, session[3], session[4], session[5]];
+    lay(session, 1, &bytes);
+}
+
+// An exchange more, with the byte that was read.
+fn take_in(session: &mut [u8], broken: u8, b: u8)
+    requires { ⌜ going (now session) ⌝ }
+    ensures { λ _. ⌜ now (session .exit) ≡ moved (now (session .entry)) broken b (at (now (session .entry)) 3) (at (now (session .entry)) 4) ⌝ }
+{
+    let bytes = [broken, session[2] + 1, b, session[3], session[4]];
+    lay(session, 1, &bytes);
+}
+
+// A byte goes to its own index, if the buffer has one.
+fn store(buffer: &mut [u8], i: u8, b: u8)
+    ensures { λ _. ⌜ now (buffer .exit) ≡ set (now (buffer .entry)) i b ⌝ }
+{
+    let i = i as usize;
+    if i < buffer.len() {
+        buffer[i] = b;
+    }
+}
+
+fn tell(session: &[u8], answer: Answer) -> Turn
+    ensures { λ r. ⌜ r ≡ turnIn (now (session .entry)) answer ⌝ }
+{
+    Turn {
+        answer: answer,
+        made: made(session),
+        ended: is_over(session),
+    }
+}
+
+// How many exchanges were made.
+pub fn made(session: &[u8]) -> u8
+    ensures { λ r. ⌜ r ≡ countIn (now (session .entry)) ⌝ }
+{
+    if session.len() == SESSION_SIZE {
+        return session[2];
+    }
+    0
+}
+
+// Whether no step is left.
+pub fn is_over(session: &[u8]) -> bool
+    ensures { λ r. ⌜ r ≡ noneLeft (left (now (session .entry))) ⌝ }
+{
+    match current(session) {
+        Slot::Idle => true,
+        Slot::At(_) => false,
+    }
+}
+
+// Whether every step was made.
+pub fn is_completed(session: &[u8]) -> bool
+    ensures { λ r. ⌜ r ≡ completed (now (session .entry)) ⌝ }
+{
+    if session.len() != SESSION_SIZE {
+        return false;
+    }
+    if 0 < session[1] {
+        return false;
+    }
+    least(session[6], 25) + least(session[7], 100) <= session[2]
+}
+
+// How an answer fits the session, with n bytes lent.
+fn judge(session: &[u8], reply: Reply, n: usize) -> Fit
+    ensures { λ r. ⌜ r ≡ fitOf (now (session .entry)) reply n ⌝ }
+{
+    match current(session) {
+        Slot::Idle => Fit::Unfit,
+        Slot::At(step) => timely(is_changed(session, n), fitting(step, reply)),
+    }
+}
+
+// An answer does not fit at all where the read buffer has changed.
+fn timely(changed: bool, fit: Fit) -> Fit
+    ensures { λ r. ⌜ r ≡ cond changed Fit.Unfit fit ⌝ }
+{
+    if changed {
+        return Fit::Unfit;
+    }
+    fit
+}
+
+fn fitting(step: Step, reply: Reply) -> Fit
+    ensures { λ r. ⌜ r ≡ fittingOf step reply ⌝ }
+{
+    match reply {
+        Reply::Failed(code) => Fit::Broke(code),
+        Reply::Done => match step {
+            Step::Write(_, _) => Fit::Went,
+            Step::Read(_) => Fit::Unfit,
+            Step::Update(_, _, _, _) => Fit::Went,
+            Step::Match(_, _) => Fit::Unfit,
+            Step::Chunk(_, _) => Fit::Went,
+            Step::Store(_) => Fit::Unfit,
+        },
+        Reply::Byte(b) => match step {
+            Step::Write(_, _) => Fit::Unfit,
+            Step::Read(_) => Fit::Got(b),
+            Step::Update(_, _, _, _) => Fit::Unfit,
+            Step::Match(_, value) => {
+                if b == value {
+                    return Fit::Got(b);
+                }
+                Fit::Wrong(b)
+            }
+            Step::Chunk(_, _) => Fit::Unfit,
+            Step::Store(index) => Fit::Kept(index, b),
+        },
+    }
+}
+
+// Whether the read buffer's length is another than at the start.
+fn is_changed(session: &[u8], n: usize) -> bool
+    requires { ⌜ length (now session) ≡ 278 ⌝ }
+    ensures { λ r. ⌜ r ≡ changed (now (session .entry)) n ⌝ }
+{
+    if session[7] < 1 {
+        return false;
+    }
+    n != room(session)
+}
+
+// The length that the read buffer had at the start.
+fn room(session: &[u8]) -> usize
+    requires { ⌜ length (now session) ≡ 278 ⌝ }
+    ensures { λ r. ⌜ r ≡ roomIn (now (session .entry)) ⌝ }
+{
+    let low = word(session[8], session[9], session[10], session[11]);
+    let high = word(session[12], session[13], session[14], session[15]);
+    low + 4294967296 * high
+}
+
+fn word(a: u8, b: u8, c: u8, d: u8) -> usize
+    ensures { λ r. ⌜ (r ≡ a + 256 * b + 65536 * c + 16777216 * d) × (r < 4294967296) ⌝ }
+{
+    a as usize + 256 * (b as usize) + 65536 * (c as usize) + 16777216 * (d as usize)
+}
+
+// The byte read last, the one before it, and the one before that.
+pub fn bytes_read(session: &[u8]) -> [u8; 3]
+    ensures { λ r. ⌜ r ≡ bytesRead (now (session .entry)) ⌝ }
+{
+    if session.len() == SESSION_SIZE {
+        return [session[3], session[4], session[5]];
+    }
+    [0, 0, 0]
+}
+
+// How many bytes of memory the operation reads.
+pub fn memory_reads(session: &[u8]) -> u8
+    ensures { λ r. ⌜ r ≡ memoryReads (now (session .entry)) ⌝ }
+{
+    if session.len() == SESSION_SIZE {
+        return least(session[7], 100);
+    }
+    0
+}

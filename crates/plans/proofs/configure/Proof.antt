@@ -1,0 +1,69 @@
+use Rattle.exchange.proofs.Pushes.{push-append}
+use borrow.Author.Needs.{needs}
+use Rattle.plans.proofs.configure.Statement.{statement}
+use Rattle.plans.proofs.configure.Tie as tie
+use Rattle.plans.proofs.configure.Reads as reads
+use Rattle.plans.proofs.configure.Lts as lts
+use Rattle.plans.proofs.calibration.Reads as calibration-reads
+use Rattle.plans.proofs.driving.Reads as driving-reads
+use Rattle.plans.proofs.features.Reads as features-reads
+use Rattle.plans.proofs.frequency.Reads as frequency-reads
+use Rattle.plans.proofs.limits.Reads as limits-reads
+use Rattle.plans.proofs.pid.Reads as pid-reads
+use Rattle.plans.proofs.rapid_stop.Reads as rapid-stop-reads
+use Rattle.plans.proofs.triggers.Reads as triggers-reads
+
+-- src/lib.rt:33:5
+features-requires : tie.Need-features-requires
+features-requires c κs = search needs
+
+-- src/lib.rt:34:5
+limits-requires : tie.Need-limits-requires
+limits-requires c κs = search needs
+
+-- src/lib.rt:35:5
+calibration-requires : tie.Need-calibration-requires
+calibration-requires c κs = search needs
+
+-- src/lib.rt:36:5
+pid-requires : tie.Need-pid-requires
+pid-requires c κs = search needs
+
+-- src/lib.rt:37:5
+frequency-requires : tie.Need-frequency-requires
+frequency-requires c κs = search needs
+
+-- src/lib.rt:38:5
+rapid-stop-requires : tie.Need-rapid-stop-requires
+rapid-stop-requires c κs = search needs
+
+-- src/lib.rt:39:5
+driving-requires : tie.Need-driving-requires
+driving-requires c κs = search needs
+
+-- src/lib.rt:40:5
+triggers-requires : tie.Need-triggers-requires
+triggers-requires c κs = search needs
+
+-- src/lib.rt:28:1
+same-length : tie.Need-same-length
+same-length c = search needs
+
+-- src/lib.rt:28:1
+returns : tie.Need-returns
+returns c = simp push-append cc
+
+pub configure-spec : {M : Type 1} → statement M
+configure-spec =
+    tie.close
+    (tie.spec
+    features-requires
+    limits-requires
+    calibration-requires
+    pid-requires
+    frequency-requires
+    rapid-stop-requires
+    driving-requires
+    triggers-requires
+    same-length
+    returns)

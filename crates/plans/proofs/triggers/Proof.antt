@@ -1,0 +1,34 @@
+use mathlib.Core.Path.{sym, _∙_}
+use Rattle.plans.specs.Configure.{triggerSteps}
+use borrow.Author.Needs.{needs}
+use Rattle.plans.proofs.triggers.Statement.{statement}
+use Rattle.plans.proofs.triggers.Tie as tie
+use Rattle.plans.proofs.triggers.Reads as reads
+use Rattle.plans.proofs.triggers.Lts as lts
+use Rattle.checks.proofs.is_etwm.Reads as is-etwm-reads
+use Rattle.plans.proofs.given.Reads as given-reads
+
+-- src/lib.rt:254:8
+is-etwm-requires : tie.Need-is-etwm-requires
+is-etwm-requires c κs = search needs
+
+-- src/lib.rt:255:9
+given-requires : tie.Need-given-requires
+given-requires c κs = search needs
+
+-- src/lib.rt:247:1
+same-length : tie.Need-same-length
+same-length c = search needs
+
+-- src/lib.rt:247:1
+returns : tie.Need-returns
+unfolding triggerSteps
+returns c = simp (sym (c .before .before .before .before .before .is-etwm .ensures) ∙ c .before .before .before .before .if1 .taken) cc
+
+-- src/lib.rt:247:1
+returns-2 : tie.Need-returns-2
+unfolding triggerSteps
+returns-2 c = cc
+
+pub triggers-spec : {M : Type 1} → statement M
+triggers-spec = tie.close (tie.spec is-etwm-requires given-requires same-length returns returns-2)

@@ -1,0 +1,3 @@
+-- The definitions that the contracts of `plans` cite.
+pub mod Fields
+pub mod Configure

@@ -1,0 +1,337 @@
+// The steps of `configure` (lib.rs; document 01, 'Settings to registers'), pushed to a session that was begun.
+// Each function pushes one part of the Rust's body, in its order; the register types are those of registers.rs.
+// Proved: what is pushed is specs/Configure.antt's list, 14 to 25 steps (proofs/Lengths.antt).
+ghost use mathlib.Core.Path.{_≡_};
+ghost use Rattle.exchange.specs.State.{pushedAll};
+ghost use Rattle.config.specs.declared.DrivingMode.the-variants.{«CUSTOM_WAVEFORM»};
+ghost use Rattle.config.specs.declared.Pid.the-variants.{Given};
+ghost use Rattle.plans.specs.Configure.{accelerates, stopsRapidly, topCfg1, featureSteps, limitSteps, calibrationSteps, pidSteps, frequencySteps, rapidStopSteps, phaseSteps, customSteps, drivingSteps, gpi0, gpi1, gpi2, triggerStep0, triggerStep1, triggerStep2, givenSteps, triggerSteps, configureSteps};
+use config::ActuatorConfig;
+use config::DeviceConfig;
+use config::DrivingMode;
+use config::Pid;
+use config::Trigger;
+use config::TriggerConfig;
+use exchange::Step;
+use registers::Register;
+use registers_actuator::ACTUATOR3;
+use registers_actuator::FRQ_LRA_PER_L;
+use registers_actuator::TOP_CFG1;
+use registers_actuator::TOP_CFG4;
+use registers_control::SEQ_CTL1;
+use registers_trigger::FRQ_PHASE_L;
+use registers_trigger::GPI_0_CTL;
+use registers_trigger::GPI_1_CTL;
+use registers_trigger::GPI_2_CTL;
+use registers_trigger::TOP_CFG5;
+
+// Everything that `configure` does, once its checks have passed.
+pub fn configure(session: &mut [u8], a: ActuatorConfig, d: DeviceConfig)
+    ensures { λ _. ⌜ now (session .exit) ≡ pushedAll (now (session .entry)) (configureSteps a d) ⌝ }
+{
+    let pid_Kp_Ki = a.pid_Kp_Ki;
+    let driving_mode = d.driving_mode;
+    features(session, a, d);
+    limits(session, a);
+    calibration(session, a);
+    pid(session, pid_Kp_Ki);
+    frequency(session, a.frequency_Hz);
+    rapid_stop(session);
+    driving(session, driving_mode);
+    triggers(session, d);
+}
+
+// The period of a frequency, as `set_frequency` writes it too.
+pub fn frequency(session: &mut [u8], hz: u16)
+    ensures { λ _. ⌜ now (session .exit) ≡ pushedAll (now (session .entry)) (frequencySteps hz) ⌝ }
+{
+    let word = convert::period(hz);
+    let frq_lra_per_l = FRQ_LRA_PER_L::new().with_LRA_PER_L(convert::low_part(word));
+    exchange::push(
+        session,
+        Step::Write(Register::FRQ_LRA_PER_H.address(), convert::high_part(word)),
+    );
+    exchange::push(
+        session,
+        Step::Write(Register::FRQ_LRA_PER_L.address(), frq_lra_per_l.bits()),
+    );
+}
+
+fn features(session: &mut [u8], a: ActuatorConfig, d: DeviceConfig)
+    ensures { λ _. ⌜ now (session .exit) ≡ pushedAll (now (session .entry)) (featureSteps a d) ⌝ }
+{
+    let top_cfg1 = top_cfg1(a, d);
+    let accelerates = accelerates(d);
+    let top_cfg5 = TOP_CFG5::new().with_V2I_FACTOR_OFFSET_EN(accelerates);
+    exchange::push(session, Step::Write(Register::TOP_CFG1.address(), top_cfg1));
+    exchange::push(session, Step::Read(Register::TOP_CFG2.address()));
+    exchange::push(
+        session,
+        Step::Update(Register::TOP_CFG2.address(), 4, 1, !accelerates as u8),
+    );
+    exchange::push(
+        session,
+        Step::Write(Register::TOP_CFG5.address(), top_cfg5.bits()),
+    );
+}
+
+fn top_cfg1(a: ActuatorConfig, d: DeviceConfig) -> u8
+    ensures { λ r. ⌜ r ≡ topCfg1 a d ⌝ }
+{
+    let actuator_type = a.actuator_type;
+    let driving_mode = d.driving_mode;
+    let tracks = checks::is_tracking(driving_mode);
+    let accelerates = accelerates(d);
+    let stops = stops_rapidly(d);
+    let top_cfg1 = TOP_CFG1::new()
+        .with_ACTUATOR_TYPE(actuator_type.code())
+        .with_BEMF_SENSE_EN(tracks)
+        .with_FREQ_TRACK_EN(tracks)
+        .with_ACCELERATION_EN(accelerates)
+        .with_RAPID_STOP_EN(stops)
+        .with_AMP_PID_EN(false)
+        .with_EMBEDDED_MODE(true);
+    top_cfg1.bits()
+}
+
+// Acceleration and rapid stop are for tracking only.
+fn accelerates(d: DeviceConfig) -> bool
+    ensures { λ r. ⌜ r ≡ accelerates d ⌝ }
+{
+    let driving_mode = d.driving_mode;
+    if checks::is_tracking(driving_mode) {
+        return d.acceleration;
+    }
+    false
+}
+
+fn stops_rapidly(d: DeviceConfig) -> bool
+    ensures { λ r. ⌜ r ≡ stopsRapidly d ⌝ }
+{
+    let driving_mode = d.driving_mode;
+    if checks::is_tracking(driving_mode) {
+        return d.rapid_stop;
+    }
+    false
+}
+
+fn limits(session: &mut [u8], a: ActuatorConfig)
+    ensures { λ _. ⌜ now (session .exit) ≡ pushedAll (now (session .entry)) (limitSteps a) ⌝ }
+{
+    let actuator3 = ACTUATOR3::new().with_IMAX(convert::imax(a.max_current_mA));
+    exchange::push(
+        session,
+        Step::Write(
+            Register::ACTUATOR1.address(),
+            convert::voltage(a.nominal_max_mV),
+        ),
+    );
+    exchange::push(
+        session,
+        Step::Write(
+            Register::ACTUATOR2.address(),
+            convert::voltage(a.absolute_max_mV),
+        ),
+    );
+    exchange::push(
+        session,
+        Step::Write(Register::ACTUATOR3.address(), actuator3.bits()),
+    );
+}
+
+fn calibration(session: &mut [u8], a: ActuatorConfig)
+    ensures { λ _. ⌜ now (session .exit) ≡ pushedAll (now (session .entry)) (calibrationSteps a) ⌝ }
+{
+    let v2i = convert::v2i(a.impedance_mOhm, convert::imax(a.max_current_mA));
+    let trim4 = convert::trim4(a.impedance_mOhm, a.inductance_uH);
+    exchange::push(
+        session,
+        Step::Write(Register::CALIB_V2I_H.address(), (v2i / 256) as u8),
+    );
+    exchange::push(
+        session,
+        Step::Write(Register::CALIB_V2I_L.address(), (v2i % 256) as u8),
+    );
+    exchange::push(
+        session,
+        Step::Write(Register::TRIM4.address(), trim4.bits()),
+    );
+}
+
+fn pid(session: &mut [u8], pid_Kp_Ki: Pid)
+    ensures { λ _. ⌜ now (session .exit) ≡ pushedAll (now (session .entry)) (pidSteps «pid_Kp_Ki») ⌝ }
+{
+    match pid_Kp_Ki {
+        Pid::Absent => {}
+        Pid::Given(kp, ki) => pid_words(session, kp, ki),
+    }
+}
+
+fn pid_words(session: &mut [u8], kp: u16, ki: u16)
+    ensures { λ _. ⌜ now (session .exit) ≡ pushedAll (now (session .entry)) (pidSteps (Given kp ki)) ⌝ }
+{
+    exchange::push(
+        session,
+        Step::Write(Register::TOP_INT_CFG6_H.address(), convert::high_part(kp)),
+    );
+    exchange::push(
+        session,
+        Step::Write(Register::TOP_INT_CFG6_L.address(), convert::low_part(kp)),
+    );
+    exchange::push(
+        session,
+        Step::Write(Register::TOP_INT_CFG7_H.address(), convert::high_part(ki)),
+    );
+    exchange::push(
+        session,
+        Step::Write(Register::TOP_INT_CFG7_L.address(), convert::low_part(ki)),
+    );
+}
+
+// RAPID_STOP_LIM is 7 where rapid stop is off.
+fn rapid_stop(session: &mut [u8])
+    ensures { λ _. ⌜ now (session .exit) ≡ pushedAll (now (session .entry)) rapidStopSteps ⌝ }
+{
+    exchange::push(session, Step::Read(Register::TOP_INT_CFG8.address()));
+    exchange::push(
+        session,
+        Step::Update(Register::TOP_INT_CFG8.address(), 4, 4, 7),
+    );
+}
+
+fn driving(session: &mut [u8], driving_mode: DrivingMode)
+    ensures { λ _. ⌜ now (session .exit) ≡ pushedAll (now (session .entry)) (drivingSteps «driving_mode») ⌝ }
+{
+    match driving_mode {
+        DrivingMode::FREQUENCY_TRACK => {}
+        DrivingMode::WIDEBAND => phase(session),
+        DrivingMode::CUSTOM_WAVEFORM => untracked(session),
+    }
+}
+
+fn untracked(session: &mut [u8])
+    ensures { λ _. ⌜ now (session .exit) ≡ pushedAll (now (session .entry)) (drivingSteps «CUSTOM_WAVEFORM») ⌝ }
+{
+    phase(session);
+    custom_waveform(session);
+}
+
+fn custom_waveform(session: &mut [u8])
+    ensures { λ _. ⌜ now (session .exit) ≡ pushedAll (now (session .entry)) customSteps ⌝ }
+{
+    let seq_ctl1 = SEQ_CTL1::new().with_WAVEGEN_MODE(true);
+    let top_cfg4 = TOP_CFG4::new().with_V2I_FACTOR_FREEZE(true);
+    exchange::push(
+        session,
+        Step::Write(Register::SEQ_CTL1.address(), seq_ctl1.bits()),
+    );
+    exchange::push(
+        session,
+        Step::Write(Register::TOP_CFG4.address(), top_cfg4.bits()),
+    );
+}
+
+fn phase(session: &mut [u8])
+    ensures { λ _. ⌜ now (session .exit) ≡ pushedAll (now (session .entry)) phaseSteps ⌝ }
+{
+    let frq_phase_l = FRQ_PHASE_L::new()
+        .with_DELAY_SHIFT_L(0)
+        .with_DELAY_FREEZE(true);
+    exchange::push(session, Step::Write(Register::FRQ_PHASE_H.address(), 0));
+    exchange::push(
+        session,
+        Step::Write(Register::FRQ_PHASE_L.address(), frq_phase_l.bits()),
+    );
+}
+
+fn triggers(session: &mut [u8], d: DeviceConfig)
+    ensures { λ _. ⌜ now (session .exit) ≡ pushedAll (now (session .entry)) (triggerSteps d) ⌝ }
+{
+    let operation_mode = d.operation_mode;
+    let gpi_trigger_0 = d.gpi_trigger_0;
+    let gpi_trigger_1 = d.gpi_trigger_1;
+    let gpi_trigger_2 = d.gpi_trigger_2;
+    if checks::is_etwm(operation_mode) {
+        given(session, gpi_trigger_0, gpi_trigger_1, gpi_trigger_2);
+    }
+}
+
+fn given(session: &mut [u8], first: Trigger, second: Trigger, third: Trigger)
+    ensures { λ _. ⌜ now (session .exit) ≡ pushedAll (now (session .entry)) (givenSteps first second third) ⌝ }
+{
+    trigger_0(session, first);
+    trigger_1(session, second);
+    trigger_2(session, third);
+}
+
+fn trigger_0(session: &mut [u8], trigger: Trigger)
+    ensures { λ _. ⌜ now (session .exit) ≡ pushedAll (now (session .entry)) (triggerStep0 trigger) ⌝ }
+{
+    match trigger {
+        Trigger::Absent => {}
+        Trigger::Given(t) => exchange::push(
+            session,
+            Step::Write(Register::GPI_0_CTL.address(), gpi_0(t)),
+        ),
+    }
+}
+
+// The mode bit is always set, whatever the trigger's mode.
+fn gpi_0(t: TriggerConfig) -> u8
+    ensures { λ r. ⌜ r ≡ gpi0 t ⌝ }
+{
+    let polarity = t.polarity;
+    let gpi = GPI_0_CTL::new()
+        .with_GPI0_POLARITY(polarity.code())
+        .with_GPI0_MODE(true)
+        .with_GPI0_SEQUENCE_ID(t.sequence_id);
+    gpi.bits()
+}
+
+fn trigger_1(session: &mut [u8], trigger: Trigger)
+    ensures { λ _. ⌜ now (session .exit) ≡ pushedAll (now (session .entry)) (triggerStep1 trigger) ⌝ }
+{
+    match trigger {
+        Trigger::Absent => {}
+        Trigger::Given(t) => exchange::push(
+            session,
+            Step::Write(Register::GPI_1_CTL.address(), gpi_1(t)),
+        ),
+    }
+}
+
+// The mode bit is always set, whatever the trigger's mode.
+fn gpi_1(t: TriggerConfig) -> u8
+    ensures { λ r. ⌜ r ≡ gpi1 t ⌝ }
+{
+    let polarity = t.polarity;
+    let gpi = GPI_1_CTL::new()
+        .with_GPI1_POLARITY(polarity.code())
+        .with_GPI1_MODE(true)
+        .with_GPI1_SEQUENCE_ID(t.sequence_id);
+    gpi.bits()
+}
+
+fn trigger_2(session: &mut [u8], trigger: Trigger)
+    ensures { λ _. ⌜ now (session .exit) ≡ pushedAll (now (session .entry)) (triggerStep2 trigger) ⌝ }
+{
+    match trigger {
+        Trigger::Absent => {}
+        Trigger::Given(t) => exchange::push(
+            session,
+            Step::Write(Register::GPI_2_CTL.address(), gpi_2(t)),
+        ),
+    }
+}
+
+// The mode bit is always set, whatever the trigger's mode.
+fn gpi_2(t: TriggerConfig) -> u8
+    ensures { λ r. ⌜ r ≡ gpi2 t ⌝ }
+{
+    let polarity = t.polarity;
+    let gpi = GPI_2_CTL::new()
+        .with_GPI2_POLARITY(polarity.code())
+        .with_GPI2_MODE(true)
+        .with_GPI2_SEQUENCE_ID(t.sequence_id);
+    gpi.bits()
+}
