@@ -138,8 +138,8 @@ abbrev pub negative : ℤ → Bool
 negative (pos n) = false
 negative (negsuc n) = true
 
-abbrev pub wrongSign : DeviceConfig → ℤ → Bool
-wrongSign d value = d .acceleration && negative value
+abbrev pub wrongSign : Bool → ℤ → Bool
+wrongSign acceleration value = acceleration && negative value
 
 abbrev pub isDro : OperationMode → Bool
 isDro INACTIVE = false
@@ -148,12 +148,15 @@ isDro «PWM_MODE» = false
 isDro «RTWM_MODE» = false
 isDro «ETWM_MODE» = false
 
--- "Its checks: 15, negative under acceleration (11), not DRO_MODE (12)"
+-- "negative under acceleration (11), not DRO_MODE (12)"
+abbrev pub overriding : ℕ → DeviceConfig → ℤ → Start
+overriding address d value =
+    unless (firstFailing (check (wrongSign (d .acceleration) value) 11 ∷ check (not (isDro (d .«operation_mode»))) 12 ∷ []))
+    (begins (blank address) (Write 0x23 (overrideByte value) ∷ []))
+
+-- "Its checks: 15", then these
 abbrev pub setOverrideValue : DA728x → ℤ → Start
-setOverrideValue r value =
-    withSettings (r .settings) (λ a d.
-    unless (firstFailing (check (wrongSign d value) 11 ∷ check (not (isDro (d .«operation_mode»))) 12 ∷ []))
-    (runs r (Write 0x23 (overrideByte value) ∷ [])))
+setOverrideValue r value = withSettings (r .settings) (λ a d. overriding (r .address) d value)
 
 abbrev pub setTimebase : DA728x → WaveformMemoryTimebase → Start
 setTimebase r timebase = runs r (Read 0x24 ∷ updated 0x24 seq-ctl1 (given "FREQ_WAVEFORM_TIMEBASE" (timebaseBit timebase)) ∷ [])
@@ -200,8 +203,12 @@ unfoldable pub lockSteps : Bool → List Step
 lockSteps true = lockStep false ∷ []
 lockSteps false = []
 
+-- unlock, n bytes, and lock if asked
+unfoldable pub sendSteps : ℕ → Bool → List Step
+sendSteps n lockAfter = lockStep true ∷ (chunkSteps n ++ lockSteps lockAfter)
+
 abbrev pub uploadSteps : WaveformMemory → Bool → List Step
-uploadSteps m lockAfter = lockStep true ∷ (chunkSteps (min (m .len) 100) ++ lockSteps lockAfter)
+uploadSteps m lockAfter = sendSteps (min (m .len) 100) lockAfter
 
 abbrev pub uploadWaveformMemory : DA728x → WaveformMemory → Bool → Start
 uploadWaveformMemory r m lockAfter = begins (begun (r .address) 0 0 (m .«data») noRecord) (uploadSteps m lockAfter)

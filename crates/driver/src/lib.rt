@@ -159,29 +159,34 @@ pub fn set_override_value(driver: DA728x, value: i8, session: &mut [u8]) -> Answ
     let settings = driver.settings;
     match settings {
         Settings::Absent => Answer::Refused(Error::NotConfigured),
-        Settings::Given(_, d) => {
-            if wrong_sign(d, value) {
-                return Answer::Refused(Error::InvalidValue);
-            }
-            let mode = d.operation_mode;
-            if is_dro(mode) {
-                run(
-                    session,
-                    driver.address,
-                    Step::Write(Register::TOP_CTL2.address(), convert::override_byte(value)),
-                );
-                return Answer::Done;
-            }
-            Answer::Refused(Error::WrongMode)
-        }
+        Settings::Given(_, d) => overriding(driver.address, d, value, session),
     }
 }
 
-// Whether a value is negative under acceleration.
-fn wrong_sign(d: DeviceConfig, value: i8) -> bool
-    ensures { λ r. ⌜ r ≡ spec.wrongSign d value ⌝ }
+fn overriding(address: u8, d: DeviceConfig, value: i8, session: &mut [u8]) -> Answer
+    ensures { λ r. ⌜ answerNumber r ≡ spec.startNumber (spec.overriding address d value) ⌝ }
+    ensures { λ _. ⌜ now (session .exit) ≡ spec.startedIn (now (session .entry)) (spec.overriding address d value) ⌝ }
 {
-    if d.acceleration {
+    let mode = d.operation_mode;
+    if wrong_sign(d.acceleration, value) {
+        return Answer::Refused(Error::InvalidValue);
+    }
+    if is_dro(mode) {
+        run(
+            session,
+            address,
+            Step::Write(Register::TOP_CTL2.address(), convert::override_byte(value)),
+        );
+        return Answer::Done;
+    }
+    Answer::Refused(Error::WrongMode)
+}
+
+// Whether a value is negative under acceleration.
+fn wrong_sign(acceleration: bool, value: i8) -> bool
+    ensures { λ r. ⌜ r ≡ spec.wrongSign acceleration value ⌝ }
+{
+    if acceleration {
         return value < 0;
     }
     false
@@ -329,13 +334,19 @@ pub fn upload_waveform_memory(
     let image = memory.as_bytes();
     let n = shown(memory.len());
     exchange::begin(session, driver.address, 0, 0, image, none);
+    send(session, n, lock_after);
+    Answer::Done
+}
+
+fn send(session: &mut [u8], n: u8, lock_after: bool)
+    ensures { λ _. ⌜ now (session .exit) ≡ pushedAll (now (session .entry)) (spec.sendSteps n «lock_after») ⌝ }
+{
     exchange::push(
         session,
         Step::Write(Register::MEM_CTL2.address(), mem_ctl2(true)),
     );
     chunks(session, n);
     lock(session, lock_after);
-    Answer::Done
 }
 
 fn shown(len: usize) -> u8

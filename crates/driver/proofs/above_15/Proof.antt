@@ -1,3 +1,4 @@
+use borrow.Author.Tests.{lt-ltb, le-ltb}
 use borrow.Author.Needs.{needs}
 use Rattle.driver.proofs.above_15.Statement.{statement}
 use Rattle.driver.proofs.above_15.Tie as tie
@@ -6,11 +7,11 @@ use Rattle.driver.proofs.above_15.Lts as lts
 
 -- src/lib.rt:476:9
 returns : tie.Need-returns
-returns c = ?
+returns c = simp (lt-ltb _ _ (c .if1 .taken))
 
 -- src/lib.rt:472:1
 returns-2 : tie.Need-returns-2
-returns-2 c = ?
+returns-2 c = simp (le-ltb _ _ (c .if1 .left))
 
 pub above-15-spec : {M : Type 1} → statement M
 above-15-spec = tie.close (tie.spec returns returns-2)

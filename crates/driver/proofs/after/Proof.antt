@@ -1,3 +1,6 @@
+use Rattle.driver.specs.Operations.{handedOr}
+use mathlib.Core.Path.{sym, ap, _∙_}
+use Rattle.driver.specs.Operations.{recordAfter}
 use borrow.Author.Needs.{needs}
 use Rattle.driver.proofs.after.Statement.{statement}
 use Rattle.driver.proofs.after.Tie as tie
@@ -19,11 +22,13 @@ enum-known-next c = search needs
 
 -- src/lib.rt:507:1
 returns : tie.Need-returns
-returns c = ?
+unfolding recordAfter
+returns c = ap (handedOr (c .before .before .before .before .args .driver)) (sym (c .enum-told .given .1) ∙ c .before .before .handed-back .ensures)
 
 -- src/lib.rt:507:1
 returns-2 : tie.Need-returns-2
-returns-2 c = ?
+unfolding recordAfter
+returns-2 c = ap (handedOr (c .before .before .before .before .before .args .driver)) (sym (c .before .next .given .1) ∙ c .before .before .before .handed-back .ensures)
 
 pub after-spec : {M : Type 1} → statement M
 after-spec = tie.close (tie.spec handed-back-requires enum-told enum-known-next returns returns-2)

@@ -1,3 +1,5 @@
+use Rattle.da728x.specs.Record.{noRecord}
+use Rattle.driver.specs.Operations.{noImage}
 use borrow.Author.Needs.{needs}
 use Rattle.driver.proofs.begin.Statement.{statement}
 use Rattle.driver.proofs.begin.Tie as tie
@@ -15,7 +17,8 @@ same-length c = search needs
 
 -- src/lib.rt:532:1
 returns : tie.Need-returns
-returns c = ?
+unfolding noImage noRecord
+returns c = cc
 
 pub begin-spec : {M : Type 1} → statement M
 begin-spec = tie.close (tie.spec begin-requires same-length returns)

@@ -1,3 +1,4 @@
+use Rattle.driver.specs.Operations.{noImage}
 use borrow.Author.Needs.{needs}
 use Rattle.driver.proofs.begin_with.Statement.{statement}
 use Rattle.driver.proofs.begin_with.Tie as tie
@@ -20,7 +21,8 @@ same-length c = search needs
 
 -- src/lib.rt:541:1
 returns : tie.Need-returns
-returns c = ?
+unfolding noImage
+returns c = cc
 
 pub begin-with-spec : {M : Type 1} → statement M
 begin-with-spec = tie.close (tie.spec to-bytes-requires begin-requires same-length returns)

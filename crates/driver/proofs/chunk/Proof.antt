@@ -1,3 +1,5 @@
+use Rattle.driver.specs.Operations.{chunkStep}
+use borrow.Author.Tests.{lt-ltb, le-ltb}
 use borrow.Author.Needs.{needs}
 use Rattle.driver.proofs.chunk.Statement.{statement}
 use Rattle.driver.proofs.chunk.Tie as tie
@@ -24,11 +26,13 @@ same-length c = search needs
 
 -- src/lib.rt:359:1
 returns : tie.Need-returns
-returns c = ?
+unfolding chunkStep
+returns c = simp (lt-ltb _ _ (c .before .before .before .before .before .if1 .taken)) cc
 
 -- src/lib.rt:359:1
 returns-2 : tie.Need-returns-2
-returns-2 c = ?
+unfolding chunkStep
+returns-2 c = simp (le-ltb _ _ (c .if1 .left))
 
 pub chunk-spec : {M : Type 1} → statement M
 chunk-spec =

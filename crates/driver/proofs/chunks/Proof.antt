@@ -1,3 +1,5 @@
+use Rattle.driver.specs.Operations.{chunkSteps}
+use Rattle.exchange.proofs.Pushes.{push-append}
 use borrow.Author.Needs.{needs}
 use Rattle.driver.proofs.chunks.Statement.{statement}
 use Rattle.driver.proofs.chunks.Tie as tie
@@ -27,7 +29,8 @@ same-length c = search needs
 
 -- src/lib.rt:350:1
 returns : tie.Need-returns
-returns c = ?
+unfolding chunkSteps
+returns c = simp push-append cc
 
 pub chunks-spec : {M : Type 1} → statement M
 chunks-spec =

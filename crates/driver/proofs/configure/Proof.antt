@@ -1,3 +1,15 @@
+use Rattle.errors.specs.Number.{answerNumber}
+use mathlib.Core.Path.{sym, _∙_}
+use Rattle.checks.specs.Checks.{configureNumber}
+use mathlib.Core.Path.{_≡_}
+use Rattle.plans.proofs.Lengths.{at-most}
+use Rattle.plans.specs.Configure.{configureSteps}
+use Rattle.driver.specs.Operations.{unless, makes, configured}
+use Rattle.driver.proofs.Starts.{told, refused}
+use Rattle.driver.proofs.Runs.{make-pushes}
+use mathlib.Core.Path.{refl, ap}
+use Prim.Native.Nat.{ℕ}
+use denote.Ref.{now}
 use borrow.Author.Needs.{needs}
 use Rattle.driver.proofs.configure.Statement.{statement}
 use Rattle.driver.proofs.configure.Tie as tie
@@ -29,7 +41,7 @@ configure-requires c κs = search needs
 
 -- src/lib.rt:72:1
 returns : tie.Need-returns
-returns c = ?
+returns c = let a = c .before .before .before .before .before .args in told _ _ _ _ _ (refused (c .before .e .given .0 .0) (configureNumber (a .driver .variant) (a .a) (a .d)) (makes (configured (a .driver) (a .a) (a .d)) (configureSteps (a .a) (a .d))) (sym (ap answerNumber (c .before .e .given .1)) ∙ c .before .before .before .configure-checks .ensures)) refl refl
 
 -- src/lib.rt:72:1
 same-length : tie.Need-same-length
@@ -37,7 +49,7 @@ same-length c = search needs
 
 -- src/lib.rt:72:1
 returns-2 : tie.Need-returns-2
-returns-2 c = ?
+returns-2 c = let a = c .before .before .before .before .before .before .before .before .before .before .before .before .args in let e : configureNumber (a .driver .variant) (a .a) (a .d) ≡ 0 = sym (c .before .before .before .before .before .before .before .before .before .before .configure-checks .ensures) ∙ ap answerNumber (c .before .before .before .before .before .before .before .before .enum-told .given .1) in told _ _ _ _ _ (ap (λ (n : ℕ). unless n (makes (configured (a .driver) (a .a) (a .d)) (configureSteps (a .a) (a .d)))) e) refl (cc (make-pushes (now (a .session)) (configured (a .driver) (a .a) (a .d)) (configureSteps (a .a) (a .d)) (at-most (a .a) (a .d))))
 
 pub configure-spec : {M : Type 1} → statement M
 configure-spec =

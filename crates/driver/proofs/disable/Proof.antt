@@ -1,3 +1,5 @@
+use Rattle.driver.proofs.Starts.{told, with-settings}
+use mathlib.Core.Path.{refl, sym, _∙_}
 use borrow.Author.Needs.{needs}
 use Rattle.driver.proofs.disable.Statement.{statement}
 use Rattle.driver.proofs.disable.Tie as tie
@@ -32,7 +34,7 @@ same-length c = search needs
 
 -- src/lib.rt:232:1
 returns-2 : tie.Need-returns-2
-returns-2 c = ?
+returns-2 c = told _ _ _ _ _ (with-settings _ _ _ _ (c .before .before .before .before .before .enum-told2 .given .1)) refl cc
 
 pub disable-spec : {M : Type 1} → statement M
 disable-spec =

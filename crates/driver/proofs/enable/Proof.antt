@@ -1,3 +1,5 @@
+use Rattle.driver.proofs.Starts.{told, with-settings}
+use mathlib.Core.Path.{refl, sym, _∙_}
 use borrow.Author.Needs.{needs}
 use Rattle.driver.proofs.enable.Statement.{statement}
 use Rattle.driver.proofs.enable.Tie as tie
@@ -37,7 +39,7 @@ same-length c = search needs
 
 -- src/lib.rt:203:1
 returns-2 : tie.Need-returns-2
-returns-2 c = ?
+returns-2 c = told _ _ _ _ _ (with-settings _ _ _ _ (c .before .before .before .before .before .before .before .settings .given .1)) refl cc
 
 pub enable-spec : {M : Type 1} → statement M
 enable-spec =

@@ -1,3 +1,4 @@
+use Rattle.driver.specs.Operations.{enabled}
 use borrow.Author.Needs.{needs}
 use Rattle.driver.proofs.enabled.Statement.{statement}
 use Rattle.driver.proofs.enabled.Tie as tie
@@ -36,7 +37,8 @@ bits-requires c κs = search needs
 
 -- src/lib.rt:222:1
 returns : tie.Need-returns
-returns c = ?
+unfolding enabled
+returns c = cc
 
 pub enabled-spec : {M : Type 1} → statement M
 enabled-spec =

@@ -1,3 +1,4 @@
+use mathlib.Core.Path.{refl, sym, _∙_}
 use borrow.Author.Needs.{needs}
 use Rattle.driver.proofs.get_chip_rev.Statement.{statement}
 use Rattle.driver.proofs.get_chip_rev.Tie as tie
@@ -20,7 +21,7 @@ same-length c = search needs
 
 -- src/lib.rt:94:1
 returns : tie.Need-returns
-returns c = ?
+returns c = (refl, cc)
 
 pub get-chip-rev-spec : {M : Type 1} → statement M
 get-chip-rev-spec = tie.close (tie.spec address-requires run-requires same-length returns)

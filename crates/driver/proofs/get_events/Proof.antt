@@ -1,3 +1,9 @@
+use Rattle.exchange.specs.declared.Step.the-variants.{Write, Read, Update, Match, Chunk}
+use Rattle.driver.proofs.Runs.{run-pushes}
+use mathlib.Core.Path.{refl, sym, _∙_}
+use native.Mathlib.Omega.{arith}
+use mathlib.Core.List.{[], _∷_}
+use denote.Ref.{now}
 use borrow.Author.Needs.{needs}
 use Rattle.driver.proofs.get_events.Statement.{statement}
 use Rattle.driver.proofs.get_events.Tie as tie
@@ -49,7 +55,7 @@ same-length c = search needs
 
 -- src/lib.rt:107:1
 returns : tie.Need-returns
-returns c = ?
+returns c = let a = c .before .before .before .before .before .before .before .before .before .before .before .before .before .before .before .before .before .before .before .before .before .before .before .before .before .args in (refl, cc (run-pushes (now (a .session)) (a .driver .address) (Read 3 ∷ Read 4 ∷ Read 5 ∷ Write 3 255 ∷ []) (omega arith)))
 
 pub get-events-spec : {M : Type 1} → statement M
 get-events-spec =

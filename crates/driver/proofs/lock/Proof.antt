@@ -1,3 +1,4 @@
+use Rattle.driver.specs.Operations.{lockSteps}
 use borrow.Author.Needs.{needs}
 use Rattle.driver.proofs.lock.Statement.{statement}
 use Rattle.driver.proofs.lock.Tie as tie
@@ -25,11 +26,13 @@ same-length c = search needs
 
 -- src/lib.rt:376:1
 returns : tie.Need-returns
-returns c = ?
+unfolding lockSteps
+returns c = simp (c .before .before .before .before .before .before .if1 .taken) cc
 
 -- src/lib.rt:376:1
 returns-2 : tie.Need-returns-2
-returns-2 c = ?
+unfolding lockSteps
+returns-2 c = simp (c .if1 .left)
 
 pub lock-spec : {M : Type 1} → statement M
 lock-spec =

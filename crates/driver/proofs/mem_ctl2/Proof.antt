@@ -1,3 +1,4 @@
+use Rattle.driver.specs.Operations.{memCtl2}
 use borrow.Author.Needs.{needs}
 use Rattle.driver.proofs.mem_ctl2.Statement.{statement}
 use Rattle.driver.proofs.mem_ctl2.Tie as tie
@@ -21,7 +22,8 @@ bits-requires c κs = search needs
 
 -- src/lib.rt:313:1
 returns : tie.Need-returns
-returns c = ?
+unfolding memCtl2
+returns c = cc
 
 pub mem-ctl2-spec : {M : Type 1} → statement M
 mem-ctl2-spec = tie.close (tie.spec new-requires with-WAV-MEM-LOCK-requires bits-requires returns)

@@ -1,3 +1,10 @@
+use Rattle.driver.specs.Operations.{newRecord, revision}
+use Rattle.exchange.specs.declared.Step.the-variants.{Write, Read, Update, Match, Chunk}
+use Rattle.driver.proofs.Runs.{make-pushes}
+use mathlib.Core.Path.{refl, sym, _∙_}
+use native.Mathlib.Omega.{arith}
+use mathlib.Core.List.{[], _∷_}
+use denote.Ref.{now}
 use borrow.Author.Needs.{needs}
 use Rattle.driver.proofs.new.Statement.{statement}
 use Rattle.driver.proofs.new.Tie as tie
@@ -30,7 +37,7 @@ same-length c = search needs
 
 -- src/lib.rt:45:1
 returns : tie.Need-returns
-returns c = ?
+returns c = let a = c .before .before .before .before .before .before .before .before .before .before .before .args in (refl, cc (make-pushes (now (a .session)) (newRecord (a .address) (a .variant)) (Match 0 (revision (a .variant)) ∷ []) (omega arith)))
 
 pub new-spec : {M : Type 1} → statement M
 new-spec =

@@ -1,3 +1,9 @@
+use Rattle.driver.specs.Operations.{startSteps}
+use Rattle.exchange.specs.declared.Step.the-variants.{Write, Read, Update, Match, Chunk}
+use Rattle.driver.proofs.Runs.{run-pushes}
+use native.Mathlib.Omega.{arith}
+use mathlib.Core.List.{[], _∷_}
+use denote.Ref.{now}
 use borrow.Author.Needs.{needs}
 use Rattle.driver.proofs.play.Statement.{statement}
 use Rattle.driver.proofs.play.Tie as tie
@@ -41,7 +47,7 @@ same-length c = search needs
 
 -- src/lib.rt:463:1
 returns : tie.Need-returns
-returns c = ?
+returns c = let a = c .before .before .before .before .before .before .before .before .before .before .before .before .before .before .before .before .before .before .before .before .args in cc (run-pushes (now (a .session)) (a .address) (Write 40 (a .value) ∷ startSteps) (omega arith))
 
 pub play-spec : {M : Type 1} → statement M
 play-spec =

@@ -1,3 +1,6 @@
+use Rattle.da728x.specs.Record.{noRecord}
+use Rattle.driver.specs.Operations.{noImage}
+use mathlib.Core.Path.{refl, sym, _∙_}
 use borrow.Author.Needs.{needs}
 use Rattle.driver.proofs.read_waveform_memory.Statement.{statement}
 use Rattle.driver.proofs.read_waveform_memory.Tie as tie
@@ -20,7 +23,8 @@ same-length c = search needs
 
 -- src/lib.rt:388:1
 returns : tie.Need-returns
-returns c = ?
+unfolding noImage noRecord
+returns c = (refl, cc)
 
 pub read-waveform-memory-spec : {M : Type 1} → statement M
 read-waveform-memory-spec = tie.close (tie.spec reads-requires begin-requires same-length returns)

@@ -1,3 +1,5 @@
+use Rattle.driver.proofs.Hands.{unfinished, result-finished, result-unfinished}
+use mathlib.Core.Path.{refl, sym, _∙_}
 use borrow.Author.Needs.{needs}
 use Rattle.driver.proofs.result.Statement.{statement}
 use Rattle.driver.proofs.result.Tie as tie
@@ -28,15 +30,15 @@ shared-slice-read-t11 c = search needs
 
 -- src/lib.rt:523:13
 returns : tie.Need-returns
-returns c = ?
+returns c = result-finished _ _ (sym (c .before .before .before .before .before .is-completed .ensures) ∙ c .before .before .before .before .if2 .taken) (c .before .before .before .memory-reads .ensures)
 
 -- src/lib.rt:517:1
 returns-2 : tie.Need-returns-2
-returns-2 c = ?
+returns-2 c = result-unfinished _ (sym (c .before .is-completed .ensures) ∙ c .if2 .left)
 
 -- src/lib.rt:517:1
 returns-3 : tie.Need-returns-3
-returns-3 c = ?
+returns-3 c = result-unfinished _ (unfinished _ (c .if1 .left))
 
 pub result-spec : {M : Type 1} → statement M
 result-spec =

@@ -1,3 +1,7 @@
+use Rattle.driver.proofs.Runs.{run-pushes}
+use native.Mathlib.Omega.{arith}
+use mathlib.Core.List.{[], _∷_}
+use denote.Ref.{now}
 use borrow.Author.Needs.{needs}
 use Rattle.driver.proofs.run.Statement.{statement}
 use Rattle.driver.proofs.run.Tie as tie
@@ -20,7 +24,7 @@ same-length c = search needs
 
 -- src/lib.rt:548:1
 returns : tie.Need-returns
-returns c = ?
+returns c = let a = c .before .before .before .before .before .before .before .before .before .args in cc (run-pushes (now (a .session)) (a .address) (a .step ∷ []) (omega arith))
 
 pub run-spec : {M : Type 1} → statement M
 run-spec = tie.close (tie.spec begin-requires push-requires same-length returns)

@@ -1,3 +1,4 @@
+use Rattle.driver.specs.Operations.{seqCtl2}
 use borrow.Author.Needs.{needs}
 use Rattle.driver.proofs.seq_ctl2.Statement.{statement}
 use Rattle.driver.proofs.seq_ctl2.Tie as tie
@@ -26,7 +27,8 @@ bits-requires c κs = search needs
 
 -- src/lib.rt:481:1
 returns : tie.Need-returns
-returns c = ?
+unfolding seqCtl2
+returns c = cc
 
 pub seq-ctl2-spec : {M : Type 1} → statement M
 seq-ctl2-spec =

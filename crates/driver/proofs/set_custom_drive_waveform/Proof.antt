@@ -1,3 +1,8 @@
+use Rattle.driver.specs.Operations.{refuses, isCustom}
+use Rattle.driver.proofs.Starts.{numbered, with-settings}
+use Rattle.config.specs.declared.DrivingMode.{DrivingMode}
+use mathlib.Core.Bool.{cond}
+use mathlib.Core.Path.{refl, ap, _∙_}
 use borrow.Author.Needs.{needs}
 use Rattle.driver.proofs.set_custom_drive_waveform.Statement.{statement}
 use Rattle.driver.proofs.set_custom_drive_waveform.Tie as tie
@@ -30,15 +35,15 @@ returns c = search needs
 
 -- src/lib.rt:254:1
 returns-2 : tie.Need-returns-2
-returns-2 c = ?
+returns-2 c = numbered _ _ _ (with-settings _ _ _ _ (c .before .before .before .settings .given .1) ∙ ap (λ (m : DrivingMode). refuses (cond (isCustom m) 14 12)) (c .enum-told2 .given .1)) refl
 
 -- src/lib.rt:254:1
 returns-3 : tie.Need-returns-3
-returns-3 c = ?
+returns-3 c = numbered _ _ _ (with-settings _ _ _ _ (c .before .before .before .settings .given .1) ∙ ap (λ (m : DrivingMode). refuses (cond (isCustom m) 14 12)) (c .enum-told3 .given .1)) refl
 
 -- src/lib.rt:254:1
 returns-4 : tie.Need-returns-4
-returns-4 c = ?
+returns-4 c = numbered _ _ _ (with-settings _ _ _ _ (c .before .before .before .settings .given .1) ∙ ap (λ (m : DrivingMode). refuses (cond (isCustom m) 14 12)) (c .enum-told4 .given .1)) refl
 
 pub set-custom-drive-waveform-spec : {M : Type 1} → statement M
 set-custom-drive-waveform-spec =

@@ -1,3 +1,11 @@
+use Rattle.plans.proofs.Lengths.{frequency}
+use Rattle.plans.specs.Configure.{frequencySteps}
+use Rattle.driver.proofs.Starts.{told, with-settings, fails, passes}
+use Rattle.driver.proofs.Runs.{run-pushes}
+use mathlib.Core.Path.{refl, sym, _∙_}
+use native.Mathlib.Omega.{arith}
+use mathlib.Core.List.{[]}
+use denote.Ref.{now}
 use borrow.Author.Needs.{needs}
 use Rattle.driver.proofs.set_frequency.Statement.{statement}
 use Rattle.driver.proofs.set_frequency.Tie as tie
@@ -21,7 +29,7 @@ outside-band-requires c κs = search needs
 
 -- src/lib.rt:146:17
 returns : tie.Need-returns
-returns c = ?
+returns c = told _ _ _ _ _ (with-settings _ _ _ _ (c .before .before .before .settings .given .1) ∙ fails _ 10 [] _ (sym (c .before .outside-band .ensures) ∙ c .if1 .taken)) refl refl
 
 -- src/lib.rt:148:13
 begin-requires : tie.Need-begin-requires
@@ -41,7 +49,7 @@ same-length c = search needs
 
 -- src/lib.rt:136:1
 returns-3 : tie.Need-returns-3
-returns-3 c = ?
+returns-3 c = let a = c .before .before .before .before .before .before .before .before .before .before .before .before .before .before .args in told _ _ _ _ _ (with-settings _ _ _ _ (c .before .before .before .before .before .before .before .before .before .before .before .settings .given .1) ∙ passes _ 11 [] _ (sym (c .before .before .before .before .before .before .before .before .before .outside-band .ensures) ∙ c .before .before .before .before .before .before .before .before .if1 .left)) refl (cc (run-pushes (now (a .session)) (a .driver .address) (frequencySteps (a .frequency-hz)) (omega (arith, frequency (a .frequency-hz)))))
 
 pub set-frequency-spec : {M : Type 1} → statement M
 set-frequency-spec =

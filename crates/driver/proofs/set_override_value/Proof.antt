@@ -1,13 +1,17 @@
+use Rattle.driver.specs.Operations.{startNumber, startedIn, overriding}
+use mathlib.Core.Path.{_≡_, ap, _∙_}
+use lib.IntN.{ℤ}
+use mir.ValLaws.{toZ-ofZ}
+use mir.Val.{ofZ, toZ}
+use mir.Syntax.{w8}
+use Rattle.driver.proofs.Starts.{with-override}
+use denote.Ref.{now}
 use borrow.Author.Needs.{needs}
 use Rattle.driver.proofs.set_override_value.Statement.{statement}
 use Rattle.driver.proofs.set_override_value.Tie as tie
 use Rattle.driver.proofs.set_override_value.Reads as reads
 use Rattle.driver.proofs.set_override_value.Lts as lts
-use Rattle.convert.proofs.override_byte.Reads as override-byte-reads
-use Rattle.driver.proofs.is_dro.Reads as is-dro-reads
-use Rattle.driver.proofs.run.Reads as run-reads
-use Rattle.driver.proofs.wrong_sign.Reads as wrong-sign-reads
-use Rattle.registers.proofs.Register.address.Reads as address-reads
+use Rattle.driver.proofs.overriding.Reads as overriding-reads
 
 -- src/lib.rt:161:45
 enum-told : tie.Need-enum-told
@@ -17,59 +21,28 @@ enum-told c = search needs
 enum-known-settings : tie.Need-enum-known-settings
 enum-known-settings c = search needs
 
--- src/lib.rt:163:16
-wrong-sign-requires : tie.Need-wrong-sign-requires
-wrong-sign-requires c κs = search needs
+-- src/lib.rt:162:34
+overriding-requires : tie.Need-overriding-requires
+overriding-requires c κs = search needs
 
--- src/lib.rt:164:17
+-- src/lib.rt:155:1
 returns : tie.Need-returns
-returns c = ?
+returns c = search needs
 
--- src/lib.rt:167:16
-is-dro-requires : tie.Need-is-dro-requires
-is-dro-requires c κs = search needs
-
--- src/lib.rt:171:33
-address-requires : tie.Need-address-requires
-address-requires c κs = search needs
-
--- src/lib.rt:171:63
-override-byte-requires : tie.Need-override-byte-requires
-override-byte-requires c κs = search needs
-
--- src/lib.rt:168:17
-run-requires : tie.Need-run-requires
-run-requires c κs = search needs
-
--- src/lib.rt:173:17
+-- src/lib.rt:155:1
 same-length : tie.Need-same-length
 same-length c = search needs
 
--- src/lib.rt:173:17
+-- src/lib.rt:155:1
 returns-2 : tie.Need-returns-2
-returns-2 c = ?
-
--- src/lib.rt:155:1
-returns-3 : tie.Need-returns-3
-returns-3 c = search needs
-
--- src/lib.rt:155:1
-returns-4 : tie.Need-returns-4
-returns-4 c = ?
+returns-2 c = let a = c .before .before .before .before .before .before .before .before .args in
+    let g = c .before .before .before .before .before .settings .given in
+    let v : toZ w8 (ofZ w8 (a .value)) ≡ a .value = toZ-ofZ w8 (a .value) (c .before .before .before .before .before .before .before .before .fits .value) in
+    with-override (now (a .session)) _ _ (a .driver) (g .0 .0) (g .0 .1 .0) (a .value) (g .1)
+    (c .before .before .overriding .ensures .0 ∙ ap (λ (z : ℤ). startNumber (overriding (a .driver .address) (g .0 .1 .0) z)) v)
+    (c .before .before .overriding .ensures .1 ∙ ap (λ (z : ℤ). startedIn (now (a .session)) (overriding (a .driver .address) (g .0 .1 .0) z)) v)
 
 pub set-override-value-spec : {M : Type 1} → statement M
 set-override-value-spec =
     tie.close
-    (tie.spec
-    enum-told
-    enum-known-settings
-    wrong-sign-requires
-    returns
-    is-dro-requires
-    address-requires
-    override-byte-requires
-    run-requires
-    same-length
-    returns-2
-    returns-3
-    returns-4)
+    (tie.spec enum-told enum-known-settings overriding-requires returns same-length returns-2)

@@ -1,3 +1,4 @@
+use mathlib.Core.Path.{refl, sym, _∙_}
 use borrow.Author.Needs.{needs}
 use Rattle.driver.proofs.set_timebase.Statement.{statement}
 use Rattle.driver.proofs.set_timebase.Tie as tie
@@ -25,7 +26,7 @@ same-length c = search needs
 
 -- src/lib.rt:273:1
 returns : tie.Need-returns
-returns c = ?
+returns c = (refl, cc)
 
 pub set-timebase-spec : {M : Type 1} → statement M
 set-timebase-spec =

@@ -1,3 +1,4 @@
+use mathlib.Core.Path.{refl, sym, _∙_}
 use borrow.Author.Needs.{needs}
 use Rattle.driver.proofs.start_sequence.Statement.{statement}
 use Rattle.driver.proofs.start_sequence.Tie as tie
@@ -20,7 +21,7 @@ same-length c = search needs
 
 -- src/lib.rt:437:1
 returns : tie.Need-returns
-returns c = ?
+returns c = (refl, cc)
 
 pub start-sequence-spec : {M : Type 1} → statement M
 start-sequence-spec = tie.close (tie.spec address-requires update-requires same-length returns)

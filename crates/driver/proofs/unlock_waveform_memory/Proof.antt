@@ -1,3 +1,4 @@
+use mathlib.Core.Path.{refl, sym, _∙_}
 use borrow.Author.Needs.{needs}
 use Rattle.driver.proofs.unlock_waveform_memory.Statement.{statement}
 use Rattle.driver.proofs.unlock_waveform_memory.Tie as tie
@@ -25,7 +26,7 @@ same-length c = search needs
 
 -- src/lib.rt:288:1
 returns : tie.Need-returns
-returns c = ?
+returns c = (refl, cc)
 
 pub unlock-waveform-memory-spec : {M : Type 1} → statement M
 unlock-waveform-memory-spec =

@@ -1,3 +1,8 @@
+use Rattle.exchange.specs.declared.Step.the-variants.{Read, Update}
+use Rattle.driver.proofs.Runs.{run-pushes}
+use native.Mathlib.Omega.{arith}
+use mathlib.Core.List.{[], _∷_}
+use denote.Ref.{now}
 use borrow.Author.Needs.{needs}
 use Rattle.driver.proofs.update.Statement.{statement}
 use Rattle.driver.proofs.update.Tie as tie
@@ -24,7 +29,7 @@ same-length c = search needs
 
 -- src/lib.rt:556:1
 returns : tie.Need-returns
-returns c = ?
+returns c = let a = c .before .before .before .before .before .before .before .before .before .before .before .before .before .args in cc (run-pushes (now (a .session)) (a .address) (Read (a .register) ∷ Update (a .register) (a .shift) (a .width) (a .value) ∷ []) (omega arith))
 
 pub update-spec : {M : Type 1} → statement M
 update-spec = tie.close (tie.spec begin-requires push-requires push-requires-2 same-length returns)

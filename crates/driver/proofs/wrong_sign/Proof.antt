@@ -1,3 +1,4 @@
+use Rattle.driver.proofs.Signs.{sign}
 use borrow.Author.Needs.{needs}
 use Rattle.driver.proofs.wrong_sign.Statement.{statement}
 use Rattle.driver.proofs.wrong_sign.Tie as tie
@@ -6,7 +7,7 @@ use Rattle.driver.proofs.wrong_sign.Lts as lts
 
 -- src/lib.rt:185:9
 returns : tie.Need-returns
-returns c = ?
+returns c = simp (c .if1 .taken) (sign (c .before .args .value) (c .before .fits .value))
 
 -- src/lib.rt:181:1
 returns-2 : tie.Need-returns-2

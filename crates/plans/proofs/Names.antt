@@ -1,0 +1,119 @@
+-- Every field that the steps of `configure` name is in its register's table, and the steps write the fields listed here: a misspelt
+-- name would have no width, and its value would be missing. In a fresh byte a field that is given 0 changes nothing, however spelt.
+-- Assumes nothing.
+use Prim.Native.Nat.{ℕ}
+use mathlib.Core.Path.{_≡_, refl}
+use mathlib.Core.Bool.{Bool, true, false, _&&_}
+use mathlib.Core.List.{List, [], _∷_}
+use lib.Dec.{ltb, eqb}
+use lib.ListN.{getD}
+use Rattle.field.specs.Field.{withOf}
+use Rattle.field.specs.Layout.{Part, widthOf}
+use Rattle.registers_actuator.specs.Table.{top-cfg1, top-cfg2, top-cfg4, actuator3, frq-lra-per-l}
+use Rattle.registers_control.specs.Table.{top-int-cfg8, seq-ctl1}
+use Rattle.registers_trigger.specs.Table.{top-cfg5, frq-phase-l, gpi-0-ctl, gpi-1-ctl, gpi-2-ctl}
+use Rattle.config.specs.declared.ActuatorConfig.{ActuatorConfig}
+use Rattle.config.specs.declared.ActuatorType.the-variants.{ERM}
+use Rattle.config.specs.declared.DeviceConfig.{DeviceConfig}
+use Rattle.config.specs.declared.DrivingMode.the-variants.{«FREQUENCY_TRACK»}
+use Rattle.config.specs.declared.OperationMode.the-variants.{«ETWM_MODE»}
+use Rattle.config.specs.declared.Pid.the-variants as pid
+use Rattle.config.specs.declared.Trigger.{Trigger}
+use Rattle.config.specs.declared.Trigger.the-variants as trigger
+use Rattle.config.specs.declared.TriggerMode.the-variants.{SingleSequence}
+use Rattle.config.specs.declared.TriggerPolarity.the-variants.{Both}
+use Rattle.exchange.specs.declared.Step.{Step}
+use Rattle.exchange.specs.declared.Step.the-variants.{Write, Read, Update, Match, Chunk, Store}
+use Rattle.plans.specs.Fields.{FieldValue, given, withFields, fresh}
+use Rattle.plans.specs.Configure.{featureSteps, limitSteps, frequencySteps, rapidStopSteps, phaseSteps, customSteps, gpi0, gpi1, gpi2, triggerStep0, triggerStep1, triggerStep2}
+
+-- ---- what is checked
+
+-- a register's table, the fields that a step gives it, and the step
+pub record Row : Type 0 where
+  pub parts : List Part
+  pub fields : List FieldValue
+  pub writes : Step
+
+-- the i-th of some steps
+abbrev pub row : List Part → List FieldValue → List Step → ℕ → Row
+row parts fields xs i = record { parts = parts; fields = fields; writes = getD xs i (Read 0) }
+
+-- whether every name is in the table
+abbrev named : List Part → List FieldValue → Bool
+named parts [] = true
+named parts (g ∷ gs) = ltb 0 (widthOf parts (g .name)) && named parts gs
+
+-- whether a step writes these fields: a fresh byte, or the byte read last with them, be that 0 or 255
+abbrev makes : List Part → List FieldValue → Step → Bool
+makes parts gs (Write register value) = eqb (fresh parts gs) value
+makes parts gs (Update register shift width value) =
+    eqb (withFields parts 0 gs) (withOf 0 shift width value) && eqb (withFields parts 255 gs) (withOf 255 shift width value)
+makes parts gs (Read register) = false
+makes parts gs (Match register value) = false
+makes parts gs (Chunk offset len) = false
+makes parts gs (Store index) = false
+
+abbrev pub allNamed : List Row → Bool
+allNamed [] = true
+allNamed (r ∷ rs) = named (r .parts) (r .fields) && makes (r .parts) (r .fields) (r .writes) && allNamed rs
+
+-- ---- settings that set the fields
+
+abbrev pub actuator : ActuatorConfig
+actuator =
+    record {
+      «actuator_type» = ERM;
+      «nominal_max_mV» = 2000;
+      «absolute_max_mV» = 2000;
+      «max_current_mA» = 200;
+      «impedance_mOhm» = 8000;
+      «inductance_uH» = 100;
+      «frequency_Hz» = 150;
+      «pid_Kp_Ki» = pid.Absent;
+    }
+
+abbrev gpi : Trigger
+gpi = trigger.Given (record { «sequence_id» = 15; polarity = Both; mode = SingleSequence })
+
+abbrev pub device : Bool → DeviceConfig
+device accelerates =
+    record {
+      «operation_mode» = «ETWM_MODE»;
+      «driving_mode» = «FREQUENCY_TRACK»;
+      «gpi_trigger_0» = gpi;
+      «gpi_trigger_1» = gpi;
+      «gpi_trigger_2» = gpi;
+      acceleration = accelerates;
+      «rapid_stop» = true;
+    }
+
+-- ---- the names
+
+rows : List Row
+rows =
+    row top-cfg1 (
+    given "ACTUATOR_TYPE" 1
+    ∷ given "BEMF_SENSE_EN" 1
+    ∷ given "FREQ_TRACK_EN" 1
+    ∷ given "ACCELERATION_EN" 1
+    ∷ given "RAPID_STOP_EN" 1
+    ∷ given "AMP_PID_EN" 0
+    ∷ given "EMBEDDED_MODE" 1
+    ∷ []) (featureSteps actuator (device true)) 0
+    ∷ row top-cfg2 (given "MEM_DATA_SIGNED" 1 ∷ []) (featureSteps actuator (device false)) 2
+    ∷ row top-cfg5 (given "V2I_FACTOR_OFFSET_EN" 1 ∷ []) (featureSteps actuator (device true)) 3
+    ∷ row actuator3 (given "IMAX" 23 ∷ []) (limitSteps actuator) 2
+    ∷ row frq-lra-per-l (given "LRA_PER_L" 8 ∷ []) (frequencySteps 150) 1
+    ∷ row top-int-cfg8 (given "RAPID_STOP_LIM" 7 ∷ []) rapidStopSteps 1
+    ∷ row frq-phase-l (given "DELAY_SHIFT_L" 0 ∷ given "DELAY_FREEZE" 1 ∷ []) phaseSteps 1
+    ∷ row seq-ctl1 (given "WAVEGEN_MODE" 1 ∷ []) customSteps 0
+    ∷ row top-cfg4 (given "V2I_FACTOR_FREEZE" 1 ∷ []) customSteps 1
+    ∷ row gpi-0-ctl (given "GPI0_POLARITY" 2 ∷ given "GPI0_MODE" 1 ∷ given "GPI0_SEQUENCE_ID" 15 ∷ []) (triggerStep0 gpi) 0
+    ∷ row gpi-1-ctl (given "GPI1_POLARITY" 2 ∷ given "GPI1_MODE" 1 ∷ given "GPI1_SEQUENCE_ID" 15 ∷ []) (triggerStep1 gpi) 0
+    ∷ row gpi-2-ctl (given "GPI2_POLARITY" 2 ∷ given "GPI2_MODE" 1 ∷ given "GPI2_SEQUENCE_ID" 15 ∷ []) (triggerStep2 gpi) 0
+    ∷ []
+
+names : allNamed rows ≡ true
+unfolding rows withOf featureSteps limitSteps frequencySteps rapidStopSteps phaseSteps customSteps gpi0 gpi1 gpi2 triggerStep0 triggerStep1 triggerStep2
+names = refl
