@@ -36,3 +36,29 @@ errorNumber Error.OutOfTurn = 19
 abbrev pub answerNumber : Answer → ℕ
 answerNumber Answer.Done = 0
 answerNumber (Answer.Refused e) = errorNumber e
+
+-- "17 I2c, with the bus's own failure code (one byte) handed through"; 0 for any other
+abbrev pub errorCode : Error → ℕ
+errorCode (Error.I2c code) = code
+errorCode Error.InvalidTimebase = 0
+errorCode Error.InvalidAmplitude = 0
+errorCode Error.InvalidSnippetId = 0
+errorCode Error.InvalidLoopCount = 0
+errorCode Error.InvalidFrequency = 0
+errorCode Error.TooManySnippets = 0
+errorCode Error.TooManySequences = 0
+errorCode Error.WaveformMemoryFull = 0
+errorCode Error.EmptySnippet = 0
+errorCode Error.EmptySequence = 0
+errorCode Error.InvalidValue = 0
+errorCode Error.WrongMode = 0
+errorCode Error.MissingTriggerConfigInEtwmMode = 0
+errorCode Error.NotSupported = 0
+errorCode Error.NotConfigured = 0
+errorCode Error.VariantMismatch = 0
+errorCode Error.NotAnImage = 0
+errorCode Error.OutOfTurn = 0
+
+abbrev pub busCode : Answer → ℕ
+busCode Answer.Done = 0
+busCode (Answer.Refused e) = errorCode e

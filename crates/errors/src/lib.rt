@@ -2,7 +2,7 @@
 // The Rust's names; `Gpio` is left out, since no ported operation drives a pin; `NotAnImage` and `OutOfTurn` are added.
 // `I2c` carries the bus's own failure code. Proved: `number` is document 01's list. Left out: the texts for printing.
 ghost use mathlib.Core.Path.{_≡_};
-ghost use Rattle.errors.specs.Number.{errorNumber, answerNumber};
+ghost use Rattle.errors.specs.Number.{errorNumber, answerNumber, errorCode, busCode};
 
 pub enum Error {
     I2c(u8),
@@ -33,6 +33,33 @@ pub enum Answer {
 }
 
 impl Error {
+    // The bus's own code, or 0.
+    pub fn bus_code(self) -> u8
+        ensures { λ r. ⌜ r ≡ errorCode self ⌝ }
+    {
+        match self {
+            Error::I2c(code) => code,
+            Error::InvalidTimebase => 0,
+            Error::InvalidAmplitude => 0,
+            Error::InvalidSnippetId => 0,
+            Error::InvalidLoopCount => 0,
+            Error::InvalidFrequency => 0,
+            Error::TooManySnippets => 0,
+            Error::TooManySequences => 0,
+            Error::WaveformMemoryFull => 0,
+            Error::EmptySnippet => 0,
+            Error::EmptySequence => 0,
+            Error::InvalidValue => 0,
+            Error::WrongMode => 0,
+            Error::MissingTriggerConfigInEtwmMode => 0,
+            Error::NotSupported => 0,
+            Error::NotConfigured => 0,
+            Error::VariantMismatch => 0,
+            Error::NotAnImage => 0,
+            Error::OutOfTurn => 0,
+        }
+    }
+
     pub fn number(self) -> u8
         ensures { λ r. ⌜ r ≡ errorNumber self ⌝ }
     {
@@ -61,6 +88,16 @@ impl Error {
 }
 
 impl Answer {
+    // The bus's own code, or 0.
+    pub fn bus_code(self) -> u8
+        ensures { λ r. ⌜ r ≡ busCode self ⌝ }
+    {
+        match self {
+            Answer::Done => 0,
+            Answer::Refused(e) => e.bus_code(),
+        }
+    }
+
     // The refusal's number, or 0.
     pub fn number(self) -> u8
         ensures { λ r. ⌜ r ≡ answerNumber self ⌝ }

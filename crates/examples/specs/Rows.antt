@@ -1,9 +1,12 @@
--- The rows of document 01, 'Checked examples', that are marked P: what is asked, and what the paper says of it.
+-- The rows of document 01, 'Checked examples', that are marked P, all of them: what is asked, and what the paper says of it.
 use Prim.Native.Nat.{ℕ, zero, suc}
 use mathlib.Core.Bool.{Bool, true, false}
 use mathlib.Core.List.{List, [], _∷_}
 use lib.ListN.{replicate}
+use lib.IntN.{ℤ, negsuc}
 use Rattle.errors.specs.Told.{Told, gives, refuses, Step}
+use Rattle.convert.specs.Convert.{voltageByte, imaxCode, v2iWord, periodWord, highPart, lowPart, overrideByte}
+use Rattle.convert.specs.Trim.{trim4Byte}
 use Rattle.snippet.specs.Point.{point}
 use Rattle.frame.specs.declared.FrameBuilder.{FrameBuilder}
 use Rattle.frame.specs.declared.Gain.{Gain}
@@ -29,11 +32,26 @@ pub data Question : Type 0 where
   frameOf : ℕ → List Call → Question
   -- an image: the calls on a memory's builder
   imageOf : List MemoryCall → Question
+  -- a voltage's byte: millivolts
+  voltageOf : ℕ → Question
+  -- IMAX: milliamperes
+  imaxOf : ℕ → Question
+  -- the word V2I: milliohms, IMAX
+  v2iOf : ℕ → ℕ → Question
+  -- the period word: hertz
+  periodOf : ℕ → Question
+  -- the high and the low part of the period word: hertz
+  partsOf : ℕ → Question
+  -- an override value's byte
+  overrideOf : ℤ → Question
+  -- TRIM4: milliohms, microhenries
+  trim4Of : ℕ → ℕ → Question
 
--- ---- what the definitions say: bytes, or the number of the refusal
+-- ---- what the definitions say: bytes, a word, or the number of the refusal
 
 pub data Outcome : Type 0 where
   bytes : List ℕ → Outcome
+  word : ℕ → Outcome
   refusal : ℕ → Outcome
 
 abbrev pub called : FrameBuilder → Call → Step FrameBuilder
@@ -65,6 +83,13 @@ abbrev pub outcome : Question → Outcome
 outcome (pointOf r t a) = pointed (point r t a)
 outcome (frameOf n ks) = begun (newFrame n) ks
 outcome (imageOf ks) = imaged (builtFrom false ks .number) (builtFrom false ks .item .«data»)
+outcome (voltageOf mV) = bytes (voltageByte mV ∷ [])
+outcome (imaxOf mA) = bytes (imaxCode mA ∷ [])
+outcome (v2iOf mOhm imax) = word (v2iWord mOhm imax)
+outcome (periodOf hz) = word (periodWord hz)
+outcome (partsOf hz) = bytes (highPart (periodWord hz) ∷ lowPart (periodWord hz) ∷ [])
+outcome (overrideOf v) = bytes (overrideByte v ∷ [])
+outcome (trim4Of mOhm uH) = bytes (trim4Byte mOhm uH ∷ [])
 
 -- ---- the table
 
@@ -95,4 +120,18 @@ rows =
     -- snippet AA 00 with sequence 01: image 01 01 05 06 AA 00 01 and 93 zeros.
     ∷ row (imageOf (addSnippet (ramp 3 10 ∷ step 1 0 ∷ []) ∷ addSequence (record { begin = new 1; calls = [] } ∷ []) ∷ []))
     (bytes (0x01 ∷ 0x01 ∷ 0x05 ∷ 0x06 ∷ 0xAA ∷ 0x00 ∷ 0x01 ∷ replicate 93 0))
+    -- 5990 mV gives 255, 2500 gives 106; 29 mA gives 0, 252 gives 31, 165 gives 18.
+    ∷ row (voltageOf 5990) (bytes (255 ∷ []))
+    ∷ row (voltageOf 2500) (bytes (106 ∷ []))
+    ∷ row (imaxOf 29) (bytes (0 ∷ []))
+    ∷ row (imaxOf 252) (bytes (31 ∷ []))
+    ∷ row (imaxOf 165) (bytes (18 ∷ []))
+    -- 8000 mOhm at IMAX 18: V2I 109. 170 Hz: word 4411, parts 34 and 59.
+    ∷ row (v2iOf 8000 18) (word 109)
+    ∷ row (periodOf 170) (word 4411)
+    ∷ row (partsOf 170) (bytes (34 ∷ 59 ∷ []))
+    -- override −1 sends FF, −128 sends 80; negsuc n is −n − 1. 8 ohms, 50 µH: TRIM4 02.
+    ∷ row (overrideOf (negsuc 0)) (bytes (0xFF ∷ []))
+    ∷ row (overrideOf (negsuc 127)) (bytes (0x80 ∷ []))
+    ∷ row (trim4Of 8000 50) (bytes (0x02 ∷ []))
     ∷ []

@@ -5,14 +5,14 @@ use mathlib.Core.Bool.{Bool, true, false, cond}
 use mathlib.Core.List.{List, [], _∷_}
 use lib.ListN.{length}
 use Rattle.errors.specs.declared.Answer.{Answer}
-use Rattle.errors.specs.Number.{answerNumber}
+use Rattle.errors.specs.Number.{answerNumber, busCode}
 use Rattle.exchange.specs.declared.Step.{Step}
 use Rattle.exchange.specs.declared.Reply.{Reply}
 use Rattle.exchange.specs.declared.Turn.{Turn}
 use Rattle.exchange.specs.declared.Fit.{Fit}
 use Rattle.exchange.specs.declared.Fit.the-variants.{Unfit, Broke, Went, Got, Kept, Wrong}
 use Rattle.exchange.specs.State.{countIn, noneLeft, left}
-use Rattle.exchange.specs.Turn.{fittingOf, changed, fitsNext, fitOf, going, stateBy, stateAfter, bufferBy, bufferAfter, numberBy, codeBy, toldBy, toldOf, busCode, turnTold, turnIn}
+use Rattle.exchange.specs.Turn.{fittingOf, changed, fitsNext, fitOf, going, stateBy, stateAfter, bufferBy, bufferAfter, numberBy, codeBy, toldBy, toldOf, turnTold, turnIn}
 use Rattle.exchange.proofs.Left.{some-going}
 
 -- an answer that fits

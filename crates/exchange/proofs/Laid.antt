@@ -56,7 +56,7 @@ chunk-part image offset len start n e f g =
     ∙ ap (take (min len 32)) (drop-bounded image offset start e f)
 
 -- zeros without the first k
-drop-replicate : (k n : ℕ) → drop {A = ℕ} k (replicate n 0) ≡ replicate (n - k) 0
+pub drop-replicate : (k n : ℕ) → drop {A = ℕ} k (replicate n 0) ≡ replicate (n - k) 0
 drop-replicate zero n = let e : n ≡ n - zero = omega arith in ap (λ (m : ℕ). replicate m 0) e
 drop-replicate (suc k) zero = let e : zero ≡ zero - suc k = omega arith in ap (λ (m : ℕ). replicate m 0) e
 drop-replicate (suc k) (suc n) = let e : n - k ≡ suc n - suc k = omega arith in drop-replicate k n ∙ ap (λ (m : ℕ). replicate m 0) e

@@ -5,11 +5,8 @@ use mathlib.Core.Bool.{Bool, cond, not, _&&_}
 use mathlib.Core.List.{List, [], _∷_}
 use lib.Dec.{ltb, eqb}
 use lib.ListN.{length, set}
-use Rattle.errors.specs.declared.Error.{Error}
-use Rattle.errors.specs.declared.Error.the-variants.{I2c, VariantMismatch, InvalidValue, NotSupported, NotConfigured, WrongMode, MissingTriggerConfigInEtwmMode, WaveformMemoryFull, TooManySnippets, TooManySequences, InvalidSnippetId, InvalidTimebase, InvalidAmplitude, InvalidFrequency, InvalidLoopCount, EmptySnippet, EmptySequence, NotAnImage, OutOfTurn}
-use Rattle.errors.specs.Number.{answerNumber}
+use Rattle.errors.specs.Number.{answerNumber, busCode}
 use Rattle.errors.specs.declared.Answer.{Answer}
-use Rattle.errors.specs.declared.Answer.the-variants as answer
 use Rattle.laws.specs.Copied.{over}
 use Rattle.exchange.specs.declared.Step.{Step}
 use Rattle.exchange.specs.declared.Step.the-variants.{Write, Read, Update, Match, Chunk, Store}
@@ -125,29 +122,6 @@ toldBy st f = record { number = numberBy f; code = codeBy f; made = countIn (sta
 
 unfoldable pub toldOf : List ℕ → Reply → ℕ → Told
 toldOf st a n = toldBy st (fitOf st a n)
-
--- the bus's own code in an answer
-abbrev pub busCode : Answer → ℕ
-busCode answer.Done = 0
-busCode (answer.Refused (I2c code)) = code
-busCode (answer.Refused VariantMismatch) = 0
-busCode (answer.Refused OutOfTurn) = 0
-busCode (answer.Refused InvalidValue) = 0
-busCode (answer.Refused NotSupported) = 0
-busCode (answer.Refused NotConfigured) = 0
-busCode (answer.Refused WrongMode) = 0
-busCode (answer.Refused MissingTriggerConfigInEtwmMode) = 0
-busCode (answer.Refused WaveformMemoryFull) = 0
-busCode (answer.Refused TooManySnippets) = 0
-busCode (answer.Refused TooManySequences) = 0
-busCode (answer.Refused InvalidSnippetId) = 0
-busCode (answer.Refused InvalidTimebase) = 0
-busCode (answer.Refused InvalidAmplitude) = 0
-busCode (answer.Refused InvalidFrequency) = 0
-busCode (answer.Refused InvalidLoopCount) = 0
-busCode (answer.Refused EmptySnippet) = 0
-busCode (answer.Refused EmptySequence) = 0
-busCode (answer.Refused NotAnImage) = 0
 
 -- a turn in document 01's numbers
 abbrev pub turnTold : Turn → Told

@@ -1,0 +1,3 @@
+pub mod Puts
+pub mod Starts
+pub mod Uploads
