@@ -9,7 +9,10 @@
  *    1 InvalidTimebase      2 InvalidAmplitude     3 InvalidSnippetId
  *    4 InvalidLoopCount     5 InvalidFrequency     6 TooManySnippets
  *    7 TooManySequences     8 WaveformMemoryFull   9 EmptySnippet
- *   10 EmptySequence      18 NotAnImage
+ *   10 EmptySequence       11 InvalidValue        12 WrongMode
+ *   13 MissingTriggerConfigInEtwmMode            14 NotSupported
+ *   15 NotConfigured       16 VariantMismatch     17 I2c (the bus failed)
+ *   18 NotAnImage          19 OutOfTurn
  */
 #ifndef DA728X_H
 #define DA728X_H
@@ -134,6 +137,183 @@ size_t da728x_replace_interrupts(uint8_t byte, uint8_t value, uint8_t *out, size
 size_t da728x_replace_actuator(uint8_t byte, uint8_t value, uint8_t *out, size_t out_len);
 size_t da728x_replace_control(uint8_t byte, uint8_t value, uint8_t *out, size_t out_len);
 size_t da728x_replace_trigger(uint8_t byte, uint8_t value, uint8_t *out, size_t out_len);
+
+/* ---- driver sessions -------------------------------------------------- */
+
+/* An operation of the driver is a session of exchanges on a bus that the caller
+ * runs: it hands out one exchange at a time (chip address, bytes to send, 0 or 1
+ * bytes wanted) and takes back done, a byte or a failure.
+ *
+ * A session and a record are bytes that the caller keeps and lends. A session's
+ * bytes say nothing to the caller; any bytes are some session, one of another
+ * length has ended, and one of zeros, which was never begun, has ended with nothing
+ * to hand back.
+ *
+ *     uint8_t session[DA728X_SESSION], record[DA728X_RECORD], bytes[33];
+ *     uint8_t refused = da728x_enable(record, sizeof record, session, sizeof session);
+ *     uint32_t next, told;
+ *     if (refused) return refused;
+ *     while ((next = da728x_pending(session, sizeof session, bytes, sizeof bytes)) != 0) {
+ *         ... send the first (next & 255) bytes to the chip at (next >> 8 & 255) and,
+ *             if (next >> 16), read a byte: kind and byte ...
+ *         told = da728x_answer(session, sizeof session, kind, byte, buffer, buffer_len);
+ *         if (told & 255) return told & 255;
+ *     }
+ *
+ * A record is made by da728x_new and by da728x_configure, and da728x_record then hands
+ * it back; every other operation leaves the caller's in force. It is:
+ *    0      chip address
+ *    1      variant: 0 DA7280, 1 DA7281, 2 DA7282
+ *    2      2 if settings are stored, else 1 (0 counts as 1) and the rest is 0
+ *    3..36  the settings
+ * A record of another length has no settings, address 0 and is a DA7280. Settings are:
+ *    0      actuator type: 0 LRA, 1 ERM
+ *    1, 2   nominal voltage in mV, at most 5990; here and below the least byte first
+ *    3, 4   absolute voltage in mV, at most 5990
+ *    5, 6   current in mA, 29 to 252
+ *    7, 8   impedance in mOhm, 4000 to 49999
+ *    9, 10  inductance in uH
+ *   11, 12  frequency in Hz, 50 to 300 when tracking, else 25 to 1024
+ *   13      1 if PID words are given, else 0
+ *   14, 15  Kp, of which the low 15 bits count
+ *   16, 17  Ki, likewise
+ *   18      operation mode: 0 inactive, 1 DRO, 2 PWM, 3 RTWM, 4 ETWM
+ *   19      driving mode: 0 frequency track, 1 wideband, 2 custom waveform
+ *   20..23  the trigger of GPI_0: 1 if it is given, else 0; its sequence number, 0 to 15;
+ *           its polarity: 0 rising, 1 falling, 2 both; its mode, 0 or 1, which says nothing
+ *   24..27  that of GPI_1
+ *   28..31  that of GPI_2
+ *   32      1 for acceleration, else 0
+ *   33      1 for rapid stop, else 0
+ * Missing bytes of settings count as 0 and further ones are ignored. A code past the
+ * last counts as the last; a flag is set unless it is 0. */
+#define DA728X_SESSION 278
+#define DA728X_RECORD 37
+#define DA728X_SETTINGS 34
+
+/* Each of these starts an operation from a record: 0, and the session is begun. Or the
+ * number of the refusal, and then the session stays as it was. A session of another
+ * length stays in either case.
+ *
+ * Reads CHIP_REV, which has to be that of the variant (16 otherwise); the record that
+ * it makes has no settings. */
+uint8_t da728x_new(uint8_t address, uint8_t variant,
+                   uint8_t *session, size_t session_len);
+
+/* Sets the chip up, in 14 to 25 exchanges; the record that it makes has the settings stored.
+ * Refused with the first that holds: 12 for acceleration or rapid stop when not tracking;
+ * 13 for no trigger in ETWM mode, 14 for more than one on the DA7281; 11 for a value
+ * outside the ranges above (of a trigger's sequence number in ETWM mode only); 14 for
+ * rapid stop. */
+uint8_t da728x_configure(const uint8_t *record, size_t record_len,
+                         const uint8_t *settings, size_t settings_len,
+                         uint8_t *session, size_t session_len);
+
+/* CHIP_REV; the event registers IRQ_EVENT1, IRQ_EVENT_WARNING_DIAG and
+ * IRQ_EVENT_SEQ_DIAG, which are then cleared; IRQ_STATUS1: see da728x_result. */
+uint8_t da728x_get_chip_rev(const uint8_t *record, size_t record_len,
+                            uint8_t *session, size_t session_len);
+uint8_t da728x_get_events(const uint8_t *record, size_t record_len,
+                          uint8_t *session, size_t session_len);
+uint8_t da728x_get_status(const uint8_t *record, size_t record_len,
+                          uint8_t *session, size_t session_len);
+
+/* The frequency that is driven; the stored one stays. 15 without settings, then 11
+ * outside 50 to 300 Hz when tracking, else 25 to 1024. */
+uint8_t da728x_set_frequency(const uint8_t *record, size_t record_len, uint16_t frequency_hz,
+                             uint8_t *session, size_t session_len);
+
+/* The amplitude in DRO mode. 15 without settings, 11 below 0 under acceleration, 12 in
+ * another mode. */
+uint8_t da728x_set_override_value(const uint8_t *record, size_t record_len, int8_t value,
+                                  uint8_t *session, size_t session_len);
+
+/* The timebases of the waveform memory: 0 for 5.44, 21.76, 43.52 and 87.04 ms, 1 for
+ * 1.36, 5.44, 21.76 and 43.52 ms (above 1 counts as 1). */
+uint8_t da728x_set_timebase(const uint8_t *record, size_t record_len, uint8_t timebase,
+                            uint8_t *session, size_t session_len);
+
+/* Enables the stored operation mode, and makes the chip inactive. 15 without settings. */
+uint8_t da728x_enable(const uint8_t *record, size_t record_len,
+                      uint8_t *session, size_t session_len);
+uint8_t da728x_disable(const uint8_t *record, size_t record_len,
+                       uint8_t *session, size_t session_len);
+
+/* Always refused: 15 without settings, 12 unless they are for a custom waveform, else 14. */
+uint8_t da728x_set_custom_drive_waveform(const uint8_t *record, size_t record_len,
+                                         uint8_t a, uint8_t b, uint8_t c,
+                                         uint8_t *session, size_t session_len);
+
+/* Lets the waveform memory be written; keeps it from being written. */
+uint8_t da728x_unlock_waveform_memory(const uint8_t *record, size_t record_len,
+                                      uint8_t *session, size_t session_len);
+uint8_t da728x_lock_waveform_memory(const uint8_t *record, size_t record_len,
+                                    uint8_t *session, size_t session_len);
+
+/* Unlocks the waveform memory, writes the image to its front in exchanges of at most 32
+ * of its bytes, and locks it if lock_after is not 0. 8 for more than 100 bytes. */
+uint8_t da728x_upload_waveform_memory(const uint8_t *record, size_t record_len,
+                                      const uint8_t *image, size_t image_len, uint8_t lock_after,
+                                      uint8_t *session, size_t session_len);
+
+/* Reads len bytes from the front of the waveform memory, but at most 100 and at most
+ * buffer_len, one an exchange, into the buffer that da728x_answer is lent: buffer_len is
+ * its length. */
+uint8_t da728x_read_waveform_memory(const uint8_t *record, size_t record_len,
+                                    size_t len, size_t buffer_len,
+                                    uint8_t *session, size_t session_len);
+
+/* Selects a sequence and how often it loops; starts the one selected; both. 11 for a
+ * sequence number or a loop count above 15. */
+uint8_t da728x_select_sequence(const uint8_t *record, size_t record_len,
+                               uint8_t sequence_id, uint8_t loops,
+                               uint8_t *session, size_t session_len);
+uint8_t da728x_start_sequence(const uint8_t *record, size_t record_len,
+                              uint8_t *session, size_t session_len);
+uint8_t da728x_play_sequence(const uint8_t *record, size_t record_len,
+                             uint8_t sequence_id, uint8_t loops,
+                             uint8_t *session, size_t session_len);
+
+/* The exchange that is to be made next: how many bytes are to be sent, 1 to 33, plus 256
+ * times the chip address, plus 65536 if a byte is then to be read. 0 once the session has
+ * ended. The bytes to send are copied into the front of bytes, as many as fit; the other
+ * bytes of bytes stay. */
+uint32_t da728x_pending(const uint8_t *session, size_t session_len,
+                        uint8_t *bytes, size_t bytes_len);
+
+/* What the bus answered to the pending exchange. DA728X_DONE fits where no byte is wanted,
+ * DA728X_BYTE, with the byte, where one is; DA728X_FAILED (or any kind above it), with the
+ * bus's own code, fits always. */
+#define DA728X_DONE 0
+#define DA728X_BYTE 1
+#define DA728X_FAILED 2
+
+/* Takes the answer back. The number of the refusal or 0, plus 256 times the bus's code
+ * (at 17, else 0), plus 65536 times how many exchanges were made, failed ones included,
+ * plus 2^24 if the session has ended:
+ *   19  the answer does not fit, the session has ended, or it reads memory and buffer_len is
+ *       not what was said at its start: nothing changes, and the exchange is still pending;
+ *   17  the bus failed, and 16  the chip is of another variant: the session has ended, what
+ *       was sent stands, and the record that it was started from is in force;
+ *    0  the exchange was made. A byte of memory is stored at its own index of buffer; no
+ *       other byte of buffer changes, and none in any other case.
+ * Where no memory is read buffer may be of any length. */
+uint32_t da728x_answer(uint8_t *session, size_t session_len, uint8_t kind, uint8_t byte,
+                       uint8_t *buffer, size_t buffer_len);
+
+/* 1, and the record to go on with is written, if the session is one of da728x_new or
+ * da728x_configure, every exchange of it was made without 16 or 17, and record_len is
+ * DA728X_RECORD. Else 0, and record stays: after any other operation too. */
+uint8_t da728x_record(const uint8_t *session, size_t session_len,
+                      uint8_t *record, size_t record_len);
+
+/* 0 unless every exchange of the session was made without 16 or 17; also 0 for a session of
+ * another length. Else 2^32, plus the byte read last, plus 256 times the one before, plus
+ * 65536 times the one before that (0 where there is none), plus 2^24 times how many bytes of
+ * memory the operation reads. So da728x_get_events gives IRQ_EVENT1 in bits 16..23,
+ * IRQ_EVENT_WARNING_DIAG in 8..15 and IRQ_EVENT_SEQ_DIAG in 0..7; a session that was never
+ * begun gives 2^32. */
+uint64_t da728x_result(const uint8_t *session, size_t session_len);
 
 #ifdef __cplusplus
 }

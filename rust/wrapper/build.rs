@@ -1,5 +1,5 @@
-//! Links the proved code: `libcapi.a` in the folder `DA728X_LIB_DIR` (an absolute path), by default
-//! where `rt staticlib capi` leaves it in the repository.
+//! Links the proved code: `libcapi.a` and `libcapi_driver.a` in the folder `DA728X_LIB_DIR` (an absolute
+//! path), by default where `rt staticlib` leaves them in the repository.
 
 use std::env;
 use std::path::PathBuf;
@@ -10,12 +10,15 @@ fn main() {
         None => PathBuf::from(env::var_os("CARGO_MANIFEST_DIR").expect("set by cargo"))
             .join("../../target/staticlib"),
     };
-    let archive = folder.join("libcapi.a");
-    if !archive.exists() {
-        println!("cargo::warning={} is missing: make it by `rt staticlib capi`", archive.display());
-    }
     println!("cargo::rerun-if-env-changed=DA728X_LIB_DIR");
-    println!("cargo::rerun-if-changed={}", archive.display());
     println!("cargo::rustc-link-search=native={}", folder.display());
-    println!("cargo::rustc-link-lib=static=capi");
+    for library in ["capi", "capi_driver"] {
+        let archive = folder.join(format!("lib{library}.a"));
+        if !archive.exists() {
+            let path = archive.display();
+            println!("cargo::warning={path} is missing: make it by `rt staticlib {library}`");
+        }
+        println!("cargo::rerun-if-changed={}", archive.display());
+        println!("cargo::rustc-link-lib=static={library}");
+    }
 }

@@ -1,12 +1,17 @@
 //! What the comparisons of the proved library with the published Rust share.
 
+pub mod bus;
+pub mod driver;
 pub mod generate;
 pub mod images;
 pub mod lists;
 pub mod oracle;
 pub mod patterns;
 pub mod random;
+pub mod raw;
 pub mod registers;
+pub mod settings;
+pub mod trim;
 
 use std::fs;
 use std::path::Path;

@@ -1,9 +1,10 @@
 //! What the wrapper cannot say: the C functions as the header declares them.
 
 use ffi::*;
-use harness::{GAINS, TIMEBASES, compared, oracle, text};
+use harness::settings::Settings;
+use harness::{GAINS, TIMEBASES, compared, oracle, raw, text};
 use std::ptr::{null, null_mut};
-use yambelugo::{Call, PwlPoint};
+use yambelugo::{Call, DrivingMode, OperationMode, PwlPoint};
 
 /// The wrapper's declarations, held against the header below.
 #[allow(dead_code)]
@@ -50,7 +51,8 @@ fn fields_of_every_point() {
     compared("bytes of points", cases, 256);
 }
 
-/// NULL is fine for a length of 0. An empty snippet is 9, an empty sequence 10.
+/// NULL is fine for a length of 0. An empty snippet is 9, an empty sequence 10; a record of no bytes has no settings, and settings
+/// of no bytes have no impedance.
 #[test]
 fn empty_slices() {
     let (list, none) = (null::<u8>(), null_mut::<u8>());
@@ -78,6 +80,32 @@ fn empty_slices() {
         ] {
             assert_eq!(replace(0, 255, none, 0), 0);
         }
+        assert_eq!(da728x_new(0, 0, none, 0), 0);
+        assert_eq!(da728x_configure(list, 0, list, 0, none, 0), 11);
+        for start in [
+            da728x_get_chip_rev,
+            da728x_get_events,
+            da728x_get_status,
+            da728x_unlock_waveform_memory,
+            da728x_lock_waveform_memory,
+            da728x_start_sequence,
+        ] {
+            assert_eq!(start(list, 0, none, 0), 0);
+        }
+        assert_eq!(da728x_set_frequency(list, 0, 100, none, 0), 15);
+        assert_eq!(da728x_set_override_value(list, 0, -1, none, 0), 15);
+        assert_eq!(da728x_set_timebase(list, 0, 1, none, 0), 0);
+        assert_eq!(da728x_enable(list, 0, none, 0), 15);
+        assert_eq!(da728x_disable(list, 0, none, 0), 15);
+        assert_eq!(da728x_set_custom_drive_waveform(list, 0, 1, 2, 3, none, 0), 15);
+        assert_eq!(da728x_upload_waveform_memory(list, 0, list, 0, 1, none, 0), 0);
+        assert_eq!(da728x_read_waveform_memory(list, 0, 100, 100, none, 0), 0);
+        assert_eq!(da728x_select_sequence(list, 0, 15, 15, none, 0), 0);
+        assert_eq!(da728x_play_sequence(list, 0, 16, 0, none, 0), 11);
+        assert_eq!(da728x_pending(list, 0, none, 0), 0);
+        assert_eq!(da728x_answer(none, 0, 2, 9, none, 0), 19 + (1 << 24));
+        assert_eq!(da728x_record(list, 0, none, 0), 0);
+        assert_eq!(da728x_result(list, 0), 0);
     }
 }
 
@@ -114,6 +142,31 @@ fn codes_of_calls() {
     compared("codes of calls", defined.len(), 14);
 }
 
+/// The sizes and the kinds of answers that the header defines are those of the tests and of the wrapper.
+#[test]
+fn sizes_and_kinds() {
+    let header = text("include/da728x.h");
+    let defined: Vec<(&str, usize)> = header
+        .lines()
+        .filter_map(|line| line.strip_prefix("#define DA728X_"))
+        .filter(|line| !line.starts_with("CALL_"))
+        .filter_map(|line| line.split_once(' '))
+        .map(|(name, value)| (name, value.parse().unwrap()))
+        .collect();
+    let settings = Settings::plain(OperationMode::INACTIVE, DrivingMode::WIDEBAND).encode();
+    let used = [
+        ("SESSION", raw::SESSION),
+        ("RECORD", yambelugo::RECORD),
+        ("SETTINGS", settings.len()),
+        ("DONE", raw::DONE.into()),
+        ("BYTE", raw::BYTE.into()),
+        ("FAILED", raw::FAILED.into()),
+    ];
+    assert_eq!(defined, used);
+    assert_eq!(size_of::<yambelugo::Session>(), raw::SESSION);
+    compared("sizes and kinds", defined.len(), 6);
+}
+
 /// A function's name, the types of its arguments and the type of its answer, in Rust's words.
 type Prototype = (String, Vec<String>, String);
 
@@ -131,6 +184,7 @@ fn of_c(kind: &str) -> String {
         "uint16_t" => "u16",
         "uint32_t" => "u32",
         "uint64_t" => "u64",
+        "int8_t" => "i8",
         _ => panic!("{kind}"),
     };
     if name.starts_with('*') { format!("{kept}{word}") } else { word.to_string() }
@@ -155,20 +209,21 @@ fn declared() -> Vec<Prototype> {
         .collect()
 }
 
-/// The functions that the proved crate exports: a slice is a pointer and a length.
+/// The functions that the proved crates export: a slice is a pointer and a length.
 fn exported() -> Vec<Prototype> {
-    let text = text("crates/capi/src/lib.rt");
-    let lines = text.lines().filter_map(|line| line.strip_prefix("pub extern \"C\" fn "));
-    lines
-        .map(|line| {
-            let (name, rest) = line.split_once('(').unwrap();
+    let texts = ["crates/capi/src/lib.rt", "crates/capi_driver/src/lib.rt"].map(text);
+    let functions = texts.iter().flat_map(|text| text.split("pub extern \"C\" fn ").skip(1));
+    functions
+        .map(|function| {
+            let (name, rest) = function.split_once('(').unwrap();
             let (arguments, answer) = rest.split_once(") -> ").unwrap();
-            let kinds = arguments.split(", ").flat_map(|it| match it.split_once(": ").unwrap().1 {
+            let arguments = arguments.split(',').filter_map(|it| it.split_once(": "));
+            let kinds = arguments.flat_map(|(_, kind)| match kind.trim() {
                 "&[u8]" => vec!["*const u8".to_string(), "usize".to_string()],
                 "&mut [u8]" => vec!["*mut u8".to_string(), "usize".to_string()],
                 kind => vec![kind.to_string()],
             });
-            prototype(name, kinds, answer)
+            prototype(name, kinds, answer.split_whitespace().next().unwrap())
         })
         .collect()
 }
@@ -190,7 +245,7 @@ fn wrapped() -> Vec<Prototype> {
         .collect()
 }
 
-/// The header and the wrapper declare what the proved crate exports, with its types.
+/// The header and the wrapper declare what the proved crates export, with its types.
 #[test]
 fn prototypes_are_those_of_the_exports() {
     let sorted = |mut list: Vec<Prototype>| {
@@ -200,5 +255,5 @@ fn prototypes_are_those_of_the_exports() {
     let exported = sorted(exported());
     assert_eq!(sorted(declared()), exported);
     assert_eq!(sorted(wrapped()), exported);
-    compared("prototypes", exported.len(), 21);
+    compared("prototypes", exported.len(), 21 + 22);
 }

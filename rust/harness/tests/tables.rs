@@ -1,4 +1,4 @@
-//! The text of the published `registers.rs` and `config.rs` against the tables that the proofs are about, and against the
+//! The text of the published `registers.rs`, `config.rs` and `lib.rs` against the tables that the proofs are about, and against the
 //! names in the code: a proof speaks of a constant's or a method's value, not of its name.
 //!
 //! The text is read here line by line, apart from the macro that the oracle is built with.
@@ -243,11 +243,11 @@ fn methods_cite_their_own_fields() {
     compared("methods of fields", methods.len(), 175);
 }
 
-/// The codes of the settings' choices are those of the published enums.
+/// The codes of the settings' choices and of the variants are those of the published enums.
 #[test]
 fn codes_are_the_published_ones() {
     let mut wanted = Vec::new();
-    let published = text("rust/oracle/src/config.rs");
+    let published = text("rust/oracle/src/config.rs") + &text("rust/oracle/src/lib.rs");
     for part in published.split("pub enum ").skip(1) {
         let body = part.split_once('{').unwrap().1.split_once('}').unwrap().0;
         let lines =
@@ -269,7 +269,7 @@ fn codes_are_the_published_ones() {
         }
     }
     assert_eq!(listed, wanted);
-    compared("codes of settings", listed.len(), 15);
+    compared("codes of settings and variants", listed.len(), 15 + 3);
 }
 
 /// The macro gave every type the fields of the text, and the comparison leaves none out.

@@ -1,7 +1,10 @@
-//! Document 01's checked examples of points, frames and sequences, as written there.
+//! Document 01's checked examples of points, frames, sequences and settings, as written there.
 
+use harness::driver::record_bytes;
+use harness::settings::Settings;
 use harness::{compared, encoded};
-use yambelugo::{Call, Error, Gain, PwlPoint, Timebase};
+use yambelugo::{Call, DA728x, DrivingMode, Error, Gain, OperationMode, PwlPoint};
+use yambelugo::{Reply, Session, Timebase, Variant};
 
 #[test]
 fn points() {
@@ -75,4 +78,43 @@ fn a_33rd_frame() {
         cases += 1;
     }
     compared("33rd frames", cases, 6);
+}
+
+/// What a session writes to these registers, where all registers read 0.
+fn written<const N: usize>(mut session: Session, registers: [u8; N]) -> [u8; N] {
+    let mut written = [None; 256];
+    while let Some(exchange) = session.pending() {
+        if let [register, value] = *exchange.bytes() {
+            written[usize::from(register)] = Some(value);
+        }
+        let reply = if exchange.wanted() { Reply::Byte(0) } else { Reply::Done };
+        session.answer(reply, &mut []).unwrap();
+    }
+    registers.map(|register| written[usize::from(register)].expect("a write to this register"))
+}
+
+/// 5990 mV gives 255, 2500 gives 106; 29 mA gives 0, 252 gives 31, 165 gives 18; 8000 mOhm at IMAX 18: V2I 109; 170 Hz: parts 34
+/// and 59; override -1 sends FF, -128 sends 80; 8 ohms, 50 uH: TRIM4 02; DA7281 with two triggers: 14.
+#[test]
+fn settings() {
+    let plain = Settings::plain(OperationMode::DRO_MODE, DrivingMode::FREQUENCY_TRACK);
+    let driver = DA728x::from_bytes(record_bytes(0x4A, Variant::DA7281, Some(&plain)));
+    let volts_and_current = |absolute, current| {
+        let mut actuator = plain.actuator;
+        (actuator.absolute_max_mV, actuator.max_current_mA) = (absolute, current);
+        written(driver.configure(actuator, plain.device).unwrap(), [0x0C, 0x0D, 0x0E])
+    };
+    assert_eq!(volts_and_current(5990, 29), [106, 255, 0]);
+    assert_eq!(volts_and_current(2500, 252), [106, 106, 31]);
+    assert_eq!(volts_and_current(2500, 165), [106, 106, 18]);
+
+    let session = driver.configure(plain.actuator, plain.device).unwrap();
+    assert_eq!(written(session, [0x0F, 0x10, 0x0A, 0x0B, 0x60]), [0, 109, 34, 59, 0x02]);
+    assert_eq!(written(driver.set_frequency(170).unwrap(), [0x0A, 0x0B]), [34, 59]);
+    assert_eq!(written(driver.set_override_value(-1).unwrap(), [0x23]), [0xFF]);
+    assert_eq!(written(driver.set_override_value(-128).unwrap(), [0x23]), [0x80]);
+
+    let mut two = Settings::plain(OperationMode::ETWM_MODE, DrivingMode::WIDEBAND);
+    two.device.gpi_triggers[2] = two.device.gpi_triggers[0];
+    assert_eq!(driver.configure(two.actuator, two.device), Err(Error::NotSupported));
 }

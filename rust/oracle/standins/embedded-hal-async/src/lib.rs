@@ -3,7 +3,7 @@
 
 /// The bus.
 pub mod i2c {
-    pub use embedded_hal::i2c::{Error, ErrorKind, ErrorType};
+    pub use embedded_hal::i2c::{Error, ErrorKind, ErrorType, NoAcknowledgeSource};
 
     /// A bus that is awaited.
     #[allow(async_fn_in_trait)]
