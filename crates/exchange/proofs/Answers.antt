@@ -13,7 +13,7 @@ use Rattle.exchange.specs.declared.Fit.{Fit}
 use Rattle.exchange.specs.declared.Fit.the-variants.{Unfit, Broke, Went, Got, Kept, Wrong}
 use Rattle.exchange.specs.State.{countIn, noneLeft, left}
 use Rattle.exchange.specs.Turn.{fittingOf, changed, fitsNext, fitOf, going, stateBy, stateAfter, bufferBy, bufferAfter, numberBy, codeBy, toldBy, toldOf, turnTold, turnIn}
-use Rattle.exchange.proofs.Left.{some-going}
+use Rattle.exchange.proofs.Moves.{left-counts}
 
 -- an answer that fits
 abbrev pub Fits : Fit → Type 0
@@ -31,7 +31,7 @@ fits-going st a n f e h = go (changed st n) (left st) refl (subst Fits (sym e) h
   go : (t : Bool) (xs : List Step) → left st ≡ xs → Fits (cond t Unfit (fitsNext xs a)) → going st
   go true xs k w = absurd w
   go false [] k w = absurd w
-  go false (x ∷ xs) k w = some-going st x xs k
+  go false (x ∷ xs) k w = left-counts st x xs k
 
 -- ---- how an answer fits
 

@@ -89,15 +89,6 @@ uploaded address first start n offset len image part bytes e a f g p q i =
         let k : length (chunk image offset len) ≡ n = ap length (sym (chunk-part image offset len start n e f g)) ∙ size in
         omega (arith, k)
 
--- a step has five bytes
-pub step-length : (x : Step) → length (stepBytes x) ≡ 5
-step-length (Write register value) = refl
-step-length (Read register) = refl
-step-length (Update register shift width value) = refl
-step-length (Match register value) = refl
-step-length (Chunk offset len) = refl
-step-length (Store index) = refl
-
 -- ---- the bytes of a session
 
 -- its four parts laid one behind the other are a session without steps

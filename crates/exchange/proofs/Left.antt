@@ -86,25 +86,3 @@ slot-encoded st l h k = sym (ap slotOf (left-next st l h (omega (arith, k))) ∙
 pub slot-store : (st : List ℕ) → length st ≡ 278 → at st 1 ≤ 0 → stepCount st ≤ madeIn st → madeIn st < stepCount st + readCount st
     → At (Store (madeIn st - stepCount st)) ≡ slotOf (left st)
 slot-store st l h k n = sym (ap slotOf (left-next st l h n) ∙ ap (λ (t : Bool). At (cond t (encodedStep st (madeIn st)) (Store (madeIn st - stepCount st)))) (le-ltb _ _ k))
-
--- a list with an element is not empty
-not-both : (xs ys : List Step) (y : Step) → xs ≡ [] → xs ≡ y ∷ ys → ⊥
-not-both xs ys y e f = subst isNil (sym e ∙ f) tt where
-  isNil : List Step → Type 0
-  isNil [] = Unit
-  isNil (z ∷ zs) = ⊥
-
--- a session that has a step left has its size, and can count one more
-pub some-going : (st : List ℕ) (x : Step) (xs : List Step) → left st ≡ x ∷ xs → going st
-some-going st x xs e = size (eqb (length st) 278) refl where
-  made : length st ≡ 278 → at st 1 ≤ 0 → Dec (stepCount st + readCount st ≤ madeIn st) → going st
-  made l h (yes k) = absurd (not-both (left st) xs x (left-none st l h k) e)
-  made l h (no k) = (l, omega (arith, k))
-
-  broken : length st ≡ 278 → Dec (1 ≤ at st 1) → going st
-  broken l (yes k) = absurd (not-both (left st) xs x (left-broken st (omega (arith, k))) e)
-  broken l (no k) = made l (omega (arith, k)) (decLe (stepCount st + readCount st) (madeIn st))
-
-  size : (t : Bool) → eqb (length st) 278 ≡ t → going st
-  size true f = broken (eqb-true (length st) 278 f) (decLe 1 (at st 1))
-  size false f = absurd (not-both (left st) xs x (left-no-session st (eqb-false (length st) 278 f)) e)

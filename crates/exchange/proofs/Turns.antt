@@ -16,7 +16,7 @@ use Rattle.exchange.specs.declared.Fit.the-variants.{Unfit, Broke, Went,
 use Rattle.exchange.specs.State.{at, brokenIn, left}
 use Rattle.exchange.specs.Turn.{fitsNext, changed, fitOf, going, moved, stateBy, stateAfter, bufferBy, bufferAfter, numberBy, toldOf}
 use Rattle.exchange.specs.Session.{wantsByte, Call, fitAt, after}
-use Rattle.exchange.proofs.Moves.{Moved, moves, left-going, left-counts, left-moved, left-broken}
+use Rattle.exchange.proofs.Moves.{Moved, moves, left-going, left-moved, left-broken}
 
 -- a step was made, and the session goes on to the next
 pub record Gone (st t : List ℕ) (wants : Bool) (last : ℕ) : Type 0 where
@@ -96,23 +96,6 @@ turned-by st false (Match r v ∷ xs) e (Byte b) = go (eqb b v)
 pub turned : (st : List ℕ) (c : Call) → Turned (fitAt st c) st (after st c)
 unfolding fitAt after fitOf stateAfter
 turned st c = turned-by st (changed st (length (c .buffer))) (left st) refl (c .reply)
-
--- an answer that fits finds a session that has its size, and can count one more
-pub fits-going : (st : List ℕ) (a : Reply) (n : ℕ) → (fitOf st a n ≡ Unfit → ⊥) → going st
-unfolding fitOf
-fits-going st a n h = go _ _ (turned-by st (changed st n) (left st) refl a) h
-  where
-    go : (f : Fit) (t : List ℕ) → Turned f st t → (f ≡ Unfit → ⊥) → going st
-    go Unfit t m h = absurd (h refl)
-    go (Broke code) t m h = left-counts st _ _ (m .before)
-    go Went t m h = left-counts st _ _ (m .before)
-    go (Got b) t m h = left-counts st _ _ (m .before)
-    go (Kept i b) t m h = left-counts st _ _ (m .before)
-    go (Wrong b) t m h = left-counts st _ _ (m .before)
-
--- the same, where it is known how the answer fits
-pub fits-as : (st : List ℕ) (a : Reply) (n : ℕ) (f : Fit) → fitOf st a n ≡ f → numberBy f < 19 → going st
-fits-as st a n f e h = fits-going st a n (λ u. omega (arith, ap numberBy (sym e ∙ u)))
 
 -- 19 is told where an answer does not fit
 pub refused : (st : List ℕ) (a : Reply) (buffer : List ℕ) → toldOf st a (length buffer) .number ≡ 19 →

@@ -6,7 +6,8 @@ use denote.Ref.{now}
 use Rattle.exchange.specs.declared.Fit.{Fit}
 use Rattle.exchange.specs.declared.Fit.the-variants.{Unfit}
 use Rattle.exchange.specs.State.{left}
-use Rattle.exchange.proofs.Left.{idle-none, at-some, some-going}
+use Rattle.exchange.proofs.Left.{idle-none, at-some}
+use Rattle.exchange.proofs.Moves.{left-counts}
 use Rattle.exchange.proofs.Answers.{unfit-none, fit-next}
 use Rattle.exchange.proofs.judge.Statement.{statement}
 use Rattle.exchange.proofs.judge.Tie as tie
@@ -14,7 +15,7 @@ use Rattle.exchange.proofs.judge.Tie as tie
 is-changed-requires : tie.Need-is-changed-requires
 is-changed-requires c κs =
     let st = now (c .before .before .before .before .before .args .session) in
-    some-going st _ _ (at-some (left st) _ (sym (c .before .before .before .current .ensures) ∙ c .before .step .given .1)) .0
+    left-counts st _ _ (at-some (left st) _ (sym (c .before .before .before .current .ensures) ∙ c .before .step .given .1)) .0
 
 returns : tie.Need-returns
 returns c =

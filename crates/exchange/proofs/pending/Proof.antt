@@ -4,14 +4,15 @@ use mathlib.Core.Path.{sym, ap, _∙_}
 use denote.Ref.{now}
 use Rattle.exchange.specs.State.{left}
 use Rattle.exchange.specs.Turn.{pendingFor}
-use Rattle.exchange.proofs.Left.{idle-none, at-some, some-going}
+use Rattle.exchange.proofs.Left.{idle-none, at-some}
+use Rattle.exchange.proofs.Moves.{left-counts}
 use Rattle.exchange.proofs.pending.Statement.{statement}
 use Rattle.exchange.proofs.pending.Tie as tie
 
 exchange-for-requires : tie.Need-exchange-for-requires
 exchange-for-requires c κs =
     let st = now (c .before .before .before .before .before .args .session) in
-    some-going st _ _ (at-some (left st) _ (sym (c .before .before .before .current .ensures) ∙ c .before .step .given .1)) .0
+    left-counts st _ _ (at-some (left st) _ (sym (c .before .before .before .current .ensures) ∙ c .before .step .given .1)) .0
 
 returns : tie.Need-returns
 returns c =

@@ -11,7 +11,8 @@ use Rattle.laws.specs.Copied.{over}
 use Rattle.exchange.specs.declared.Step.{Step}
 use Rattle.exchange.specs.Steps.{stepBytes}
 use Rattle.exchange.specs.State.{at, pushed}
-use Rattle.exchange.proofs.Laid.{length-over, step-length, pushed-more}
+use Rattle.exchange.proofs.Laid.{length-over, pushed-more}
+use Rattle.exchange.proofs.Plan.{length-step}
 use Rattle.exchange.proofs.push.Statement.{statement}
 use Rattle.exchange.proofs.push.Tie as tie
 
@@ -22,7 +23,7 @@ counted st = set st 6 (at st 6 + 1)
 -- five bytes more fit
 room-for : (st bytes : List ℕ) (x : Step) → length st ≡ 278 → at st 6 < 25 → bytes ≡ stepBytes x → 153 + 5 * at st 6 + length bytes ≤ length (counted st)
 room-for st bytes x l h e =
-    let k : length bytes ≡ 5 = ap length e ∙ step-length x in
+    let k : length bytes ≡ 5 = ap length e ∙ length-step x in
     simp length-set (omega arith)
 
 lay-requires : tie.Need-lay-requires
