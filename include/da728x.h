@@ -1,7 +1,7 @@
 /* Yambelugo: the exported functions of the proved DA7280 driver.
  *
  * Every function returns on any input. A byte slice crosses as a pointer and a
- * length; NULL is fine for a length of 0. Slices of one call must not overlap.
+ * length (of 64 bits: the archives are for x86-64); NULL is fine for a length of 0. Slices of one call must not overlap.
  * Nothing is written but to slices that are not const, and there only what is
  * said below.
  *
@@ -155,10 +155,16 @@ size_t da728x_replace_trigger(uint8_t byte, uint8_t value, uint8_t *out, size_t 
  *     if (refused) return refused;
  *     while ((next = da728x_pending(session, sizeof session, bytes, sizeof bytes)) != 0) {
  *         ... send the first (next & 255) bytes to the chip at (next >> 8 & 255) and,
- *             if (next >> 16), read a byte: kind and byte ...
- *         told = da728x_answer(session, sizeof session, kind, byte, buffer, buffer_len);
+ *             if (next >> 16), read a byte in the same transaction (a repeated start, no
+ *             stop in between): kind and byte ...
+ *         told = da728x_answer(session, sizeof session, kind, byte, NULL, 0);
  *         if (told & 255) return told & 255;
  *     }
+ *     if (!da728x_result(session, sizeof session)) return DA728X_NOT_DONE;
+ *
+ * (DA728X_NOT_DONE is the caller's own: it tells a session of a wrong length. After
+ * da728x_new or da728x_configure the record is then taken by da728x_record.) Run one session
+ * at a time on a chip: some operations write back a byte that they read before.
  *
  * A record is made by da728x_new and by da728x_configure, and da728x_record then hands
  * it back; every other operation leaves the caller's in force. It is:
@@ -192,8 +198,9 @@ size_t da728x_replace_trigger(uint8_t byte, uint8_t value, uint8_t *out, size_t 
 #define DA728X_SETTINGS 34
 
 /* Each of these starts an operation from a record: 0, and the session is begun. Or the
- * number of the refusal, and then the session stays as it was. A session of another
- * length stays in either case.
+ * number of the refusal, and then the session stays as it was: it still is the session
+ * that was begun in these bytes before, and has its record and result. A session of
+ * another length stays in either case.
  *
  * Reads CHIP_REV, which has to be that of the variant (16 otherwise); the record that
  * it makes has no settings. */
@@ -210,7 +217,8 @@ uint8_t da728x_configure(const uint8_t *record, size_t record_len,
                          uint8_t *session, size_t session_len);
 
 /* CHIP_REV; the event registers IRQ_EVENT1, IRQ_EVENT_WARNING_DIAG and
- * IRQ_EVENT_SEQ_DIAG, which are then cleared; IRQ_STATUS1: see da728x_result. */
+ * IRQ_EVENT_SEQ_DIAG, with FF written to IRQ_EVENT1 at the end, which clears them;
+ * IRQ_STATUS1: see da728x_result. */
 uint8_t da728x_get_chip_rev(const uint8_t *record, size_t record_len,
                             uint8_t *session, size_t session_len);
 uint8_t da728x_get_events(const uint8_t *record, size_t record_len,
@@ -263,7 +271,7 @@ uint8_t da728x_read_waveform_memory(const uint8_t *record, size_t record_len,
                                     size_t len, size_t buffer_len,
                                     uint8_t *session, size_t session_len);
 
-/* Selects a sequence and how often it loops; starts the one selected; both. 11 for a
+/* Selects a sequence and how often it loops (0 plays it once); starts the one selected; both. 11 for a
  * sequence number or a loop count above 15. */
 uint8_t da728x_select_sequence(const uint8_t *record, size_t record_len,
                                uint8_t sequence_id, uint8_t loops,
@@ -294,7 +302,8 @@ uint32_t da728x_pending(const uint8_t *session, size_t session_len,
  *   19  the answer does not fit, the session has ended, or it reads memory and buffer_len is
  *       not what was said at its start: nothing changes, and the exchange is still pending;
  *   17  the bus failed, and 16  the chip is of another variant: the session has ended, what
- *       was sent stands, and the record that it was started from is in force;
+ *       was sent stands, and the record that it was started from is in force (da728x_new
+ *       has none);
  *    0  the exchange was made. A byte of memory is stored at its own index of buffer; no
  *       other byte of buffer changes, and none in any other case.
  * Where no memory is read buffer may be of any length. */

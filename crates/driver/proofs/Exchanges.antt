@@ -14,6 +14,7 @@ use Rattle.driver.proofs.Upload.{few, shown}
 
 pub exchanges : Exchanges
 exchanges = record {
+  begun = λ b xs st cs e few room image handed. in-order (holds st b xs e few room image handed) cs;
   runs = λ r xs st cs e few. in-order (holds-runs st (r .address) xs e few) cs;
   configures = λ r a d st cs none e. in-order (holds-configure r a d st none e) cs;
   uploads = λ r m lockAfter st cs e l. in-order (holds-steps st (r .address) (m .«data») noRecord _ e (few m lockAfter) l no-record) cs;

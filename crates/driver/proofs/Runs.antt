@@ -1,27 +1,59 @@
 -- Steps pushed to a session that was begun without any are the session's steps. Assumes nothing.
 use Prim.Native.Nat.{ℕ, _≤_}
-use mathlib.Core.Path.{_≡_, refl}
-use mathlib.Core.List.{List, []}
+use mathlib.Core.Path.{_≡_, refl, ap, _∙_}
+use mathlib.Core.List.{List, [], _∷_}
 use lib.ListN.{length}
 use Rattle.exchange.specs.declared.Step.{Step}
-use Rattle.exchange.specs.State.{begun, begunIn, pushedAll}
+use Rattle.exchange.specs.declared.Step.the-variants.{Read, Update}
+use Rattle.exchange.specs.State.{Begun, begun, begunIn, pushed, pushedAll}
 use Rattle.exchange.proofs.Pushes.{pushes}
 use Rattle.da728x.specs.declared.DA728x.{DA728x}
 use Rattle.da728x.specs.Record.{noRecord}
 use Rattle.da728x.proofs.Kept.{record-length}
 use Rattle.driver.specs.Operations.{noImage, blank, handing}
 
-pub run-pushes : (st : List ℕ) (address : ℕ) (xs : List Step) → length xs ≤ 25 →
-    pushedAll (begunIn st (blank address) []) xs ≡ begunIn st (blank address) xs
+-- ---- one after another
+
+-- a step behind those that are known
+pub on : {s t u : List ℕ} {x y : Step} → u ≡ pushed t x → t ≡ s → x ≡ y → u ≡ pushed s y
+on e h k = e ∙ (λ i. pushed (h i) (k i))
+
+-- all, behind a beginning that is known
+pub onto : {s t u : List ℕ} (xs : List Step) → u ≡ pushedAll t xs → t ≡ s → u ≡ pushedAll s xs
+onto xs e h = e ∙ ap (λ (l : List ℕ). pushedAll l xs) h
+
+-- ---- those of a session
+
+pub ran : (st : List ℕ) {s u : List ℕ} (address : ℕ) (xs : List Step) → length xs ≤ 25 → s ≡ begunIn st (blank address) [] → u ≡ pushedAll s xs →
+    u ≡ begunIn st (blank address) xs
 unfolding noImage noRecord
-run-pushes st address xs h = pushes st (blank address) [] xs refl refl h
+ran st address xs few h k = onto xs k h ∙ pushes st (blank address) [] xs refl refl few
 
-pub make-pushes : (st : List ℕ) (next : DA728x) (xs : List Step) → length xs ≤ 25 →
-    pushedAll (begunIn st (handing next) []) xs ≡ begunIn st (handing next) xs
+-- the same behind the first
+pub ran-on : (st : List ℕ) {s u : List ℕ} (address : ℕ) (x : Step) (xs : List Step) → length (x ∷ xs) ≤ 25 → s ≡ begunIn st (blank address) (x ∷ []) → u ≡ pushedAll s xs →
+    u ≡ begunIn st (blank address) (x ∷ xs)
+unfolding noImage noRecord
+ran-on st address x xs few h k = onto xs k h ∙ pushes st (blank address) (x ∷ []) xs refl refl few
+
+pub made : (st : List ℕ) {s u : List ℕ} (next : DA728x) (xs : List Step) → length xs ≤ 25 → s ≡ begunIn st (handing next) [] → u ≡ pushedAll s xs →
+    u ≡ begunIn st (handing next) xs
 unfolding noImage
-make-pushes st next xs h = pushes st (handing next) [] xs refl (record-length next) h
+made st next xs few h k = onto xs k h ∙ pushes st (handing next) [] xs refl (record-length next) few
 
-pub upload-pushes : (st : List ℕ) (address : ℕ) (image : List ℕ) (xs : List Step) → length image ≡ 100 → length xs ≤ 25 →
-    pushedAll (begunIn st (begun address 0 0 image noRecord) []) xs ≡ begunIn st (begun address 0 0 image noRecord) xs
+pub uploaded : (st : List ℕ) {s u : List ℕ} (address : ℕ) (image : List ℕ) {ys : List Step} (xs : List Step) → length image ≡ 100 → length xs ≤ 25 →
+    s ≡ begunIn st (begun address 0 0 image noRecord) [] → u ≡ pushedAll s ys → ys ≡ xs → u ≡ begunIn st (begun address 0 0 image noRecord) xs
 unfolding noRecord
-upload-pushes st address image xs e h = pushes st (begun address 0 0 image noRecord) [] xs e refl h
+uploaded st address image xs e few h k l = k ∙ (λ i. pushedAll (h i) (l i)) ∙ pushes st (begun address 0 0 image noRecord) [] xs e refl few
+
+-- ---- a session, by what is known of its values
+
+pub begins-as : (st : List ℕ) (address room : ℕ) {n m : ℕ} {i j h k u : List ℕ} → u ≡ begunIn st (begun address n room i h) [] → n ≡ m → i ≡ j → h ≡ k →
+    u ≡ begunIn st (begun address m room j k) []
+begins-as st address room e a b c = e ∙ (λ t. begunIn st (begun address (a t) room (b t) (c t)) [])
+
+pub runs-one : (st : List ℕ) {u : List ℕ} (b : Begun) {x y : Step} → u ≡ begunIn st b (x ∷ []) → x ≡ y → u ≡ begunIn st b (y ∷ [])
+runs-one st b e h = e ∙ (λ i. begunIn st b (h i ∷ []))
+
+pub runs-update : (st : List ℕ) {u : List ℕ} (b : Begun) {r q v w : ℕ} (start width : ℕ) → u ≡ begunIn st b (Read r ∷ Update r start width v ∷ []) → r ≡ q → v ≡ w →
+    u ≡ begunIn st b (Read q ∷ Update q start width w ∷ [])
+runs-update st b start width e h k = e ∙ (λ i. begunIn st b (Read (h i) ∷ Update (h i) start width (k i) ∷ []))

@@ -1,5 +1,5 @@
 -- What is stored, how many exchanges are made, and which: document 01, 'Exchanges'. All speak of the definitions that the contracts cite.
-use Prim.Native.Nat.{ℕ, suc, _^_, _≤_, _<_}
+use Prim.Native.Nat.{ℕ, suc, _^_, _≤_, _<_, min}
 use mathlib.Core.Path.{_≡_}
 use mathlib.Core.Bool.{Bool, true, false, cond, not, _&&_}
 use mathlib.Core.List.{List, [], _∷_, _++_}
@@ -17,7 +17,7 @@ use Rattle.exchange.specs.declared.Step.{Step}
 use Rattle.exchange.specs.declared.Step.the-variants.{Write, Read, Update, Match, Chunk, Store}
 use Rattle.exchange.specs.declared.Reply.{Reply}
 use Rattle.exchange.specs.Steps.{chunk}
-use Rattle.exchange.specs.State.{isSession, countIn, completed, begunIn}
+use Rattle.exchange.specs.State.{isSession, countIn, completed, each, Begun, begunIn}
 use Rattle.exchange.specs.Session.{Call, final, sent, came, brokenOff, exchangesOf, lending, filled}
 use Rattle.plans.specs.Configure.{configureSteps}
 use Rattle.da728x.specs.declared.DA728x.{DA728x}
@@ -41,7 +41,7 @@ pub record Stored : Type 0 where
   -- refused settings store nothing, and write nothing
   pub refuses : (r : DA728x) (a : ActuatorConfig) (d : DeviceConfig) (st : List ℕ) (n : ℕ) →
       configureNumber (r .variant) a d ≡ suc n → startedIn st (operation.configure r a d) ≡ st
-  -- `new` makes a record exactly where its one exchange was made and CHIP_REV read what the variant has
+  -- `new` makes a record exactly where its one exchange was made without a failure, and CHIP_REV read what it must (`brokenOff` is 16 or 17)
   pub creates : (address : ℕ) (variant : Variant) (st : List ℕ) (cs : List Call) → isSession st ≡ true →
       handedBy (final (startedIn st (operation.new address variant)) cs)
       ≡ cond
@@ -89,6 +89,12 @@ payload image (Store index ∷ xs) = payload image xs
 
 -- demand 2's exchanges, for the operations: those of the steps, in order from the first, with the bytes read substituted
 pub record Exchanges : Type 0 where
+  -- whatever is begun: its steps, and behind them a memory read for each index
+  pub begun : (b : Begun) (xs : List Step) (st : List ℕ) (cs : List Call) → isSession st ≡ true → length xs ≤ 25 → b .room < 2 ^ 64 →
+      length (b .image) ≡ 100 → length (b .handed) ≡ 37 →
+      sent (startedIn st (begins b xs)) cs
+      ≡ take (length (sent (startedIn st (begins b xs)) cs))
+      (exchangesOf (b .address) 0 (b .image) (xs ++ each Store 0 (min (b .reads) 100)) (came (startedIn st (begins b xs)) cs))
   pub runs : (r : DA728x) (xs : List Step) (st : List ℕ) (cs : List Call) → isSession st ≡ true → length xs ≤ 25 →
       sent (startedIn st (operation.runs r xs)) cs
       ≡ take (length (sent (startedIn st (operation.runs r xs)) cs)) (exchangesOf (r .address) 0 noImage xs (came (startedIn st (operation.runs r xs)) cs))

@@ -108,8 +108,11 @@ pub fn get_events(driver: DA728x, session: &mut [u8]) -> Answer
     ensures { λ r. ⌜ answerNumber r ≡ spec.startNumber (spec.getEvents driver) ⌝ }
     ensures { λ _. ⌜ now (session .exit) ≡ spec.startedIn (now (session .entry)) (spec.getEvents driver) ⌝ }
 {
-    begin(session, driver.address);
-    exchange::push(session, Step::Read(Register::IRQ_EVENT1.address()));
+    run(
+        session,
+        driver.address,
+        Step::Read(Register::IRQ_EVENT1.address()),
+    );
     exchange::push(
         session,
         Step::Read(Register::IRQ_EVENT_WARNING_DIAG.address()),
@@ -474,8 +477,11 @@ pub fn play_sequence(driver: DA728x, sequence_id: u8, loops: u8, session: &mut [
 fn play(session: &mut [u8], address: u8, value: u8)
     ensures { λ _. ⌜ now (session .exit) ≡ begunIn (now (session .entry)) (spec.blank address) (Write 0x28 value ∷ spec.startSteps) ⌝ }
 {
-    begin(session, address);
-    exchange::push(session, Step::Write(Register::SEQ_CTL2.address(), value));
+    run(
+        session,
+        address,
+        Step::Write(Register::SEQ_CTL2.address(), value),
+    );
     exchange::push(session, Step::Read(Register::TOP_CTL1.address()));
     exchange::push(session, Step::Update(Register::TOP_CTL1.address(), 4, 1, 1));
 }

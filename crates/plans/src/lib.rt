@@ -2,7 +2,8 @@
 // Each function pushes one part of the Rust's body, in its order; the register types are those of registers.rs.
 // Proved: what is pushed is specs/Configure.antt's list, 14 to 25 steps (proofs/Lengths.antt).
 ghost use mathlib.Core.Path.{_≡_};
-ghost use Rattle.exchange.specs.State.{pushedAll};
+ghost use Rattle.exchange.specs.State.{pushed, pushedAll};
+ghost use Rattle.exchange.specs.declared.Step.the-variants.{Write, Read, Update};
 ghost use Rattle.config.specs.declared.DrivingMode.the-variants.{«CUSTOM_WAVEFORM»};
 ghost use Rattle.config.specs.declared.Pid.the-variants.{Given};
 ghost use Rattle.plans.specs.Configure.{accelerates, stopsRapidly, topCfg1, featureSteps, limitSteps, calibrationSteps, pidSteps, frequencySteps, rapidStopSteps, phaseSteps, customSteps, drivingSteps, gpi0, gpi1, gpi2, triggerStep0, triggerStep1, triggerStep2, givenSteps, triggerSteps, configureSteps};
@@ -47,13 +48,12 @@ pub fn frequency(session: &mut [u8], hz: u16)
 {
     let word = convert::period(hz);
     let frq_lra_per_l = FRQ_LRA_PER_L::new().with_LRA_PER_L(convert::low_part(word));
-    exchange::push(
+    writes(
         session,
-        Step::Write(Register::FRQ_LRA_PER_H.address(), convert::high_part(word)),
-    );
-    exchange::push(
-        session,
-        Step::Write(Register::FRQ_LRA_PER_L.address(), frq_lra_per_l.bits()),
+        Register::FRQ_LRA_PER_H,
+        convert::high_part(word),
+        Register::FRQ_LRA_PER_L,
+        frq_lra_per_l.bits(),
     );
 }
 
@@ -63,16 +63,9 @@ fn features(session: &mut [u8], a: ActuatorConfig, d: DeviceConfig)
     let top_cfg1 = top_cfg1(a, d);
     let accelerates = accelerates(d);
     let top_cfg5 = TOP_CFG5::new().with_V2I_FACTOR_OFFSET_EN(accelerates);
-    exchange::push(session, Step::Write(Register::TOP_CFG1.address(), top_cfg1));
-    exchange::push(session, Step::Read(Register::TOP_CFG2.address()));
-    exchange::push(
-        session,
-        Step::Update(Register::TOP_CFG2.address(), 4, 1, !accelerates as u8),
-    );
-    exchange::push(
-        session,
-        Step::Write(Register::TOP_CFG5.address(), top_cfg5.bits()),
-    );
+    write(session, Register::TOP_CFG1, top_cfg1);
+    update(session, Register::TOP_CFG2, 4, 1, !accelerates as u8);
+    write(session, Register::TOP_CFG5, top_cfg5.bits());
 }
 
 fn top_cfg1(a: ActuatorConfig, d: DeviceConfig) -> u8
@@ -119,24 +112,14 @@ fn limits(session: &mut [u8], a: ActuatorConfig)
     ensures { λ _. ⌜ now (session .exit) ≡ pushedAll (now (session .entry)) (limitSteps a) ⌝ }
 {
     let actuator3 = ACTUATOR3::new().with_IMAX(convert::imax(a.max_current_mA));
-    exchange::push(
+    writes(
         session,
-        Step::Write(
-            Register::ACTUATOR1.address(),
-            convert::voltage(a.nominal_max_mV),
-        ),
+        Register::ACTUATOR1,
+        convert::voltage(a.nominal_max_mV),
+        Register::ACTUATOR2,
+        convert::voltage(a.absolute_max_mV),
     );
-    exchange::push(
-        session,
-        Step::Write(
-            Register::ACTUATOR2.address(),
-            convert::voltage(a.absolute_max_mV),
-        ),
-    );
-    exchange::push(
-        session,
-        Step::Write(Register::ACTUATOR3.address(), actuator3.bits()),
-    );
+    write(session, Register::ACTUATOR3, actuator3.bits());
 }
 
 fn calibration(session: &mut [u8], a: ActuatorConfig)
@@ -144,18 +127,14 @@ fn calibration(session: &mut [u8], a: ActuatorConfig)
 {
     let v2i = convert::v2i(a.impedance_mOhm, convert::imax(a.max_current_mA));
     let trim4 = convert::trim4(a.impedance_mOhm, a.inductance_uH);
-    exchange::push(
+    writes(
         session,
-        Step::Write(Register::CALIB_V2I_H.address(), (v2i / 256) as u8),
+        Register::CALIB_V2I_H,
+        (v2i / 256) as u8,
+        Register::CALIB_V2I_L,
+        (v2i % 256) as u8,
     );
-    exchange::push(
-        session,
-        Step::Write(Register::CALIB_V2I_L.address(), (v2i % 256) as u8),
-    );
-    exchange::push(
-        session,
-        Step::Write(Register::TRIM4.address(), trim4.bits()),
-    );
+    write(session, Register::TRIM4, trim4.bits());
 }
 
 fn pid(session: &mut [u8], pid_Kp_Ki: Pid)
@@ -170,21 +149,19 @@ fn pid(session: &mut [u8], pid_Kp_Ki: Pid)
 fn pid_words(session: &mut [u8], kp: u16, ki: u16)
     ensures { λ _. ⌜ now (session .exit) ≡ pushedAll (now (session .entry)) (pidSteps (Given kp ki)) ⌝ }
 {
-    exchange::push(
+    writes(
         session,
-        Step::Write(Register::TOP_INT_CFG6_H.address(), convert::high_part(kp)),
+        Register::TOP_INT_CFG6_H,
+        convert::high_part(kp),
+        Register::TOP_INT_CFG6_L,
+        convert::low_part(kp),
     );
-    exchange::push(
+    writes(
         session,
-        Step::Write(Register::TOP_INT_CFG6_L.address(), convert::low_part(kp)),
-    );
-    exchange::push(
-        session,
-        Step::Write(Register::TOP_INT_CFG7_H.address(), convert::high_part(ki)),
-    );
-    exchange::push(
-        session,
-        Step::Write(Register::TOP_INT_CFG7_L.address(), convert::low_part(ki)),
+        Register::TOP_INT_CFG7_H,
+        convert::high_part(ki),
+        Register::TOP_INT_CFG7_L,
+        convert::low_part(ki),
     );
 }
 
@@ -192,11 +169,7 @@ fn pid_words(session: &mut [u8], kp: u16, ki: u16)
 fn rapid_stop(session: &mut [u8])
     ensures { λ _. ⌜ now (session .exit) ≡ pushedAll (now (session .entry)) rapidStopSteps ⌝ }
 {
-    exchange::push(session, Step::Read(Register::TOP_INT_CFG8.address()));
-    exchange::push(
-        session,
-        Step::Update(Register::TOP_INT_CFG8.address(), 4, 4, 7),
-    );
+    update(session, Register::TOP_INT_CFG8, 4, 4, 7);
 }
 
 fn driving(session: &mut [u8], driving_mode: DrivingMode)
@@ -221,13 +194,12 @@ fn custom_waveform(session: &mut [u8])
 {
     let seq_ctl1 = SEQ_CTL1::new().with_WAVEGEN_MODE(true);
     let top_cfg4 = TOP_CFG4::new().with_V2I_FACTOR_FREEZE(true);
-    exchange::push(
+    writes(
         session,
-        Step::Write(Register::SEQ_CTL1.address(), seq_ctl1.bits()),
-    );
-    exchange::push(
-        session,
-        Step::Write(Register::TOP_CFG4.address(), top_cfg4.bits()),
+        Register::SEQ_CTL1,
+        seq_ctl1.bits(),
+        Register::TOP_CFG4,
+        top_cfg4.bits(),
     );
 }
 
@@ -237,10 +209,12 @@ fn phase(session: &mut [u8])
     let frq_phase_l = FRQ_PHASE_L::new()
         .with_DELAY_SHIFT_L(0)
         .with_DELAY_FREEZE(true);
-    exchange::push(session, Step::Write(Register::FRQ_PHASE_H.address(), 0));
-    exchange::push(
+    writes(
         session,
-        Step::Write(Register::FRQ_PHASE_L.address(), frq_phase_l.bits()),
+        Register::FRQ_PHASE_H,
+        0,
+        Register::FRQ_PHASE_L,
+        frq_phase_l.bits(),
     );
 }
 
@@ -269,10 +243,7 @@ fn trigger_0(session: &mut [u8], trigger: Trigger)
 {
     match trigger {
         Trigger::Absent => {}
-        Trigger::Given(t) => exchange::push(
-            session,
-            Step::Write(Register::GPI_0_CTL.address(), gpi_0(t)),
-        ),
+        Trigger::Given(t) => write(session, Register::GPI_0_CTL, gpi_0(t)),
     }
 }
 
@@ -293,10 +264,7 @@ fn trigger_1(session: &mut [u8], trigger: Trigger)
 {
     match trigger {
         Trigger::Absent => {}
-        Trigger::Given(t) => exchange::push(
-            session,
-            Step::Write(Register::GPI_1_CTL.address(), gpi_1(t)),
-        ),
+        Trigger::Given(t) => write(session, Register::GPI_1_CTL, gpi_1(t)),
     }
 }
 
@@ -317,10 +285,7 @@ fn trigger_2(session: &mut [u8], trigger: Trigger)
 {
     match trigger {
         Trigger::Absent => {}
-        Trigger::Given(t) => exchange::push(
-            session,
-            Step::Write(Register::GPI_2_CTL.address(), gpi_2(t)),
-        ),
+        Trigger::Given(t) => write(session, Register::GPI_2_CTL, gpi_2(t)),
     }
 }
 
@@ -334,4 +299,30 @@ fn gpi_2(t: TriggerConfig) -> u8
         .with_GPI2_MODE(true)
         .with_GPI2_SEQUENCE_ID(t.sequence_id);
     gpi.bits()
+}
+
+// ---- steps on one register or two
+
+fn write(session: &mut [u8], register: Register, value: u8)
+    ensures { λ _. ⌜ now (session .exit) ≡ pushed (now (session .entry)) (Write (register .0) value) ⌝ }
+{
+    exchange::push(session, Step::Write(register.address(), value));
+}
+
+fn writes(session: &mut [u8], first: Register, value: u8, second: Register, next: u8)
+    ensures { λ _. ⌜ now (session .exit) ≡ pushed (pushed (now (session .entry)) (Write (first .0) value)) (Write (second .0) next) ⌝ }
+{
+    write(session, first, value);
+    write(session, second, next);
+}
+
+// Reads a register, and writes it back with a field replaced.
+fn update(session: &mut [u8], register: Register, shift: u8, width: u8, value: u8)
+    ensures { λ _. ⌜ now (session .exit) ≡ pushed (pushed (now (session .entry)) (Read (register .0))) (Update (register .0) shift width value) ⌝ }
+{
+    exchange::push(session, Step::Read(register.address()));
+    exchange::push(
+        session,
+        Step::Update(register.address(), shift, width, value),
+    );
 }

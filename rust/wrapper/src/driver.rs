@@ -289,6 +289,8 @@ fn started(start: impl FnOnce(*mut u8, usize) -> u8) -> Session {
 ///     Ok(session)
 /// }
 /// ```
+///
+/// Run one session at a time on a chip: some operations write back a byte that they read before.
 #[derive(Debug, Clone, PartialEq, Eq)]
 pub struct Session {
     bytes: [u8; SESSION],

@@ -1,3 +1,11 @@
+use mathlib.Core.List.{[], _∷_}
+use Rattle.exchange.specs.State.{pushedAll}
+use denote.Ref.{now}
+use Rattle.exchange.specs.declared.Step.the-variants.{Chunk}
+use mathlib.Core.Path.{refl, sym, ap, _∙_}
+use Rattle.driver.proofs.Runs.{on}
+use Prim.Native.Nat.{_-_, min}
+use mathlib.Core.Bool.{Bool, cond}
 use Rattle.driver.specs.Operations.{chunkStep}
 use borrow.Author.Tests.{lt-ltb, le-ltb}
 use borrow.Author.Needs.{needs}
@@ -8,28 +16,28 @@ use Rattle.driver.proofs.chunk.Lts as lts
 use Rattle.driver.proofs.part.Reads as part-reads
 use Rattle.exchange.proofs.push.Reads as push-reads
 
--- src/lib.rt:363:58
+-- src/lib.rt:366:58
 sub-part : tie.Need-sub-part
 sub-part c = search needs
 
--- src/lib.rt:363:53
+-- src/lib.rt:366:53
 part-requires : tie.Need-part-requires
 part-requires c κs = search needs
 
--- src/lib.rt:363:9
+-- src/lib.rt:366:9
 push-requires : tie.Need-push-requires
 push-requires c κs = search needs
 
--- src/lib.rt:359:1
+-- src/lib.rt:362:1
 same-length : tie.Need-same-length
 same-length c = search needs
 
--- src/lib.rt:359:1
+-- src/lib.rt:362:1
 returns : tie.Need-returns
 unfolding chunkStep
-returns c = simp (lt-ltb _ _ (c .before .before .before .before .before .if1 .taken)) cc
+returns c = let a = c .before .before .before .before .before .before .before .args in on (c .before .before .push .ensures) refl (ap (Chunk (a .offset)) (c .before .before .before .part .ensures)) ∙ ap (λ (b : Bool). pushedAll (now (a .session)) (cond b (Chunk (a .offset) (min 32 (a .n - a .offset)) ∷ []) [])) (sym (lt-ltb _ _ (c .before .before .before .before .before .if1 .taken)))
 
--- src/lib.rt:359:1
+-- src/lib.rt:362:1
 returns-2 : tie.Need-returns-2
 unfolding chunkStep
 returns-2 c = simp (le-ltb _ _ (c .if1 .left))

@@ -1,15 +1,12 @@
+use mathlib.Core.Path.{_≡_, refl, sym, ap, _∙_}
+use Rattle.driver.proofs.Runs.{made}
 use Rattle.errors.specs.Number.{answerNumber}
-use mathlib.Core.Path.{sym, _∙_}
 use Rattle.checks.specs.Checks.{configureNumber}
-use mathlib.Core.Path.{_≡_}
 use Rattle.plans.proofs.Lengths.{at-most}
 use Rattle.plans.specs.Configure.{configureSteps}
 use Rattle.driver.specs.Operations.{unless, makes, configured}
 use Rattle.driver.proofs.Starts.{told, refused}
-use Rattle.driver.proofs.Runs.{make-pushes}
-use mathlib.Core.Path.{refl, ap}
 use Prim.Native.Nat.{ℕ}
-use denote.Ref.{now}
 use borrow.Author.Needs.{needs}
 use Rattle.driver.proofs.configure.Statement.{statement}
 use Rattle.driver.proofs.configure.Tie as tie
@@ -49,7 +46,7 @@ same-length c = search needs
 
 -- src/lib.rt:72:1
 returns-2 : tie.Need-returns-2
-returns-2 c = let a = c .before .before .before .before .before .before .before .before .before .before .before .before .args in let e : configureNumber (a .driver .variant) (a .a) (a .d) ≡ 0 = sym (c .before .before .before .before .before .before .before .before .before .before .configure-checks .ensures) ∙ ap answerNumber (c .before .before .before .before .before .before .before .before .enum-told .given .1) in told _ _ _ _ _ (ap (λ (n : ℕ). unless n (makes (configured (a .driver) (a .a) (a .d)) (configureSteps (a .a) (a .d)))) e) refl (cc (make-pushes (now (a .session)) (configured (a .driver) (a .a) (a .d)) (configureSteps (a .a) (a .d)) (at-most (a .a) (a .d))))
+returns-2 c = let a = c .before .before .before .before .before .before .before .before .before .before .before .before .args in let e : configureNumber (a .driver .variant) (a .a) (a .d) ≡ 0 = sym (c .before .before .before .before .before .before .before .before .before .before .configure-checks .ensures) ∙ ap answerNumber (c .before .before .before .before .before .before .before .before .enum-told .given .1) in told _ _ _ _ _ (ap (λ (n : ℕ). unless n (makes (configured (a .driver) (a .a) (a .d)) (configureSteps (a .a) (a .d)))) e) refl (made _ (configured (a .driver) (a .a) (a .d)) (configureSteps (a .a) (a .d)) (at-most (a .a) (a .d)) (c .before .before .before .before .before .before .begin-with .ensures) (c .before .before .configure .ensures))
 
 pub configure-spec : {M : Type 1} → statement M
 configure-spec =

@@ -1,4 +1,6 @@
-use mathlib.Core.Path.{refl, sym, _∙_}
+use Rattle.exchange.specs.declared.Step.the-variants.{Read}
+use mathlib.Core.Path.{refl, ap}
+use Rattle.driver.proofs.Runs.{runs-one}
 use borrow.Author.Needs.{needs}
 use Rattle.driver.proofs.get_chip_rev.Statement.{statement}
 use Rattle.driver.proofs.get_chip_rev.Tie as tie
@@ -21,7 +23,7 @@ same-length c = search needs
 
 -- src/lib.rt:94:1
 returns : tie.Need-returns
-returns c = (refl, cc)
+returns c = (refl, runs-one _ _ (c .before .before .run .ensures) (ap Read (c .before .before .before .address .ensures)))
 
 pub get-chip-rev-spec : {M : Type 1} → statement M
 get-chip-rev-spec = tie.close (tie.spec address-requires run-requires same-length returns)

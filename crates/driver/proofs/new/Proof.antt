@@ -1,10 +1,9 @@
-use Rattle.driver.specs.Operations.{newRecord, revision}
-use Rattle.exchange.specs.declared.Step.the-variants.{Write, Read, Update, Match, Chunk}
-use Rattle.driver.proofs.Runs.{make-pushes}
-use mathlib.Core.Path.{refl, sym, _∙_}
+use Rattle.driver.specs.Operations.{revision, newRecord}
+use Rattle.exchange.specs.declared.Step.the-variants.{Match}
+use mathlib.Core.Path.{refl}
 use native.Mathlib.Omega.{arith}
 use mathlib.Core.List.{[], _∷_}
-use denote.Ref.{now}
+use Rattle.driver.proofs.Runs.{made, on}
 use borrow.Author.Needs.{needs}
 use Rattle.driver.proofs.new.Statement.{statement}
 use Rattle.driver.proofs.new.Tie as tie
@@ -37,7 +36,7 @@ same-length c = search needs
 
 -- src/lib.rt:45:1
 returns : tie.Need-returns
-returns c = let a = c .before .before .before .before .before .before .before .before .before .before .before .args in (refl, cc (make-pushes (now (a .session)) (newRecord (a .address) (a .variant)) (Match 0 (revision (a .variant)) ∷ []) (omega arith)))
+returns c = let a = c .before .before .before .before .before .before .before .before .before .before .before .args in (refl, made _ (newRecord (a .address) (a .variant)) (Match 0 (revision (a .variant)) ∷ []) (omega arith) (c .before .before .before .before .before .before .before .before .begin-with .ensures) (on (c .before .before .push .ensures) refl (λ i. Match (c .before .before .before .before .address .ensures i) (c .before .before .before .revision .ensures i))))
 
 pub new-spec : {M : Type 1} → statement M
 new-spec =

@@ -1,6 +1,11 @@
+use Rattle.exchange.specs.State.{begunIn}
+use denote.Ref.{now}
+use Rattle.exchange.specs.declared.Step.the-variants.{Write}
+use mathlib.Core.List.{[], _∷_}
+use mathlib.Core.Path.{refl, sym, ap, _∙_}
+use Prim.Native.Nat.{ℕ}
+use Rattle.driver.specs.Operations.{blank, startSteps}
 use Rattle.driver.proofs.Starts.{told, fails, passes}
-use mathlib.Core.List.{[]}
-use mathlib.Core.Path.{refl, sym, _∙_}
 use borrow.Author.Needs.{needs}
 use Rattle.driver.proofs.play_sequence.Statement.{statement}
 use Rattle.driver.proofs.play_sequence.Tie as tie
@@ -10,29 +15,29 @@ use Rattle.driver.proofs.above_15.Reads as above-15-reads
 use Rattle.driver.proofs.play.Reads as play-reads
 use Rattle.driver.proofs.seq_ctl2.Reads as seq-ctl2-reads
 
--- src/lib.rt:456:8
+-- src/lib.rt:459:8
 above-15-requires : tie.Need-above-15-requires
 above-15-requires c κs = search needs
 
--- src/lib.rt:457:9
+-- src/lib.rt:460:9
 returns : tie.Need-returns
 returns c = told _ _ _ _ _ (fails _ 10 [] _ (sym (c .before .above-15 .ensures) ∙ c .if1 .taken)) refl refl
 
--- src/lib.rt:459:35
+-- src/lib.rt:462:35
 seq-ctl2-requires : tie.Need-seq-ctl2-requires
 seq-ctl2-requires c κs = search needs
 
--- src/lib.rt:459:5
+-- src/lib.rt:462:5
 play-requires : tie.Need-play-requires
 play-requires c κs = search needs
 
--- src/lib.rt:452:1
+-- src/lib.rt:455:1
 same-length : tie.Need-same-length
 same-length c = search needs
 
--- src/lib.rt:452:1
+-- src/lib.rt:455:1
 returns-2 : tie.Need-returns-2
-returns-2 c = told _ _ _ _ _ (passes _ 11 [] _ (sym (c .before .before .before .before .before .before .above-15 .ensures) ∙ c .before .before .before .before .before .if1 .left)) refl cc
+returns-2 c = let a = c .before .before .before .before .before .before .before .before .args in told _ _ _ _ _ (passes _ 11 [] _ (sym (c .before .before .before .before .before .before .above-15 .ensures) ∙ c .before .before .before .before .before .if1 .left)) refl (c .before .before .play .ensures ∙ ap (λ (v : ℕ). begunIn (now (a .session)) (blank (a .driver .address)) (Write 40 v ∷ startSteps)) (c .before .before .before .seq-ctl2 .ensures))
 
 pub play-sequence-spec : {M : Type 1} → statement M
 play-sequence-spec =

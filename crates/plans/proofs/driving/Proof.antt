@@ -1,3 +1,7 @@
+use Rattle.exchange.specs.State.{pushedAll}
+use Rattle.config.specs.declared.DrivingMode.{DrivingMode}
+use denote.Ref.{now}
+use mathlib.Core.Path.{sym, ap, _∙_}
 use Rattle.plans.specs.Configure.{drivingSteps}
 use borrow.Author.Needs.{needs}
 use Rattle.plans.proofs.driving.Statement.{statement}
@@ -10,44 +14,44 @@ use Rattle.plans.proofs.untracked.Reads as untracked-reads
 enum-told : tie.Need-enum-told
 enum-told c = search needs
 
--- src/lib.rt:207:40
+-- src/lib.rt:180:40
 enum-told-2 : tie.Need-enum-told-2
 enum-told-2 c = search needs
 
--- src/lib.rt:207:34
+-- src/lib.rt:180:34
 phase-requires : tie.Need-phase-requires
 phase-requires c κs = search needs
 
--- src/lib.rt:208:51
+-- src/lib.rt:181:51
 enum-told-3 : tie.Need-enum-told-3
 enum-told-3 c = search needs
 
--- src/lib.rt:208:41
+-- src/lib.rt:181:41
 untracked-requires : tie.Need-untracked-requires
 untracked-requires c κs = search needs
 
--- src/lib.rt:202:1
+-- src/lib.rt:175:1
 returns : tie.Need-returns
 unfolding drivingSteps
-returns c = cc
+returns c = ap (λ (m : DrivingMode). pushedAll (now (c .before .before .before .args .session)) (drivingSteps m)) (sym (c .enum-told .given .1))
 
--- src/lib.rt:202:1
+-- src/lib.rt:175:1
 same-length : tie.Need-same-length
 same-length c = search needs
 
--- src/lib.rt:202:1
+-- src/lib.rt:175:1
 returns-2 : tie.Need-returns-2
 unfolding drivingSteps
-returns-2 c = cc
+returns-2 c = c .before .before .phase .ensures ∙ ap (λ (m : DrivingMode). pushedAll (now (c .before .before .before .before .before .before .before .args .session)) (drivingSteps m)) (sym (c .before .before .before .before .enum-told2 .given .1))
 
--- src/lib.rt:202:1
+-- src/lib.rt:175:1
 same-length-2 : tie.Need-same-length-2
 same-length-2 c = search needs
 
--- src/lib.rt:202:1
+-- src/lib.rt:175:1
 returns-3 : tie.Need-returns-3
 unfolding drivingSteps
-returns-3 c = cc
+returns-3 c = c .before .before .untracked .ensures ∙ ap (λ (m : DrivingMode). pushedAll (now (c .before .before .before .before .before .before .before .args .session)) (drivingSteps m)) (sym (c .before .before .before .before .enum-told3 .given .1))
 
 pub driving-spec : {M : Type 1} → statement M
 driving-spec =
