@@ -1,9 +1,9 @@
 /* Yambelugo: the exported functions of the proved DA7280 driver.
  *
  * Every function returns on any input. A byte slice crosses as a pointer and a
- * length (of 64 bits: the archives are for x86-64); NULL is fine for a length of 0. Slices of one call must not overlap.
- * Nothing is written but to slices that are not const, and there only what is
- * said below.
+ * length (of 64 bits: the archives are for x86-64); NULL is fine for a length of
+ * 0. Slices of one call must not overlap. Nothing is written but to slices that
+ * are not const, and there only what is said below.
  *
  * A refusal is told by its number:
  *    1 InvalidTimebase      2 InvalidAmplitude     3 InvalidSnippetId
@@ -271,8 +271,8 @@ uint8_t da728x_read_waveform_memory(const uint8_t *record, size_t record_len,
                                     size_t len, size_t buffer_len,
                                     uint8_t *session, size_t session_len);
 
-/* Selects a sequence and how often it loops (0 plays it once); starts the one selected; both. 11 for a
- * sequence number or a loop count above 15. */
+/* Selects a sequence and how often it loops (0 plays it once); starts the one
+ * selected; both. 11 for a sequence number or a loop count above 15. */
 uint8_t da728x_select_sequence(const uint8_t *record, size_t record_len,
                                uint8_t sequence_id, uint8_t loops,
                                uint8_t *session, size_t session_len);

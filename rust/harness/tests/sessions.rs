@@ -215,7 +215,10 @@ fn a_result_at_the_end_only() {
         walk(&case, |point| {
             let [last, before, first] = point.read;
             let wanted = match point.ended() {
-                true => (1 << 32) + u64::from(u32::from_le_bytes([last, before, first, case.reads as u8])),
+                true => {
+                    (1 << 32)
+                        + u64::from(u32::from_le_bytes([last, before, first, case.reads as u8]))
+                }
                 false => 0,
             };
             assert_eq!(raw::result(&point.session), wanted, "{}", case.name);
