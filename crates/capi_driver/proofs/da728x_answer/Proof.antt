@@ -7,33 +7,7 @@ use mathlib.Core.Path.{ap, _∙_}
 use borrow.Author.Needs.{needs}
 use Rattle.capi_driver.proofs.da728x_answer.Statement.{statement}
 use Rattle.capi_driver.proofs.da728x_answer.Tie as tie
-use Rattle.capi_driver.proofs.da728x_answer.Reads as reads
-use Rattle.capi_driver.proofs.da728x_answer.Lts as lts
-use Rattle.capi_driver.proofs.reply.Reads as reply-reads
-use Rattle.capi_driver.proofs.word.Reads as word-reads
-use Rattle.exchange.proofs.answer.Reads as answer-reads
 
--- src/lib.rt:246:36
-reply-requires : tie.Need-reply-requires
-reply-requires c κs = search needs
-
--- src/lib.rt:246:10
-answer-requires : tie.Need-answer-requires
-answer-requires c κs = search needs
-
--- src/lib.rt:246:5
-word-requires : tie.Need-word-requires
-word-requires c κs = search needs
-
--- src/lib.rt:240:1
-same-length : tie.Need-same-length
-same-length c = search needs
-
--- src/lib.rt:240:1
-same-length-2 : tie.Need-same-length-2
-same-length-2 c = search needs
-
--- src/lib.rt:240:1
 returns : tie.Need-returns
 returns c = let e = c .before .before .before .before .before .answer .ensures in
     let r = c .before .before .before .before .before .before .before .reply .ensures in
@@ -48,4 +22,4 @@ returns c = let e = c .before .before .before .before .before .answer .ensures i
 pub da728x-answer-spec : {M : Type 1} → statement M
 da728x-answer-spec =
     tie.close
-    (tie.spec reply-requires answer-requires word-requires same-length same-length-2 returns)
+    (tie.spec (λ c κs. search needs) (λ c κs. search needs) (λ c κs. search needs) (λ c. search needs) (λ c. search needs) returns)

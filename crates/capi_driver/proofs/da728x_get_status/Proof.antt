@@ -5,33 +5,11 @@ use Rattle.capi_driver.proofs.Starts.{starts}
 use borrow.Author.Needs.{needs}
 use Rattle.capi_driver.proofs.da728x_get_status.Statement.{statement}
 use Rattle.capi_driver.proofs.da728x_get_status.Tie as tie
-use Rattle.capi_driver.proofs.da728x_get_status.Reads as reads
-use Rattle.capi_driver.proofs.da728x_get_status.Lts as lts
-use Rattle.da728x.proofs.DA728x.from_bytes.Reads as from-bytes-reads
-use Rattle.driver.proofs.get_status.Reads as get-status-reads
-use Rattle.errors.proofs.Answer.number.Reads as number-reads
 
--- src/lib.rt:70:24
-from-bytes-requires : tie.Need-from-bytes-requires
-from-bytes-requires c κs = search needs
-
--- src/lib.rt:70:5
-get-status-requires : tie.Need-get-status-requires
-get-status-requires c κs = search needs
-
--- src/lib.rt:70:5
-number-requires : tie.Need-number-requires
-number-requires c κs = search needs
-
--- src/lib.rt:65:1
-same-length : tie.Need-same-length
-same-length c = search needs
-
--- src/lib.rt:65:1
 returns : tie.Need-returns
 returns c = starts _ _ _ _ _ _ (c .number .ensures) (c .before .before .before .get-status .ensures) (ap (λ (r : DA728x). spec.getStatus r) (c .before .before .before .before .before .from-bytes .ensures))
 
 pub da728x-get-status-spec : {M : Type 1} → statement M
 da728x-get-status-spec =
     tie.close
-    (tie.spec from-bytes-requires get-status-requires number-requires same-length returns)
+    (tie.spec (λ c κs. search needs) (λ c κs. search needs) (λ c κs. search needs) (λ c. search needs) returns)

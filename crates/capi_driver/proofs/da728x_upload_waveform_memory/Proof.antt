@@ -10,52 +10,11 @@ use mathlib.Core.Path.{_≡_, refl}
 use borrow.Author.Needs.{needs}
 use Rattle.capi_driver.proofs.da728x_upload_waveform_memory.Statement.{statement}
 use Rattle.capi_driver.proofs.da728x_upload_waveform_memory.Tie as tie
-use Rattle.capi_driver.proofs.da728x_upload_waveform_memory.Reads as reads
-use Rattle.capi_driver.proofs.da728x_upload_waveform_memory.Lts as lts
-use Rattle.da728x.proofs.DA728x.from_bytes.Reads as DA728x-from-bytes-reads
-use Rattle.driver.proofs.upload_waveform_memory.Reads as upload-waveform-memory-reads
-use Rattle.errors.proofs.Answer.number.Reads as number-reads
-use Rattle.laws.proofs.copy_into.Reads as copy-into-reads
-use Rattle.memory.proofs.WaveformMemory.from_bytes.Reads as WaveformMemory-from-bytes-reads
 
--- src/lib.rt:160:9
 returns : tie.Need-returns
 unfolding uploadOf
 returns c = (simp (lt-ltb _ _ (c .if1 .taken)), simp (lt-ltb _ _ (c .if1 .taken)))
 
--- src/lib.rt:163:21
-slice-aggregate-copy-into : tie.Need-slice-aggregate-copy-into
-slice-aggregate-copy-into c = search needs
-
--- src/lib.rt:163:5
-copy-into-requires : tie.Need-copy-into-requires
-copy-into-requires c κs = search needs
-
--- src/lib.rt:164:51
-cast-from-bytes : tie.Need-cast-from-bytes
-cast-from-bytes c = search needs
-
--- src/lib.rt:164:9
-from-bytes-requires : tie.Need-from-bytes-requires
-from-bytes-requires c κs = search needs
-
--- src/lib.rt:167:9
-from-bytes-requires-2 : tie.Need-from-bytes-requires-2
-from-bytes-requires-2 c κs = search needs
-
--- src/lib.rt:166:5
-upload-waveform-memory-requires : tie.Need-upload-waveform-memory-requires
-upload-waveform-memory-requires c κs = search needs
-
--- src/lib.rt:166:5
-number-requires : tie.Need-number-requires
-number-requires c κs = search needs
-
--- src/lib.rt:148:1
-same-length : tie.Need-same-length
-same-length c = search needs
-
--- src/lib.rt:148:1
 returns-2 : tie.Need-returns-2
 returns-2 c = let a = c .before .before .before .before .before .before .before .before .before .before .before .before .before .before .before .args in
     let image = now (a .image) in
@@ -68,12 +27,12 @@ da728x-upload-waveform-memory-spec =
     tie.close
     (tie.spec
     returns
-    slice-aggregate-copy-into
-    copy-into-requires
-    cast-from-bytes
-    from-bytes-requires
-    from-bytes-requires-2
-    upload-waveform-memory-requires
-    number-requires
-    same-length
+    (λ c. search needs)
+    (λ c κs. search needs)
+    (λ c. search needs)
+    (λ c κs. search needs)
+    (λ c κs. search needs)
+    (λ c κs. search needs)
+    (λ c κs. search needs)
+    (λ c. search needs)
     returns-2)

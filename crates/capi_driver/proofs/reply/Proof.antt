@@ -4,20 +4,12 @@ use mathlib.Core.List.{[], _∷_}
 use borrow.Author.Needs.{needs}
 use Rattle.capi_driver.proofs.reply.Statement.{statement}
 use Rattle.capi_driver.proofs.reply.Tie as tie
-use Rattle.capi_driver.proofs.reply.Reads as reads
-use Rattle.capi_driver.proofs.reply.Lts as lts
 
--- src/lib.rt:265:1
-returns : tie.Need-returns
-returns c = search needs
-
--- src/lib.rt:265:1
 returns-2 : tie.Need-returns-2
 returns-2 c = simp (c .match .keys2)
 
--- src/lib.rt:265:1
 returns-3 : tie.Need-returns-3
 returns-3 c = past-list (Done ∷ Byte (c .before .args .byte) ∷ []) (Failed (c .before .args .byte)) (c .before .args .kind) (c .match .rest)
 
 pub reply-spec : {M : Type 1} → statement M
-reply-spec = tie.close (tie.spec returns returns-2 returns-3)
+reply-spec = tie.close (tie.spec (λ c. search needs) returns-2 returns-3)

@@ -5,21 +5,13 @@ use mathlib.Core.Path.{_≡_}
 use borrow.Author.Needs.{needs}
 use Rattle.capi_driver.proofs.sent_len.Statement.{statement}
 use Rattle.capi_driver.proofs.sent_len.Tie as tie
-use Rattle.capi_driver.proofs.sent_len.Reads as reads
-use Rattle.capi_driver.proofs.sent_len.Lts as lts
 
--- src/lib.rt:251:16
-cast-result : tie.Need-cast-result
-cast-result c = search needs
-
--- src/lib.rt:251:9
 returns : tie.Need-returns
 returns c = let e = c .before .before .before .args .e in
     let h : length (e .bytes) ≡ 33 = search needs in
     let k : length (take (e .len) (e .bytes)) ≡ min (e .len) 33 = simp (length-take, h) in
     omega arith
 
--- src/lib.rt:247:1
 returns-2 : tie.Need-returns-2
 returns-2 c = let e = c .before .before .args .e in
     let h : length (e .bytes) ≡ 33 = search needs in
@@ -27,4 +19,4 @@ returns-2 c = let e = c .before .before .args .e in
     omega arith
 
 pub sent-len-spec : {M : Type 1} → statement M
-sent-len-spec = tie.close (tie.spec cast-result returns returns-2)
+sent-len-spec = tie.close (tie.spec (λ c. search needs) returns returns-2)

@@ -11,37 +11,15 @@ use borrow.Author.Tests.{lt-ltb, le-ltb}
 use borrow.Author.Needs.{needs}
 use Rattle.driver.proofs.chunk.Statement.{statement}
 use Rattle.driver.proofs.chunk.Tie as tie
-use Rattle.driver.proofs.chunk.Reads as reads
-use Rattle.driver.proofs.chunk.Lts as lts
-use Rattle.driver.proofs.part.Reads as part-reads
-use Rattle.exchange.proofs.push.Reads as push-reads
 
--- src/lib.rt:366:58
-sub-part : tie.Need-sub-part
-sub-part c = search needs
-
--- src/lib.rt:366:53
-part-requires : tie.Need-part-requires
-part-requires c κs = search needs
-
--- src/lib.rt:366:9
-push-requires : tie.Need-push-requires
-push-requires c κs = search needs
-
--- src/lib.rt:362:1
-same-length : tie.Need-same-length
-same-length c = search needs
-
--- src/lib.rt:362:1
 returns : tie.Need-returns
 unfolding chunkStep
 returns c = let a = c .before .before .before .before .before .before .before .args in on (c .before .before .push .ensures) refl (ap (Chunk (a .offset)) (c .before .before .before .part .ensures)) ∙ ap (λ (b : Bool). pushedAll (now (a .session)) (cond b (Chunk (a .offset) (min 32 (a .n - a .offset)) ∷ []) [])) (sym (lt-ltb _ _ (c .before .before .before .before .before .if1 .taken)))
 
--- src/lib.rt:362:1
 returns-2 : tie.Need-returns-2
 unfolding chunkStep
 returns-2 c = simp (le-ltb _ _ (c .if1 .left))
 
 pub chunk-spec : {M : Type 1} → statement M
 chunk-spec =
-    tie.close (tie.spec sub-part part-requires push-requires same-length returns returns-2)
+    tie.close (tie.spec (λ c. search needs) (λ c κs. search needs) (λ c κs. search needs) (λ c. search needs) returns returns-2)

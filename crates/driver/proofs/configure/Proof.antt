@@ -10,41 +10,10 @@ use Prim.Native.Nat.{ℕ}
 use borrow.Author.Needs.{needs}
 use Rattle.driver.proofs.configure.Statement.{statement}
 use Rattle.driver.proofs.configure.Tie as tie
-use Rattle.driver.proofs.configure.Reads as reads
-use Rattle.driver.proofs.configure.Lts as lts
-use Rattle.checks.proofs.configure_checks.Reads as configure-checks-reads
-use Rattle.driver.proofs.begin_with.Reads as begin-with-reads
-use Rattle.plans.proofs.configure.Reads as configure-reads
 
--- src/lib.rt:77:11
-configure-checks-requires : tie.Need-configure-checks-requires
-configure-checks-requires c κs = search needs
-
--- src/lib.rt:78:25
-enum-known-e : tie.Need-enum-known-e
-enum-known-e c = search needs
-
--- src/lib.rt:83:27
-enum-told : tie.Need-enum-told
-enum-told c = search needs
-
--- src/lib.rt:85:13
-begin-with-requires : tie.Need-begin-with-requires
-begin-with-requires c κs = search needs
-
--- src/lib.rt:86:13
-configure-requires : tie.Need-configure-requires
-configure-requires c κs = search needs
-
--- src/lib.rt:72:1
 returns : tie.Need-returns
 returns c = let a = c .before .before .before .before .before .args in told _ _ _ _ _ (refused (c .before .e .given .0 .0) (configureNumber (a .driver .variant) (a .a) (a .d)) (makes (configured (a .driver) (a .a) (a .d)) (configureSteps (a .a) (a .d))) (sym (ap answerNumber (c .before .e .given .1)) ∙ c .before .before .before .configure-checks .ensures)) refl refl
 
--- src/lib.rt:72:1
-same-length : tie.Need-same-length
-same-length c = search needs
-
--- src/lib.rt:72:1
 returns-2 : tie.Need-returns-2
 returns-2 c = let a = c .before .before .before .before .before .before .before .before .before .before .before .before .args in let e : configureNumber (a .driver .variant) (a .a) (a .d) ≡ 0 = sym (c .before .before .before .before .before .before .before .before .before .before .configure-checks .ensures) ∙ ap answerNumber (c .before .before .before .before .before .before .before .before .enum-told .given .1) in told _ _ _ _ _ (ap (λ (n : ℕ). unless n (makes (configured (a .driver) (a .a) (a .d)) (configureSteps (a .a) (a .d)))) e) refl (made _ (configured (a .driver) (a .a) (a .d)) (configureSteps (a .a) (a .d)) (at-most (a .a) (a .d)) (c .before .before .before .before .before .before .begin-with .ensures) (c .before .before .configure .ensures))
 
@@ -52,11 +21,11 @@ pub configure-spec : {M : Type 1} → statement M
 configure-spec =
     tie.close
     (tie.spec
-    configure-checks-requires
-    enum-known-e
-    enum-told
-    begin-with-requires
-    configure-requires
+    (λ c κs. search needs)
+    (λ c. search needs)
+    (λ c. search needs)
+    (λ c κs. search needs)
+    (λ c κs. search needs)
     returns
-    same-length
+    (λ c. search needs)
     returns-2)

@@ -12,46 +12,13 @@ use mathlib.Core.Path.{_≡_, sym, ap, _∙_}
 use borrow.Author.Needs.{needs}
 use Rattle.driver.proofs.overriding.Statement.{statement}
 use Rattle.driver.proofs.overriding.Tie as tie
-use Rattle.driver.proofs.overriding.Reads as reads
-use Rattle.driver.proofs.overriding.Lts as lts
-use Rattle.convert.proofs.override_byte.Reads as override-byte-reads
-use Rattle.driver.proofs.is_dro.Reads as is-dro-reads
-use Rattle.driver.proofs.run.Reads as run-reads
-use Rattle.driver.proofs.wrong_sign.Reads as wrong-sign-reads
-use Rattle.registers.proofs.Register.address.Reads as address-reads
 
--- src/lib.rt:174:8
-wrong-sign-requires : tie.Need-wrong-sign-requires
-wrong-sign-requires c κs = search needs
-
--- src/lib.rt:175:9
 returns : tie.Need-returns
 returns c = let a = c .before .before .before .args in
     let v : toZ w8 (ofZ w8 (a .value)) ≡ a .value = toZ-ofZ w8 (a .value) (c .before .before .before .fits .value) in
     let h : wrongSign (a .d .acceleration) (a .value) ≡ true = ap (wrongSign (a .d .acceleration)) (sym v) ∙ sym (c .before .wrong-sign .ensures) ∙ c .if1 .taken in
     overriding-sign (now (a .session)) (a .address) (a .d) (a .value) h
 
--- src/lib.rt:177:8
-is-dro-requires : tie.Need-is-dro-requires
-is-dro-requires c κs = search needs
-
--- src/lib.rt:181:25
-address-requires : tie.Need-address-requires
-address-requires c κs = search needs
-
--- src/lib.rt:181:55
-override-byte-requires : tie.Need-override-byte-requires
-override-byte-requires c κs = search needs
-
--- src/lib.rt:178:9
-run-requires : tie.Need-run-requires
-run-requires c κs = search needs
-
--- src/lib.rt:183:9
-same-length : tie.Need-same-length
-same-length c = search needs
-
--- src/lib.rt:183:9
 returns-2 : tie.Need-returns-2
 returns-2 c = let a = c .before .before .before .before .before .before .before .before .before .before .before .args in
     let v : toZ w8 (ofZ w8 (a .value)) ≡ a .value = toZ-ofZ w8 (a .value) (c .before .before .before .before .before .before .before .before .before .before .before .fits .value) in
@@ -59,7 +26,6 @@ returns-2 c = let a = c .before .before .before .before .before .before .before 
     let k : isDro (a .d .«operation_mode») ≡ true = sym (c .before .before .before .before .before .before .before .is-dro .ensures) ∙ c .before .before .before .before .before .before .if2 .taken in
     overriding-done (now (a .session)) _ (a .address) (a .d) (a .value) h k (runs-one _ _ (c .before .before .run .ensures) (λ i. Write (c .before .before .before .before .address .ensures i) ((c .before .before .before .override-byte .ensures ∙ ap overrideByte v) i)))
 
--- src/lib.rt:169:1
 returns-3 : tie.Need-returns-3
 returns-3 c = let a = c .before .before .before .before .before .args in
     let v : toZ w8 (ofZ w8 (a .value)) ≡ a .value = toZ-ofZ w8 (a .value) (c .before .before .before .before .before .fits .value) in
@@ -71,12 +37,12 @@ pub overriding-spec : {M : Type 1} → statement M
 overriding-spec =
     tie.close
     (tie.spec
-    wrong-sign-requires
+    (λ c κs. search needs)
     returns
-    is-dro-requires
-    address-requires
-    override-byte-requires
-    run-requires
-    same-length
+    (λ c κs. search needs)
+    (λ c κs. search needs)
+    (λ c κs. search needs)
+    (λ c κs. search needs)
+    (λ c. search needs)
     returns-2
     returns-3)

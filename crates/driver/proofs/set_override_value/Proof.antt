@@ -9,31 +9,7 @@ use denote.Ref.{now}
 use borrow.Author.Needs.{needs}
 use Rattle.driver.proofs.set_override_value.Statement.{statement}
 use Rattle.driver.proofs.set_override_value.Tie as tie
-use Rattle.driver.proofs.set_override_value.Reads as reads
-use Rattle.driver.proofs.set_override_value.Lts as lts
-use Rattle.driver.proofs.overriding.Reads as overriding-reads
 
--- src/lib.rt:164:45
-enum-told : tie.Need-enum-told
-enum-told c = search needs
-
--- src/lib.rt:165:28
-enum-known-settings : tie.Need-enum-known-settings
-enum-known-settings c = search needs
-
--- src/lib.rt:165:34
-overriding-requires : tie.Need-overriding-requires
-overriding-requires c κs = search needs
-
--- src/lib.rt:158:1
-returns : tie.Need-returns
-returns c = search needs
-
--- src/lib.rt:158:1
-same-length : tie.Need-same-length
-same-length c = search needs
-
--- src/lib.rt:158:1
 returns-2 : tie.Need-returns-2
 returns-2 c = let a = c .before .before .before .before .before .before .before .before .args in
     let g = c .before .before .before .before .before .settings .given in
@@ -45,4 +21,4 @@ returns-2 c = let a = c .before .before .before .before .before .before .before 
 pub set-override-value-spec : {M : Type 1} → statement M
 set-override-value-spec =
     tie.close
-    (tie.spec enum-told enum-known-settings overriding-requires returns same-length returns-2)
+    (tie.spec (λ c. search needs) (λ c. search needs) (λ c κs. search needs) (λ c. search needs) (λ c. search needs) returns-2)
