@@ -1,3 +1,4 @@
+-- The numbers that cross are those of the definitions. Assumes nothing.
 use Rattle.capi_driver.specs.Words.{toldWord}
 use Rattle.exchange.specs.Turn.{toldOf, stateAfter, bufferAfter}
 use Rattle.exchange.specs.declared.Reply.{Reply}

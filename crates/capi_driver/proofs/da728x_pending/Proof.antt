@@ -1,3 +1,4 @@
+-- The bytes that are copied are those of the exchange. Assumes nothing.
 use Rattle.capi_driver.specs.Words.{exchangeWord}
 use Rattle.exchange.specs.declared.Exchange.{Exchange}
 use Rattle.laws.specs.Copied.{copied}

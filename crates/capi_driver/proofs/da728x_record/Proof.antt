@@ -1,3 +1,4 @@
+-- The record goes to 37 bytes only. Assumes nothing.
 use lib.ListN.{length}
 use denote.Ref.{now}
 use mathlib.Core.Path.{sym, ap, _∙_}

@@ -1,3 +1,4 @@
+-- The numbers that cross are those of the definitions. Assumes nothing.
 use Rattle.capi_driver.specs.Words.{resultWord}
 use mathlib.Core.Path.{sym, ap, _∙_}
 use borrow.Author.Needs.{needs}

@@ -1,3 +1,4 @@
+-- The operation is started for the record that the bytes hold. Assumes nothing.
 use mir.ValLaws.{toZ-ofZ}
 use mir.Val.{ofZ, toZ}
 use mir.Syntax.{w8}

@@ -1,3 +1,4 @@
+-- The operation is started for the record that the bytes hold. Assumes nothing.
 use Rattle.capi_driver.proofs.Uploads.{upload-loaded}
 use Rattle.capi_driver.proofs.Starts.{starts}
 use Rattle.capi_driver.specs.Words.{uploadOf}

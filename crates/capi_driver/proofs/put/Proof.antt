@@ -1,3 +1,4 @@
+-- The record goes to 37 bytes only. Assumes nothing.
 use denote.Ref.{now}
 use Rattle.capi_driver.proofs.Puts.{put-written, put-refused}
 use borrow.Author.Needs.{needs}

@@ -1,3 +1,4 @@
+-- The numbers that cross are those of the definitions. Assumes nothing.
 use Rattle.exchange.specs.declared.Reply.the-variants.{Done, Byte, Failed}
 use Rattle.laws.proofs.Tests.{past-list}
 use mathlib.Core.List.{[], _∷_}

@@ -1,3 +1,4 @@
+-- The bytes that are copied are those of the exchange. Assumes nothing.
 use Rattle.laws.proofs.Lists.{shown-fits, shown-length, shown-part}
 use Rattle.laws.specs.Copied.{copied}
 use denote.Ref.{now}

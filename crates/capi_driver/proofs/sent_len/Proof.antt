@@ -1,3 +1,4 @@
+-- The bytes that are copied are those of the exchange. Assumes nothing.
 use native.Mathlib.Omega.{arith}
 use lib.ListN.{length, take, length-take}
 use Prim.Native.Nat.{min}

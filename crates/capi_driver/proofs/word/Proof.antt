@@ -1,3 +1,4 @@
+-- The numbers that cross are those of the definitions. Assumes nothing.
 use Rattle.capi_driver.specs.Words.{toldWord}
 use borrow.Author.Needs.{needs}
 use Rattle.capi_driver.proofs.word.Statement.{statement}

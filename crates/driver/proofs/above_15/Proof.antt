@@ -1,3 +1,4 @@
+-- The test by its parts. Assumes nothing.
 use borrow.Author.Tests.{lt-ltb, le-ltb}
 use borrow.Author.Needs.{needs}
 use Rattle.driver.proofs.above_15.Statement.{statement}

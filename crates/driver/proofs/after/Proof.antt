@@ -1,3 +1,4 @@
+-- What the session holds, by the tests that are made. Assumes nothing.
 use Rattle.driver.specs.Operations.{handedOr}
 use mathlib.Core.Path.{sym, ap, _∙_}
 use Rattle.driver.specs.Operations.{recordAfter}

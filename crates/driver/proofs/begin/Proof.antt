@@ -1,3 +1,4 @@
+-- The steps that are pushed are the session's, in order. Assumes nothing.
 use Rattle.da728x.specs.Record.{noRecord}
 use Rattle.driver.specs.Operations.{noImage}
 use borrow.Author.Needs.{needs}

@@ -1,3 +1,4 @@
+-- The steps that are pushed are the session's, in order. Assumes nothing.
 use Rattle.driver.specs.Operations.{noImage}
 use mathlib.Core.Path.{refl}
 use Rattle.driver.proofs.Runs.{begins-as}

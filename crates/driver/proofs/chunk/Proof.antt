@@ -1,3 +1,4 @@
+-- The steps that are pushed are the session's, in order. Assumes nothing.
 use mathlib.Core.List.{[], _∷_}
 use Rattle.exchange.specs.State.{pushedAll}
 use denote.Ref.{now}

@@ -1,3 +1,4 @@
+-- The steps that are pushed are the session's, in order. Assumes nothing.
 use Rattle.driver.specs.Operations.{chunkStep, chunkSteps}
 use mathlib.Core.List.{_++_}
 use Rattle.plans.proofs.Steps.{joined}

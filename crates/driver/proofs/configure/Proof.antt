@@ -1,3 +1,4 @@
+-- What is refused, case by case, and else the steps that the session is begun with. Assumes nothing.
 use mathlib.Core.Path.{_≡_, refl, sym, ap, _∙_}
 use Rattle.driver.proofs.Runs.{made}
 use Rattle.errors.specs.Number.{answerNumber}

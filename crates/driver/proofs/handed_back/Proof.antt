@@ -1,3 +1,4 @@
+-- What the session holds, by the tests that are made. Assumes nothing.
 use Rattle.driver.proofs.Hands.{unfinished, handed-given, handed-untagged, handed-unfinished}
 use mathlib.Core.Path.{refl, sym, _∙_}
 use borrow.Author.Needs.{needs}

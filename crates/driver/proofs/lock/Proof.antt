@@ -1,3 +1,4 @@
+-- The steps that are pushed are the session's, in order. Assumes nothing.
 use Rattle.exchange.specs.State.{pushedAll}
 use denote.Ref.{now}
 use Rattle.exchange.specs.declared.Step.the-variants.{Write}

@@ -1,3 +1,4 @@
+-- What is refused, case by case, and else the steps that the session is begun with. Assumes nothing.
 use Rattle.driver.specs.Operations.{revision, newRecord}
 use Rattle.exchange.specs.declared.Step.the-variants.{Match}
 use mathlib.Core.Path.{refl}

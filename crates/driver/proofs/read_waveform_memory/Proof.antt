@@ -1,3 +1,4 @@
+-- What is refused, case by case, and else the steps that the session is begun with. Assumes nothing.
 use Rattle.da728x.specs.Record.{noRecord}
 use Rattle.driver.specs.Operations.{noImage}
 use mathlib.Core.Path.{refl}

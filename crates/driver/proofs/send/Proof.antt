@@ -1,3 +1,4 @@
+-- The steps that are pushed are the session's, in order. Assumes nothing.
 use Rattle.driver.specs.Operations.{chunkSteps, lockSteps, sendSteps}
 use Rattle.exchange.specs.declared.Step.the-variants.{Write}
 use mathlib.Core.Path.{refl}

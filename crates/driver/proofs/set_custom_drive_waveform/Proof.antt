@@ -1,3 +1,4 @@
+-- What is refused, case by case, and else the steps that the session is begun with. Assumes nothing.
 use Rattle.driver.specs.Operations.{refuses, isCustom}
 use Rattle.driver.proofs.Starts.{numbered, with-settings}
 use Rattle.config.specs.declared.DrivingMode.{DrivingMode}

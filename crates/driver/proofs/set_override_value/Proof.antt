@@ -1,3 +1,4 @@
+-- What is refused, case by case, and else the steps that the session is begun with. Assumes nothing.
 use Rattle.driver.specs.Operations.{startNumber, startedIn, overriding}
 use mathlib.Core.Path.{_≡_, ap, _∙_}
 use lib.IntN.{ℤ}

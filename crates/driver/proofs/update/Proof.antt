@@ -1,3 +1,4 @@
+-- The steps that are pushed are the session's, in order. Assumes nothing.
 use Rattle.exchange.specs.declared.Step.the-variants.{Read, Update}
 use mathlib.Core.Path.{refl}
 use native.Mathlib.Omega.{arith}

@@ -1,3 +1,4 @@
+-- The test by its parts. Assumes nothing.
 use Rattle.driver.proofs.Signs.{sign}
 use borrow.Author.Needs.{needs}
 use Rattle.driver.proofs.wrong_sign.Statement.{statement}

@@ -1,3 +1,4 @@
+-- The steps that the calls push, one after the other, are the list. Assumes nothing.
 use Prim.Native.Nat.{ℕ, _/_, _%_}
 use Rattle.convert.specs.Convert.{v2iWord}
 use mathlib.Core.Path.{refl, ap, _∙_}

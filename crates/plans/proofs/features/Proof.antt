@@ -1,3 +1,4 @@
+-- The steps that the calls push, one after the other, are the list. Assumes nothing.
 use Rattle.field.specs.Field.{codeOf}
 use mathlib.Core.Bool.{Bool, not}
 use mathlib.Core.Path.{refl, ap, _∙_}

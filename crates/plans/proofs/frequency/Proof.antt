@@ -1,3 +1,4 @@
+-- The steps that the calls push, one after the other, are the list. Assumes nothing.
 use Rattle.convert.specs.Convert.{highPart, lowPart}
 use mathlib.Core.Path.{refl, ap, _∙_}
 use Rattle.plans.proofs.Steps.{put, wrote-two}

@@ -1,3 +1,4 @@
+-- The steps that the calls push, one after the other, are the list. Assumes nothing.
 use Rattle.plans.specs.Configure.{triggerStep0, triggerStep1, triggerStep2}
 use mathlib.Core.List.{_++_}
 use Rattle.plans.proofs.Steps.{joined}

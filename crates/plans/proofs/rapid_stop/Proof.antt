@@ -1,3 +1,4 @@
+-- The steps that the calls push, one after the other, are the list. Assumes nothing.
 use Rattle.plans.specs.Configure.{rapidStopSteps}
 use borrow.Author.Needs.{needs}
 use Rattle.plans.proofs.rapid_stop.Statement.{statement}

@@ -1,3 +1,4 @@
+-- The byte that the calls of `with_` make is that of the named fields. Assumes nothing.
 use Rattle.field.specs.Field.{codeOf}
 use mathlib.Core.Path.{refl, ap, _∙_}
 use Rattle.plans.proofs.Steps.{put}

@@ -1,3 +1,4 @@
+-- The steps that the calls push, one after the other, are the list. Assumes nothing.
 use Rattle.plans.proofs.Steps.{wrote}
 use mathlib.Core.Path.{refl}
 use borrow.Author.Needs.{needs}
