@@ -7,7 +7,7 @@ use yambelugo::WaveformMemoryTimebase;
 /// The wrapper's declarations.
 #[allow(dead_code)]
 #[path = "../../wrapper/src/ffi.rs"]
-mod ffi;
+pub mod ffi;
 
 /// How many bytes a session has.
 pub const SESSION: usize = 278;

@@ -1,0 +1,28 @@
+-- By the law on copying into a lent part; past the end nothing is copied. Assumes nothing.
+use borrow.Author.Needs.{needs}
+use denote.Ref.{now}
+use Rattle.pool.proofs.Lists.{placed-out, put-placed}
+use Rattle.pool.proofs.place.Statement.{statement}
+use Rattle.pool.proofs.place.Tie as tie
+
+returns : tie.Need-returns
+returns c =
+    let a = c .before .before .before .args in
+    placed-out (now (a .list)) (now (a .bytes)) (a .at) (c .if1 .taken)
+
+returns-2 : tie.Need-returns-2
+returns-2 c =
+    let a = c .before .before .before .before .before .before .before .args in
+    put-placed (now (a .list)) _ (now (a .bytes)) (a .at) (c .before .before .copy-into .ensures .1)
+
+pub place-spec : {M : Type 1} → statement M
+place-spec =
+    tie.close
+    (tie.spec
+    returns
+    (λ c. search needs)
+    (λ c. search needs)
+    (λ c. search needs)
+    (λ c κs. search needs)
+    (λ c. search needs)
+    returns-2)

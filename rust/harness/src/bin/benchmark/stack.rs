@@ -1,0 +1,46 @@
+//! How much stack a call uses: it runs on a stack of known bytes, and those that changed are counted.
+
+use crate::works::{Inputs, Side, WORKS};
+use std::arch::asm;
+
+const SIZE: usize = 1 << 16;
+
+const FRESH: u8 = 0x5C;
+
+/// The most stack that any case of these works uses, by the library and by the published Rust.
+pub fn depths(inputs: &Inputs) -> Vec<(&'static str, usize, usize)> {
+    WORKS
+        .iter()
+        .map(|work| {
+            let of = |side: Side| depth(&mut || assert_ne!(side(inputs).count, 0));
+            (work.name, of(work.ours), work.theirs.map_or(0, of))
+        })
+        .collect()
+}
+
+/// How many bytes of stack a call uses, all that it calls included.
+fn depth(mut call: &mut dyn FnMut()) -> usize {
+    let mut stack = vec![FRESH; SIZE];
+    let top = stack.as_mut_ptr_range().end;
+    let top = top.wrapping_sub(top.addr() % 16);
+    // SAFETY: the stack is large enough for what is measured and aligned; `rsp` is put back, and the
+    // call does not unwind.
+    unsafe {
+        asm!(
+            "mov r12, rsp",
+            "mov rsp, {top}",
+            "call {trampoline}",
+            "mov rsp, r12",
+            top = in(reg) top,
+            trampoline = sym trampoline,
+            in("rdi") &raw mut call,
+            out("r12") _,
+            clobber_abi("C"),
+        );
+    }
+    stack.iter().skip_while(|byte| **byte == FRESH).count()
+}
+
+extern "C" fn trampoline(call: &mut &mut dyn FnMut()) {
+    call();
+}
