@@ -1,2 +1,4 @@
 pub mod Assembly
+pub mod Holding
+pub mod Running
 pub mod Turns

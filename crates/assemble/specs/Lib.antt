@@ -1,2 +1,3 @@
 pub mod Assembled
 pub mod Grouped
+pub mod Holding

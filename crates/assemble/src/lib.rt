@@ -1,19 +1,18 @@
 // A list of builder calls, run to an image (added): the form in which whole patterns cross the boundary.
 // Document 01, 'The hundred bytes': each call gets what the last handed back; a refused call adds nothing.
-// Proved: `assemble` answers every call by its number, and builds what specs/ says, for any bytes and any buffers; it is what the
+// Proved: `assemble` answers every call by its number, and builds what specs/ says, for any bytes and any buffers, with the memory's
+// items kept in bytes (crate pool) and not in its builder, which is large; it is what the
 // grouped calls build (proofs/Assembly.antt), so demand 3 speaks of it.
 ghost use mathlib.Core.Path.{_≡_};
-ghost use lib.ListN.{set};
+ghost use lib.ListN.{length, replicate};
 ghost use Rattle.laws.specs.Copied.{copied};
 ghost use Rattle.snippet.specs.Snippet as snippet;
 ghost use Rattle.sequence.specs.Sequence as sequence;
-ghost use Rattle.memory.specs.Memory.{addedTold};
 ghost use Rattle.pattern.specs.Calls.{withBuiltSnippet, withBuiltSequence};
 ghost use Rattle.assemble.specs.Assembled.{kindAt, withItem, first, after, numbers, patternCallsIn, assembled, imageOut};
+ghost use Rattle.assemble.specs.Holding.{KeepsMemory, StepsSnippets, StepsSequences, StepsMemory};
 use calls::Builders;
 use calls::Call;
-use memory::AddedItem;
-use memory::WaveformMemoryBuilder;
 use sequence::BuiltSequence;
 use snippet::BuiltSnippet;
 
@@ -23,17 +22,10 @@ pub fn assemble(calls: &[u8], answers: &mut [u8], image: &mut [u8]) -> u8
     ensures { λ _. ⌜ now (answers .exit) ≡ copied (now (answers .entry)) (numbers first (patternCallsIn (now (calls .entry)))) ⌝ }
     ensures { λ _. ⌜ now (image .exit) ≡ imageOut (assembled (now (calls .entry))) (now (image .entry)) ⌝ }
 {
-    let m = run(calls, answers);
-    let r = m.build();
-    let a = r.answer;
-    let n = a.number();
-    if 0 < n {
-        return n;
-    }
-    let w = r.memory;
-    let bytes = w.as_bytes();
-    laws::copy_into(image, &bytes);
-    n
+    let mut snippets = [0u8; 116];
+    let mut sequences = [0u8; 117];
+    run(calls, answers, &mut snippets, &mut sequences);
+    pool::image(&snippets, &sequences, image)
 }
 
 // 1 for a call that adds the snippet, 2 for one that adds the sequence, 0 for any other.
@@ -49,64 +41,71 @@ fn kind(code: u8) -> u8
     0
 }
 
-fn add_snippet(memory: WaveformMemoryBuilder, r: BuiltSnippet) -> AddedItem
-    ensures { λ x. ⌜ addedTold x ≡ withBuiltSnippet memory (snippet.builtTold r) ⌝ }
+// Puts a snippet behind the others, if it was built.
+fn add_snippet(list: &mut [u8], r: BuiltSnippet) -> u8
+    requires { ⌜ length (now list) ≡ 116 ⌝ }
+    ensures { λ x. ⌜ StepsSnippets (λ m. withBuiltSnippet m (snippet.builtTold r)) (now (list .entry)) x (now (list .exit)) ⌝ }
 {
     let a = r.answer;
     let n = a.number();
     if 0 < n {
-        return AddedItem {
-            answer: a,
-            builder: memory,
-        };
+        return n;
     }
     let s = r.snippet;
-    memory.add_snippet(s)
+    let bytes = s.bytes();
+    let len = s.byte_len();
+    if pool::push(list, 15, &bytes[..len]) {
+        return 0;
+    }
+    6
 }
 
-fn add_sequence(memory: WaveformMemoryBuilder, r: BuiltSequence) -> AddedItem
-    ensures { λ x. ⌜ addedTold x ≡ withBuiltSequence memory (sequence.builtTold r) ⌝ }
+// Puts a sequence behind the others, if it was built.
+fn add_sequence(list: &mut [u8], r: BuiltSequence) -> u8
+    requires { ⌜ length (now list) ≡ 117 ⌝ }
+    ensures { λ x. ⌜ StepsSequences (λ m. withBuiltSequence m (sequence.builtTold r)) (now (list .entry)) x (now (list .exit)) ⌝ }
 {
     let a = r.answer;
     let n = a.number();
     if 0 < n {
-        return AddedItem {
-            answer: a,
-            builder: memory,
-        };
+        return n;
     }
     let s = r.sequence;
-    memory.add_sequence(s)
+    let bytes = s.as_bytes();
+    let len = s.byte_len();
+    if pool::push(list, 16, &bytes[..len]) {
+        return 0;
+    }
+    7
 }
 
 // The snippet (kind 1) or the sequence (kind 2) under construction, built and added.
-fn add_item(memory: WaveformMemoryBuilder, b: Builders, kind: u8) -> AddedItem
-    ensures { λ x. ⌜ addedTold x ≡ withItem memory b kind ⌝ }
+fn add_item(snippets: &mut [u8], sequences: &mut [u8], b: Builders, kind: u8) -> u8
+    requires { ⌜ (length (now snippets) ≡ 116) × (length (now sequences) ≡ 117) ⌝ }
+    ensures { λ x. ⌜ StepsMemory (λ m. withItem m b kind) (now (snippets .entry)) (now (sequences .entry)) x (now (snippets .exit)) (now (sequences .exit)) ⌝ }
 {
     if kind < 2 {
         let s = b.snippet;
-        return add_snippet(memory, s.build());
+        return add_snippet(snippets, s.build());
     }
     let q = b.sequence;
-    add_sequence(memory, q.build())
+    add_sequence(sequences, q.build())
 }
 
-// Runs the calls on new builders; the answers go to the front of the buffer, as many as fit.
-fn run(calls: &[u8], answers: &mut [u8]) -> WaveformMemoryBuilder
-    ensures { λ r. ⌜ r ≡ after first (patternCallsIn (now (calls .entry))) .memory ⌝ }
+// Runs the calls on new builders, the memory's kept in bytes that are zero; the answers go to the front of the buffer, as many as fit.
+fn run(calls: &[u8], answers: &mut [u8], snippets: &mut [u8], sequences: &mut [u8])
+    requires { ⌜ (now snippets ≡ replicate 116 0) × (now sequences ≡ replicate 117 0) ⌝ }
     ensures { λ _. ⌜ now (answers .exit) ≡ copied (now (answers .entry)) (numbers first (patternCallsIn (now (calls .entry)))) ⌝ }
+    ensures { λ _. ⌜ KeepsMemory (after first (patternCallsIn (now (calls .entry))) .memory) (now (snippets .exit)) (now (sequences .exit)) ⌝ }
 {
     let mut b = Builders::new();
-    let mut memory = WaveformMemoryBuilder::new(false);
     let mut at = 0usize;
     let mut i = 0usize;
     while calls.len() - at >= 4 {
         let k = kind(calls[at]);
         if 0 < k {
-            let r = add_item(memory, b, k);
-            memory = r.builder;
-            let a = r.answer;
-            calls::put(answers, i, a.number());
+            let n = add_item(snippets, sequences, b, k);
+            calls::put(answers, i, n);
         } else {
             let call = Call::decode(calls[at], calls[at + 1], calls[at + 2]);
             let r = b.apply(call);
@@ -117,5 +116,4 @@ fn run(calls: &[u8], answers: &mut [u8]) -> WaveformMemoryBuilder
         at += 4;
         i += 1;
     }
-    memory
 }

@@ -1,82 +1,88 @@
--- `run` meets its contract. The loop's invariant: running what is left gives the builders and the answers of the whole.
--- Assumes nothing.
+-- `run` meets its contract. The loop's invariant: running what is left gives the builders and the answers of the whole, with the
+-- memory's builder kept in the bytes. Assumes nothing.
 use borrow.Author.Needs.{needs}
-use mathlib.Core.Path.{_≡_, refl, sym, ap, ap₂, _∙_}
+use mathlib.Core.Path.{_≡_, refl, sym, ap, _∙_}
 use mathlib.Core.Logic.{⊎-elim}
-use mathlib.Core.List.{List, []}
+use mathlib.Core.List.{List}
 use Prim.Native.Nat.{ℕ, _+_, _-_, _≤_}
 use native.Mathlib.Omega.{arith}
 use denote.Ref.{now}
-use lib.ListN.{length, drop, getD, length-set}
+use lib.ListN.{length, length-set, length-replicate}
 use lib.Seq.{sets}
-use Rattle.laws.proofs.Answers.{sets-copied}
-use Rattle.errors.specs.Told.{Step}
 use Rattle.calls.specs.declared.Builders.{Builders}
-use Rattle.calls.specs.Calls.{started}
-use Rattle.memory.specs.declared.WaveformMemoryBuilder.{WaveformMemoryBuilder}
-use Rattle.memory.specs.Memory.{newMemory}
-use mathlib.Core.Bool.{false}
-use Rattle.assemble.specs.Assembled.{State, PatternCall, small, called, patternCallsIn, after, numbers, onBuilders, onMemory}
-use Rattle.assemble.proofs.Turns.{calls-none, small-call, item-call, turn-after, turn-numbers}
+use Rattle.assemble.specs.Assembled.{patternCallsIn, first, after, numbers}
+use Rattle.assemble.proofs.Holding.{keeps-none}
+use Rattle.assemble.proofs.Running.{state, Running, item-turn, small-turn, finished}
+use Rattle.assemble.proofs.Turns.{calls-none}
 use Rattle.assemble.proofs.run.Statement.{statement}
 use Rattle.assemble.proofs.run.Tie as tie
 
-abbrev state : Builders → WaveformMemoryBuilder → State
-state b m = record { builders = b; memory = m }
-
 abbrev Inv-loop : tie.InvT-loop
-Inv-loop calls answers₀ b₀ memory₀ at₀ i₀ answers b memory at i =
+Inv-loop calls answers₀ snippets₀ sequences₀ b₀ at₀ i₀ answers snippets sequences b at i =
     (at ≤ length calls)
     × (i ≤ at)
     × (length answers ≡ length answers₀)
-    × (after (state b₀ memory₀) (patternCallsIn calls) ≡ after (state b memory) (patternCallsIn (drop at calls)))
-    × (sets answers₀ 0 (numbers (state b₀ memory₀) (patternCallsIn calls)) ≡ sets answers i (numbers (state b memory) (patternCallsIn (drop at calls))))
+    × (length snippets ≡ 116)
+    × (length sequences ≡ 117)
+    × Running calls answers₀ answers snippets sequences b at i
 
 abbrev μ-loop : tie.MeasureT-loop
-μ-loop calls answers₀ b₀ memory₀ at₀ i₀ answers b memory at i = length calls - at
+μ-loop calls answers₀ snippets₀ sequences₀ b₀ at₀ i₀ answers snippets sequences b at i = length calls - at
+
+loop-holds : tie.Need-loop-holds Inv-loop μ-loop
+loop-holds c =
+    let p = c .before .before .before .before .before .pre in
+    let b = c .new .ensures in (
+      omega arith,
+      omega arith,
+      refl,
+      ap length (p .0) ∙ length-replicate {A = ℕ} 116 0,
+      ap length (p .1) ∙ length-replicate {A = ℕ} 117 0,
+      record {
+        memory = first .memory;
+        holds = rw (p .0, p .1) keeps-none;
+        rest = ap (λ (x : Builders). after (state x (first .memory)) (patternCallsIn (now (c .before .before .before .before .before .args .calls)))) (sym b);
+        told = ap (λ (x : Builders). sets (now (c .before .before .before .before .before .args .answers)) 0 (numbers (state x (first .memory)) (patternCallsIn (now (c .before .before .before .before .before .args .calls))))) (sym b);
+      },
+    )
 
 loop-again : tie.Need-loop-again Inv-loop μ-loop
 loop-again c =
     let p = c .before .before .before .before in
     let l = p .loop in
     let x = c .if1 in
-    let s = state (l .b) (l .memory) in
-    let bytes : List ℕ = now (p .before .before .before .before .before .args .calls) in
     let k = c .before .kind in
+    let bytes : List ℕ = now (c .before .before .before .before .before .before .before .before .before .before .args .calls) in
     let h : l .at + 4 ≤ length bytes = omega (arith, c .before .before .before .loop-test .taken, l .inv .0) in
     ⊎-elim
-    (λ w.
-    let f = item-call s (getD bytes (l .at) 0) (getD bytes (l .at + 1) 0) (getD bytes (l .at + 2) 0) (k .result) (k .ensures) (w .0 .taken) ∙ ap (onMemory s) (sym (w .1 .ensures)) in (
-      omega (arith, h),
-      omega (arith, l .inv .1),
-      ap length (w .8 ∙ w .5 .ensures) ∙ simp length-set (l .inv .2),
-      l .inv .3 ∙ turn-after bytes (l .at) h s _ f (x .b) (x .memory) (w .9) (w .10),
-      l .inv .4 ∙ turn-numbers bytes (l .at) h s _ f (x .b) (x .memory) (w .9) (w .10) _ (l .answers) (x .answers) (l .i) (w .4 .ensures) (w .8 ∙ w .5 .ensures),
-    ))
-    (λ w.
-    let e = small-call (getD bytes (l .at) 0) (getD bytes (l .at + 1) 0) (getD bytes (l .at + 2) 0) (k .result) (k .ensures) (w .0 .left) in
-    let f = ap (called s) (e ∙ ap small (sym (w .4 .ensures))) ∙ ap (onBuilders s) (sym (w .5 .ensures)) in (
+    (λ w. (
       omega (arith, h),
       omega (arith, l .inv .1),
       ap length (w .12 ∙ w .9 .ensures) ∙ simp length-set (l .inv .2),
-      l .inv .3 ∙ turn-after bytes (l .at) h s _ f (x .b) (x .memory) (w .13) (w .14),
-      l .inv .4 ∙ turn-numbers bytes (l .at) h s _ f (x .b) (x .memory) (w .13) (w .14) _ (l .answers) (x .answers) (l .i) (w .8 .ensures) (w .12 ∙ w .9 .ensures),
+      ap length (w .13) ∙ w .3 .kept .0 ∙ l .inv .3,
+      ap length (w .14) ∙ w .3 .kept .1 .0 ∙ l .inv .4,
+      item-turn (l .inv .5) h _ (k .result) (k .ensures) (x .answers) (w .12 ∙ w .9 .ensures) (x .snippets) (x .sequences) (x .b) (w .0 .taken) (rw (w .13, w .14) (w .3 .ensures)) (w .15),
+    ))
+    (λ w. (
+      omega (arith, h),
+      omega (arith, l .inv .1),
+      ap length (w .12 ∙ w .9 .ensures) ∙ simp length-set (l .inv .2),
+      ap length (w .13) ∙ l .inv .3,
+      ap length (w .14) ∙ l .inv .4,
+      small-turn (l .inv .5) h _ (k .result) (k .ensures) (x .answers) (w .12 ∙ w .9 .ensures) _ _ (x .snippets) (x .sequences) (x .b) (w .0 .left) (w .4 .ensures) (w .5 .ensures) (w .8 .ensures) (w .13) (w .14) (w .15),
     ))
     (x .came)
 
+same-length-2 : tie.Need-same-length-2 Inv-loop μ-loop
+same-length-2 c = c .before .loop .inv .3 ∙ sym (ap length (c .before .before .before .before .before .before .before .pre .0) ∙ length-replicate {A = ℕ} 116 0)
+
+same-length-3 : tie.Need-same-length-3 Inv-loop μ-loop
+same-length-3 c = c .before .loop .inv .4 ∙ sym (ap length (c .before .before .before .before .before .before .before .pre .1) ∙ length-replicate {A = ℕ} 117 0)
+
 returns : tie.Need-returns Inv-loop μ-loop
-unfolding after numbers
 returns c =
     let l = c .before .loop in
-    let a = c .before .before .before .before .before .before .args in
-    let bytes : List ℕ = now (a .calls) in
-    let none = calls-none bytes (l .at) (c .loop-test .left) in
-    let b = c .before .before .before .new .ensures in
-    let m = c .before .before .new2 .ensures in
-    let first : state started (newMemory false) ≡ state (c .before .before .before .new .result) (c .before .before .new2 .result) = λ i. state (sym b i) (sym m i) in (
-      sym (ap (λ (s : State). after s (patternCallsIn bytes) .memory) first ∙ ap (λ (s : State). s .memory) (l .inv .3 ∙ ap (after (state (l .b) (l .memory))) none)),
-      sym (sym (sets-copied (now (a .answers)) _) ∙ ap (λ (s : State). sets (now (a .answers)) 0 (numbers s (patternCallsIn bytes))) first ∙ l .inv .4 ∙ ap (λ (ks : List PatternCall). sets (l .answers) (l .i) (numbers (state (l .b) (l .memory)) ks)) none),
-    )
+    finished (l .inv .5) (calls-none (now (c .before .before .before .before .before .before .before .args .calls)) (l .at) (c .loop-test .left))
 
 pub run-spec : {M : Type 1} → statement M
 run-spec =
@@ -85,11 +91,9 @@ run-spec =
     Inv-loop
     μ-loop
     (λ c κs. search needs)
-    (λ c κs. search needs)
-    (λ c. (search needs, search needs, refl, refl, refl))
+    loop-holds
     (λ c. search needs)
     (λ c. search needs)
-    (λ c κs. search needs)
     (λ c κs. search needs)
     (λ c κs. search needs)
     (λ c κs. search needs)
@@ -107,4 +111,6 @@ run-spec =
     (λ c. search needs)
     loop-again
     (λ c. c .before .loop .inv .2)
+    same-length-2
+    same-length-3
     returns)

@@ -1,0 +1,206 @@
+-- A step of the memory's builder, made on the bytes that keep its items: one law for snippets and sequences.
+-- Assumes nothing.
+use mathlib.Core.Path.{_≡_, refl, sym, ap, _∙_, subst}
+use mathlib.Core.Bool.{Bool, true, false, cond}
+use mathlib.Core.List.{List, [], _∷_, _++_, map, map-append}
+use Prim.Native.Nat.{ℕ, _+_, _≤_, _<_}
+use native.Mathlib.Numerals.{add-one}
+use native.Mathlib.Omega.{arith}
+use borrow.Author.Tests.{lt-ltb, le-ltb, le-leb, lt-leb, ltb-true, ltb-false}
+use lib.Dec.{ltb, leb}
+use lib.ListN.{length, set, take, replicate, getD, length-set, length-map, length-take}
+use lib.Seq.{take-suc-set}
+use Rattle.laws.specs.Copied.{copied}
+use Rattle.errors.specs.Told.{Step, Built, accepted, refused}
+use Rattle.snippet.specs.declared.Snippet.{Snippet}
+use Rattle.snippet.specs.declared.SnippetBuilder.{SnippetBuilder}
+use Rattle.snippet.specs.Snippet.{snippetBytes, builtSnippet}
+use Rattle.sequence.specs.declared.Sequence.{Sequence}
+use Rattle.sequence.specs.declared.SequenceBuilder.{SequenceBuilder}
+use Rattle.sequence.specs.Sequence.{sequenceBytes, builtSequence}
+use Rattle.calls.specs.declared.Builders.{Builders}
+use Rattle.memory.specs.Image.{imageBytes}
+use Rattle.memory.specs.Memory.{newMemory, snippetItems, sequenceItems, noMemory, memoryOf, imageNumber, builtMemory}
+use Rattle.memory.specs.declared.WaveformMemoryBuilder.{WaveformMemoryBuilder}
+use Rattle.pool.specs.Kept as pool
+use Rattle.pool.specs.Kept.{kept, Pushed}
+use Rattle.pool.proofs.Keeping.{count}
+use Rattle.pattern.specs.Calls.{withBuiltSnippet, withBuiltSequence}
+use Rattle.assemble.specs.Holding.{Keeps, KeepsSnippets, KeepsSequences, KeepsMemory, StepsSnippets, StepsSequences, StepsMemory}
+use Rattle.assemble.specs.Assembled.{withItem, imageOut}
+
+-- ---- an array whose first n items are kept
+
+module _ {A : Type 0} (most : ℕ) (f : A → List ℕ) (array : List A) (n : ℕ) (l : List ℕ) (k : Keeps most f array n l) where
+  abbrev items : List (List ℕ)
+  items = map f (take n array)
+
+  counted : length items ≡ n
+  counted = length-map (take n array) f ∙ length-take n array ∙ (let e = k .long in let h = k .room in omega arith)
+
+  pub number-is : getD l 0 0 ≡ n
+  number-is = count most items l (k .same) ∙ counted
+
+  kept-by : (t : Bool) (x l′ : List ℕ) → ltb (length items) most ≡ t → Pushed most x l l′ → l′ ≡ kept most (cond t (items ++ (x ∷ [])) items)
+  kept-by t x l′ e p = p items (let h = k .room in let g = counted in omega arith) (k .same) ∙ ap (λ (u : Bool). kept most (cond u (items ++ (x ∷ [])) items)) e
+
+  pub keeps-more : (a : A) (x l′ : List ℕ) → n < most → x ≡ f a → Pushed most x l l′ → Keeps most f (set array n a) (n + 1) l′
+  keeps-more a x l′ h e p =
+      let s : map f (take (n + 1) (set array n a)) ≡ items ++ (f a ∷ []) =
+      ap (λ (j : ℕ). map f (take j (set array n a))) (add-one n)
+      ∙ ap (map f) (take-suc-set array n a (let g = k .long in omega arith))
+      ∙ map-append f (take n array) (a ∷ []) in
+      record {
+        long = length-set array n a ∙ k .long;
+        room = omega arith;
+        same = kept-by true x l′ (lt-ltb (length items) most (let g = counted in omega arith)) p ∙ ap (λ (y : List ℕ). kept most (items ++ (y ∷ []))) e ∙ ap (kept most) (sym s);
+      }
+
+  pub keeps-full : (x l′ : List ℕ) → most ≤ n → Pushed most x l l′ → Keeps most f array n l′
+  keeps-full x l′ h p =
+      record { long = k .long; room = k .room; same = kept-by false x l′ (le-ltb (length items) most (let g = counted in omega arith)) p }
+
+-- ---- a builder M with such an array
+
+module _ {M A : Type 0} (most full : ℕ) (f : A → List ℕ) (array : M → List A) (num : M → ℕ) (add : M → A → M)
+    (sets : (m : M) (a : A) → array (add m a) ≡ set (array m) (num m) a) (counts : (m : M) (a : A) → num (add m a) ≡ num m + 1) where
+  -- the item a is added, unless it was refused with the number k or there is no room
+  abbrev step : ℕ → A → M → Step M
+  step k a m = cond (ltb 0 k) (refused k m) (cond (leb most (num m)) (refused full m) (accepted (add m a)))
+
+  abbrev Holds : M → List ℕ → Type 0
+  Holds m l = Keeps most f (array m) (num m) l
+
+  abbrev Steps : ℕ → A → List ℕ → ℕ → List ℕ → Type 0
+  Steps k a l n l′ = (m : M) → Holds m l → (n ≡ step k a m .number) × Holds (step k a m .builder) l′
+
+  pub refusing : (k n : ℕ) (a : A) (l : List ℕ) → n ≡ k → 0 < n → Steps k a l n l
+  refusing k n a l e h m p = go (ltb 0 k) (lt-ltb 0 k (omega arith)) where
+    go : (t : Bool) → t ≡ true
+        → (n ≡ cond t (refused k m) (cond (leb most (num m)) (refused full m) (accepted (add m a))) .number)
+        × Holds (cond t (refused k m) (cond (leb most (num m)) (refused full m) (accepted (add m a))) .builder) l
+    go t g = rw g (e, p)
+
+  module _ (k : ℕ) (a : A) (l l′ x : List ℕ) (z : k ≤ 0) (e : x ≡ f a) (p : Pushed most x l l′) where
+    by : (n : ℕ) (t : Bool) (m : M) → leb most (num m) ≡ t
+        → (n ≡ cond t (refused full m) (accepted (add m a)) .number) × Holds (cond t (refused full m) (accepted (add m a)) .builder) l′
+        → (n ≡ step k a m .number) × Holds (step k a m .builder) l′
+    by n t m g w = rw (le-ltb 0 k z, g) w
+
+    pub adding : ltb (getD l 0 0) most ≡ true → Steps k a l 0 l′
+    adding t m h =
+        let b : num m < most = let c = number-is most f (array m) (num m) l h in let d = ltb-true (getD l 0 0) most t in omega arith in
+        let r = keeps-more most f (array m) (num m) l h a x l′ b e p in
+        by 0 false m (lt-leb most (num m) b) (refl, rw (sets m a, counts m a) r)
+
+    pub filling : ltb (getD l 0 0) most ≡ false → Steps k a l full l′
+    filling t m h =
+        let b : most ≤ num m = let c = number-is most f (array m) (num m) l h in let d = ltb-false (getD l 0 0) most t in omega arith in
+        by full true m (le-leb most (num m) b) (refl, keeps-full most f (array m) (num m) l h x l′ b p)
+
+-- ---- the memory's builder
+
+abbrev moreSnippets : WaveformMemoryBuilder → Snippet → WaveformMemoryBuilder
+moreSnippets m s =
+    record {
+      snippets = set (m .snippets) (m .«num_snippets») s;
+      sequences = m .sequences;
+      «num_snippets» = m .«num_snippets» + 1;
+      «num_sequences» = m .«num_sequences»;
+      «acceleration_enabled» = m .«acceleration_enabled»;
+    }
+
+abbrev moreSequences : WaveformMemoryBuilder → Sequence → WaveformMemoryBuilder
+moreSequences m s =
+    record {
+      snippets = m .snippets;
+      sequences = set (m .sequences) (m .«num_sequences») s;
+      «num_snippets» = m .«num_snippets»;
+      «num_sequences» = m .«num_sequences» + 1;
+      «acceleration_enabled» = m .«acceleration_enabled»;
+    }
+
+module _ (r : Built Snippet SnippetBuilder) (l : List ℕ) where
+  abbrev StepsFrom : ℕ → List ℕ → Type 0
+  StepsFrom n l′ = StepsSnippets (λ m. withBuiltSnippet m r) l n l′
+
+  pub snippet-refused : (n : ℕ) → n ≡ r .number → 0 < n → StepsFrom n l
+  snippet-refused n e h = refusing 15 6 snippetBytes (λ m. m .snippets) (λ m. m .«num_snippets») moreSnippets (λ m a. refl) (λ m a. refl) (r .number) n (r .item) l e h
+
+  module _ (n : ℕ) (e : n ≡ r .number) (z : n ≤ 0) (x l′ : List ℕ) (f : x ≡ snippetBytes (r .item)) (p : Pushed 15 x l l′) where
+    pub snippet-added : ltb (getD l 0 0) 15 ≡ true → StepsFrom 0 l′
+    snippet-added t = adding 15 6 snippetBytes (λ m. m .snippets) (λ m. m .«num_snippets») moreSnippets (λ m a. refl) (λ m a. refl) (r .number) (r .item) l l′ x (omega arith) f p t
+
+    pub snippet-full : ltb (getD l 0 0) 15 ≡ false → StepsFrom 6 l′
+    snippet-full t = filling 15 6 snippetBytes (λ m. m .snippets) (λ m. m .«num_snippets») moreSnippets (λ m a. refl) (λ m a. refl) (r .number) (r .item) l l′ x (omega arith) f p t
+
+  pub spares-sequences : (m : WaveformMemoryBuilder) → KeepsSequences m l → KeepsSequences (withBuiltSnippet m r .builder) l
+  spares-sequences m h = go (ltb 0 (r .number)) (leb 15 (m .«num_snippets»)) where
+    go : (t u : Bool) → KeepsSequences (cond t (refused (r .number) m) (cond u (refused 6 m) (accepted (moreSnippets m (r .item)))) .builder) l
+    go true u = h
+    go false true = h
+    go false false = h
+
+module _ (r : Built Sequence SequenceBuilder) (l : List ℕ) where
+  abbrev StepsFrom′ : ℕ → List ℕ → Type 0
+  StepsFrom′ n l′ = StepsSequences (λ m. withBuiltSequence m r) l n l′
+
+  pub sequence-refused : (n : ℕ) → n ≡ r .number → 0 < n → StepsFrom′ n l
+  sequence-refused n e h = refusing 16 7 sequenceBytes (λ m. m .sequences) (λ m. m .«num_sequences») moreSequences (λ m a. refl) (λ m a. refl) (r .number) n (r .item) l e h
+
+  module _ (n : ℕ) (e : n ≡ r .number) (z : n ≤ 0) (x l′ : List ℕ) (f : x ≡ sequenceBytes (r .item)) (p : Pushed 16 x l l′) where
+    pub sequence-added : ltb (getD l 0 0) 16 ≡ true → StepsFrom′ 0 l′
+    sequence-added t = adding 16 7 sequenceBytes (λ m. m .sequences) (λ m. m .«num_sequences») moreSequences (λ m a. refl) (λ m a. refl) (r .number) (r .item) l l′ x (omega arith) f p t
+
+    pub sequence-full : ltb (getD l 0 0) 16 ≡ false → StepsFrom′ 7 l′
+    sequence-full t = filling 16 7 sequenceBytes (λ m. m .sequences) (λ m. m .«num_sequences») moreSequences (λ m a. refl) (λ m a. refl) (r .number) (r .item) l l′ x (omega arith) f p t
+
+  pub spares-snippets : (m : WaveformMemoryBuilder) → KeepsSnippets m l → KeepsSnippets (withBuiltSequence m r .builder) l
+  spares-snippets m h = go (ltb 0 (r .number)) (leb 16 (m .«num_sequences»)) where
+    go : (t u : Bool) → KeepsSnippets (cond t (refused (r .number) m) (cond u (refused 7 m) (accepted (moreSequences m (r .item)))) .builder) l
+    go true u = h
+    go false true = h
+    go false false = h
+
+-- ---- either kind of item
+
+module _ (b : Builders) (kind : ℕ) (l : List ℕ) where
+  pub item-snippet : (l′ k : List ℕ) (n : ℕ) (r : Built Snippet SnippetBuilder) → r ≡ builtSnippet (b .snippet) → kind < 2
+      → StepsSnippets (λ m. withBuiltSnippet m r) l n l′ → StepsMemory (λ m. withItem m b kind) l k n l′ k
+  item-snippet l′ k n r e h s m w =
+      let p = s m (w .0) in
+      let q = spares-sequences r k m (w .1) in
+      rw (lt-ltb kind 2 h, ← e) (p .0, (p .1, q))
+
+  pub item-sequence : (k k′ : List ℕ) (n : ℕ) (r : Built Sequence SequenceBuilder) → r ≡ builtSequence (b .sequence) → 2 ≤ kind
+      → StepsSequences (λ m. withBuiltSequence m r) k n k′ → StepsMemory (λ m. withItem m b kind) l k n l k′
+  item-sequence k k′ n r e h s m w =
+      let p = s m (w .1) in
+      let q = spares-snippets r l m (w .0) in
+      rw (le-ltb kind 2 h, ← e) (p .0, (q, p .1))
+
+-- ---- from nothing to an image
+
+pub keeps-none : KeepsMemory (newMemory false) (replicate 116 0) (replicate 117 0)
+unfolding kept
+keeps-none = (record { long = refl; room = omega arith; same = refl }, record { long = refl; room = omega arith; same = refl })
+
+-- the image that the bytes build is the builder's
+module _ (m : WaveformMemoryBuilder) (l k : List ℕ) (w : KeepsMemory m l k) where
+  pub numbers-fit : (getD l 0 0 ≤ 15) × (getD k 0 0 ≤ 16)
+  numbers-fit =
+      let a = number-is 15 snippetBytes (m .snippets) (m .«num_snippets») l (w .0) in
+      let b = number-is 16 sequenceBytes (m .sequences) (m .«num_sequences») k (w .1) in
+      (omega (arith, w .0 .room), omega (arith, w .1 .room))
+
+  pub image-built : (buffer buffer′ : List ℕ) (n : ℕ) → pool.Built l k buffer n buffer′ → (n ≡ builtMemory m .number) × (buffer′ ≡ imageOut (builtMemory m) buffer)
+  unfolding builtMemory
+  image-built buffer buffer′ n r =
+      let a = counted 15 snippetBytes (m .snippets) (m .«num_snippets») l (w .0) in
+      let b = counted 16 sequenceBytes (m .sequences) (m .«num_sequences») k (w .1) in
+      let p = r (snippetItems m) (sequenceItems m) (omega (arith, w .0 .room)) (omega (arith, w .1 .room)) (w .0 .same) (w .1 .same) in
+      (p .0, p .1 ∙ ap (λ (j : ℕ). cond (ltb 0 j) buffer (copied buffer (imageBytes (snippetItems m) (sequenceItems m)))) (p .0) ∙ go (ltb 0 (imageNumber (snippetItems m) (sequenceItems m))))
+    where
+      go : (t : Bool) → cond t buffer (copied buffer (imageBytes (snippetItems m) (sequenceItems m))) ≡ cond t buffer (copied buffer (cond t noMemory (memoryOf (snippetItems m) (sequenceItems m)) .«data»))
+      go true = refl
+      go false = refl
