@@ -90,7 +90,7 @@ pub const WORKS: [Work; 8] = [
     Work { name: "reading", unit: "image", theirs: None, ours: our_readings },
     Work { name: "reading every item", unit: "image", theirs: None, ours: our_items },
     Work { name: "refused settings", unit: "refusal", theirs: Some(their_refusals), ours: our_refusals },
-    Work { name: "configure, plan", unit: "plan", theirs: None, ours: our_plans },
+    Work { name: "configure, plan", unit: "plan", theirs: Some(their_plans), ours: our_plans },
     Work { name: "configure", unit: "exchange", theirs: Some(their_configures), ours: our_configures },
     Work { name: "upload, plan", unit: "plan", theirs: None, ours: our_upload_plans },
     Work { name: "upload", unit: "exchange", theirs: Some(their_uploads), ours: our_uploads },
@@ -175,6 +175,36 @@ fn our_items(inputs: &Inputs) -> Done {
     done
 }
 
+/// A bus that answers at once and does nothing else: what is left is the driver's own work.
+struct Idle;
+
+impl ErrorType for Idle {
+    type Error = ErrorKind;
+}
+
+impl I2c for Idle {
+    async fn write(&mut self, _: u8, sent: &[u8]) -> Result<(), ErrorKind> {
+        black_box(sent);
+        Ok(())
+    }
+
+    async fn write_read(&mut self, _: u8, sent: &[u8], read: &mut [u8]) -> Result<(), ErrorKind> {
+        black_box(sent);
+        read[0] = black_box(revision(VARIANT));
+        Ok(())
+    }
+}
+
+fn their_plans(inputs: &Inputs) -> Done {
+    let mut driver =
+        at_once(da728x::DA728x::new(Idle, ADDRESS, published_variant(VARIANT))).unwrap();
+    for settings in &inputs.accepted {
+        let (actuator, device) = settings.published;
+        at_once(driver.configure(actuator, device)).unwrap();
+    }
+    Done { sum: 0, count: inputs.accepted.len() as u64 }
+}
+
 /// A bus that answers at once, and sums what it is sent.
 #[derive(Default)]
 struct Bus(Done);
@@ -248,13 +278,12 @@ fn our_start(settings: &Case, session: &mut [u8; SESSION]) -> u8 {
 }
 
 fn our_plans(inputs: &Inputs) -> Done {
-    let (mut done, mut session) = (Done::default(), [0; SESSION]);
+    let mut session = [0; SESSION];
     for settings in &inputs.accepted {
-        our_start(settings, &mut session);
-        done.add(&black_box(&session)[..1]);
-        done.count += 1;
+        assert_eq!(our_start(settings, &mut session), 0);
+        black_box(&session);
     }
-    done
+    Done { sum: 0, count: inputs.accepted.len() as u64 }
 }
 
 /// Runs a session to its end, as the header shows.
