@@ -1,18 +1,50 @@
 /* Yambelugo: the exported functions of the proved DA7280 driver.
  *
+ * Patterns, images and registers are in libcapi.a; the driver sessions, at the end, in
+ * libcapi_driver.a. examples/c/pattern.c uses both:
+ *
+ *     cc -Iinclude examples/c/pattern.c -Ltarget/staticlib -lcapi -lcapi_driver
+ *
+ * The archives need memcpy and memset only. They allocate nothing and keep no data, so calls
+ * that lend different bytes may run at the same time. Stack, as measured: 13 KB in
+ * da728x_assemble, 8 KB in the functions that read an image, 1 KB in the others.
+ *
+ * Words of the chip, by which everything below is named:
+ *   point      one byte: a ramp or a step, 1 to 8 timebases long, to an amplitude of 0 to 15
+ *   snippet    1 to 16 points
+ *   frame      1 to 3 bytes: plays a snippet with a gain, a timebase and, if wished, a loop
+ *              count and a frequency
+ *   sequence   1 to 32 frames, at most 96 bytes: what the chip plays
+ *   image      the hundred bytes of its waveform memory: 1 to 15 snippets, 1 to 16 sequences
+ *   exchange   one write or one read on the chip's bus
+ * Names such as SnippetBuilder::ramp are those of the Rust driver da728x-rs, which this is a
+ * port of.
+ *
  * Every function returns on any input. A byte slice crosses as a pointer and a
  * length (of 64 bits: the archives are for x86-64); NULL is fine for a length of
  * 0. Slices of one call must not overlap. Nothing is written but to slices that
  * are not const, and there only what is said below.
  *
  * A refusal is told by its number:
- *    1 InvalidTimebase      2 InvalidAmplitude     3 InvalidSnippetId
- *    4 InvalidLoopCount     5 InvalidFrequency     6 TooManySnippets
- *    7 TooManySequences     8 WaveformMemoryFull   9 EmptySnippet
- *   10 EmptySequence       11 InvalidValue        12 WrongMode
- *   13 MissingTriggerConfigInEtwmMode            14 NotSupported
- *   15 NotConfigured       16 VariantMismatch     17 I2c (the bus failed)
- *   18 NotAnImage          19 OutOfTurn
+ *    1 InvalidTimebase      a point's length is not 1 to 8
+ *    2 InvalidAmplitude     a point's amplitude is above 15
+ *    3 InvalidSnippetId     a snippet number is 0 or above 15
+ *    4 InvalidLoopCount     a frame's loop count is above 15
+ *    5 InvalidFrequency     a frame's frequency is above 511 Hz
+ *    6 TooManySnippets      a 17th point or a 16th snippet
+ *    7 TooManySequences     a 33rd frame or a 17th sequence
+ *    8 WaveformMemoryFull   a sequence above 96 bytes, an image above 100
+ *    9 EmptySnippet         no points, or no snippets, to build from
+ *   10 EmptySequence        no frames, or no sequences, to build from
+ *   11 InvalidValue         a setting or an argument is out of range
+ *   12 WrongMode            the settings' mode does not allow it
+ *   13 MissingTriggerConfigInEtwmMode
+ *   14 NotSupported         by the chip or by the driver
+ *   15 NotConfigured        no settings are stored: da728x_configure comes first
+ *   16 VariantMismatch      the chip is not of the variant that was given
+ *   17 I2c                  the bus failed
+ *   18 NotAnImage           the builders cannot make these bytes
+ *   19 OutOfTurn            an answer that does not fit the pending exchange
  */
 #ifndef DA728X_H
 #define DA728X_H
@@ -27,7 +59,7 @@ extern "C" {
 /* ---- points ----------------------------------------------------------- */
 
 /* PwlPoint::ramp (ramp not 0) or PwlPoint::step (ramp 0).
- * The point's byte, or 256 times the number of the refusal (1, 2). */
+ * The point's byte, or 256 times the number of the refusal (1, then 2). */
 uint16_t da728x_point(uint8_t ramp, uint8_t timebases, uint8_t amplitude);
 
 /* The fields of a point's byte: 1 for a ramp and 0 for a step; 1..8; 0..15. */
@@ -38,37 +70,46 @@ uint8_t da728x_point_amplitude(uint8_t byte);
 /* ---- builder calls ---------------------------------------------------- */
 
 /* A list of builder calls is made of records of four bytes: a code, two
- * arguments a and b, and a byte that says nothing. A shorter last record is no
- * record: it has no answer. The calls run in order on one snippet, one frame and one
- * sequence under construction, which begin as SnippetBuilder::new,
+ * arguments a and b (0 where there is none), and a byte that is ignored. A shorter
+ * last record is no record: it has no answer. The calls run in order on one snippet,
+ * one frame and one sequence under construction, which begin as SnippetBuilder::new,
  * FrameBuilder::silence and SequenceBuilder::new. The answer to the i-th call
  * (0, or the number of its refusal) is stored at answers[i] where there is such
- * a byte; no other byte of answers changes. A refused call adds nothing. */
-#define DA728X_CALL_SNIPPET_NEW 1   /* SnippetBuilder::new() */
-#define DA728X_CALL_RAMP 2          /* SnippetBuilder::ramp(a, b) */
-#define DA728X_CALL_STEP 3          /* SnippetBuilder::step(a, b) */
-#define DA728X_CALL_POINT 4         /* SnippetBuilder::point(the point with the byte a) */
-#define DA728X_CALL_FRAME_NEW 5     /* FrameBuilder::new(a) */
+ * a byte; no other byte of answers changes. A refused call changes nothing else, and
+ * the calls after it run all the same, on what was there before it: look at every answer.
+ * The refusals that a call can have are named at its code, the first tested first.
+ *
+ * A frame names its snippet by a number: 1 is the snippet that was added first, 0 is
+ * silence. Gain codes 0 to 3 are 0, -6, -12 and -18 dB. Timebase codes 0 to 3 are 5.44,
+ * 21.76, 43.52 and 87.04 ms, unless da728x_set_timebase says otherwise. A new frame has code
+ * 0 of both, no loop count and no frequency. */
+#define DA728X_CALL_SNIPPET_NEW 1   /* SnippetBuilder::new(): a snippet without points */
+#define DA728X_CALL_RAMP 2          /* SnippetBuilder::ramp(length a, amplitude b): 1, 2, 6 */
+#define DA728X_CALL_STEP 3          /* SnippetBuilder::step(length a, amplitude b): 1, 2, 6 */
+#define DA728X_CALL_POINT 4         /* SnippetBuilder::point(the point with the byte a): 6 */
+#define DA728X_CALL_FRAME_NEW 5     /* FrameBuilder::new(snippet number a): 3 */
 #define DA728X_CALL_SILENCE 6       /* FrameBuilder::silence() */
 #define DA728X_CALL_GAIN 7          /* FrameBuilder::gain(code a; above 3 counts as 3) */
 #define DA728X_CALL_TIMEBASE 8      /* FrameBuilder::timebase(code a; above 3 counts as 3) */
-#define DA728X_CALL_LOOP_COUNT 9    /* FrameBuilder::loop_count(a) */
-#define DA728X_CALL_FREQUENCY_HZ 10 /* FrameBuilder::frequency_hz(a + 256 * b) */
-#define DA728X_CALL_SEQUENCE_NEW 11 /* SequenceBuilder::new() */
-#define DA728X_CALL_ADD_FRAME 12    /* SequenceBuilder::add_frame(the frame built) */
+#define DA728X_CALL_LOOP_COUNT 9    /* FrameBuilder::loop_count(a): 4 */
+#define DA728X_CALL_FREQUENCY_HZ 10 /* FrameBuilder::frequency_hz(a + 256 * b): 5 */
+#define DA728X_CALL_SEQUENCE_NEW 11 /* SequenceBuilder::new(): a sequence without frames */
+#define DA728X_CALL_ADD_FRAME 12    /* SequenceBuilder::add_frame(the frame built): 8, 7 */
 /* In da728x_assemble only, each adding what is built to the memory under
- * construction and leaving the snippet and the sequence as they are: */
-#define DA728X_CALL_ADD_SNIPPET 13  /* WaveformMemoryBuilder::add_snippet(the snippet built) */
-#define DA728X_CALL_ADD_SEQUENCE 14 /* WaveformMemoryBuilder::add_sequence(the sequence built) */
+ * construction and leaving the snippet and the sequence as they are, so the next ones
+ * begin with SNIPPET_NEW and SEQUENCE_NEW: */
+#define DA728X_CALL_ADD_SNIPPET 13  /* WaveformMemoryBuilder::add_snippet(the one built): 9, 6 */
+#define DA728X_CALL_ADD_SEQUENCE 14 /* WaveformMemoryBuilder::add_sequence(the one built): 10, 7 */
 /* Any other code is no call: it changes nothing; its answer is 0 and has its place
  * among the answers. */
 
 /* Runs the calls, builds the snippet, the frame or the sequence, and encodes it
- * into the front of out, as much as fits; the other bytes of out stay.
+ * into the front of out, as much as fits; the other bytes of out stay. A snippet has
+ * at most 16 bytes, a frame 3, a sequence 96.
  * The answer of encode_into (for a snippet its full length, else the bytes
- * copied), or 65536 times the number of build's refusal (9, 10), and then out
- * stays as it was; the answers of the calls are stored all the same. A frame is
- * never refused. */
+ * copied), or 65536 times the number of build's refusal (9 for the snippet, 10 for the
+ * sequence), and then out stays as it was; the answers of the calls are stored all the
+ * same. A frame is never refused. */
 uint32_t da728x_snippet(const uint8_t *calls, size_t calls_len,
                         uint8_t *answers, size_t answers_len,
                         uint8_t *out, size_t out_len);
@@ -79,7 +120,8 @@ uint32_t da728x_sequence(const uint8_t *calls, size_t calls_len,
                          uint8_t *answers, size_t answers_len,
                          uint8_t *out, size_t out_len);
 
-/* Runs the calls; SequenceBuilder::current_len of the sequence. */
+/* Runs the calls; SequenceBuilder::current_len: how many bytes the frames have that were
+ * added to the sequence, 0 to 96. */
 size_t da728x_current_len(const uint8_t *calls, size_t calls_len,
                           uint8_t *answers, size_t answers_len);
 
@@ -88,21 +130,22 @@ size_t da728x_current_len(const uint8_t *calls, size_t calls_len,
 /* Runs the calls, also on a memory under construction that begins as
  * WaveformMemoryBuilder::new(false), and builds the image. 0, and its hundred
  * bytes are copied into the front of image, as many as fit; the other bytes of
- * image stay. Or the number of build's refusal (9, 10, 8), and then image stays
+ * image stay. Or the number of build's refusal (9, then 10, then 8), and then image stays
  * as it was; the answers of the calls are stored all the same. */
 uint8_t da728x_assemble(const uint8_t *calls, size_t calls_len,
                         uint8_t *answers, size_t answers_len,
                         uint8_t *image, size_t image_len);
 
 /* The rest reads an image: a hundred bytes that the builders can make. Snippets,
- * points, sequences and frames count from 0.
+ * points, sequences and frames count from 0, so a frame's snippet number 1 is the snippet
+ * at 0 here. A frame may name a snippet that the image does not have.
  *
- * 256 times the number of snippets plus the number of sequences, at least one of
- * each; or 18 if the bytes are no image. */
+ * 256 times how many snippets plus how many sequences, at least one of each; or 18,
+ * which is less than any of these, if the bytes are no image. */
 uint16_t da728x_read_counts(const uint8_t *image, size_t image_len);
 
-/* The byte of a point; 256 if there is no such point; 256 * 18 if the bytes are no
- * image. */
+/* The byte of a point, for da728x_point_is_ramp and the others; 256 if there is no such
+ * point; 256 * 18 if the bytes are no image. */
 uint16_t da728x_read_point(const uint8_t *image, size_t image_len,
                            size_t snippet, size_t point);
 
@@ -118,21 +161,21 @@ uint64_t da728x_read_frame(const uint8_t *image, size_t image_len,
 /* Each of these copies a list of bytes into the front of out, as much as fits,
  * leaves the other bytes of out, and answers the bytes copied.
  *
- * The addresses of Register, in the written order: 42 bytes. */
+ * The addresses of Register in registers.rs of da728x-rs, in the written order: 42 bytes. */
 size_t da728x_register_addresses(uint8_t *out, size_t out_len);
 
-/* What each named field of a group of registers reads when the register holds
+/* What each named field of a group of registers reads when its register holds
  * byte: fields in the written order, registers in the written order. The groups
- * are, in the written order, CHIP_REV to IRQ_MASK1, FRQ_LRA_PER_H to TOP_CFG4,
- * TOP_INT_CFG1 to SWG_C3, and SEQ_CTL2 to IRQ_MASK2. */
+ * are, in the written order, CHIP_REV to IRQ_MASK1 (33 fields), FRQ_LRA_PER_H to TOP_CFG4
+ * (18), TOP_INT_CFG1 to SWG_C3 (18), and SEQ_CTL2 to IRQ_MASK2 (20). */
 size_t da728x_read_interrupts(uint8_t byte, uint8_t *out, size_t out_len);
 size_t da728x_read_actuator(uint8_t byte, uint8_t *out, size_t out_len);
 size_t da728x_read_control(uint8_t byte, uint8_t *out, size_t out_len);
 size_t da728x_read_trigger(uint8_t byte, uint8_t *out, size_t out_len);
 
-/* What the register holds after its field was replaced by value (a flag is set
- * when value is odd), when it held byte before: for each field that is not
- * read-only, in the same order. */
+/* What the register holds after its field was replaced by value (of which the low bits
+ * count that the field has: a flag is set when value is odd), when it held byte before:
+ * for each field that is not read-only, in the same order (31, 18, 18 and 19 bytes). */
 size_t da728x_replace_interrupts(uint8_t byte, uint8_t value, uint8_t *out, size_t out_len);
 size_t da728x_replace_actuator(uint8_t byte, uint8_t value, uint8_t *out, size_t out_len);
 size_t da728x_replace_control(uint8_t byte, uint8_t value, uint8_t *out, size_t out_len);
@@ -142,21 +185,24 @@ size_t da728x_replace_trigger(uint8_t byte, uint8_t value, uint8_t *out, size_t 
 
 /* An operation of the driver is a session of exchanges on a bus that the caller
  * runs: it hands out one exchange at a time (chip address, bytes to send, 0 or 1
- * bytes wanted) and takes back done, a byte or a failure.
+ * bytes wanted) and takes back done, a byte or a failure. The caller waits for its bus
+ * as it likes: polling, by interrupt or in a task; the session keeps no pointer.
  *
  * A session and a record are bytes that the caller keeps and lends. A session's
- * bytes say nothing to the caller; any bytes are some session, one of another
- * length has ended, and one of zeros, which was never begun, has ended with nothing
- * to hand back.
+ * bytes are no business of the caller's; any bytes are some session, one of another
+ * length than DA728X_SESSION has ended, and one of zeros, which was never begun, has ended
+ * with nothing to hand back.
  *
- *     uint8_t session[DA728X_SESSION], record[DA728X_RECORD], bytes[33];
- *     uint8_t refused = da728x_enable(record, sizeof record, session, sizeof session);
+ *     uint8_t session[DA728X_SESSION], bytes[33];
+ *     uint8_t refused = da728x_enable(record, DA728X_RECORD, session, sizeof session);
  *     uint32_t next, told;
  *     if (refused) return refused;
  *     while ((next = da728x_pending(session, sizeof session, bytes, sizeof bytes)) != 0) {
- *         ... send the first (next & 255) bytes to the chip at (next >> 8 & 255) and,
- *             if (next >> 16), read a byte in the same transaction (a repeated start, no
- *             stop in between): kind and byte ...
+ *         uint8_t kind = DA728X_DONE, byte = 0;
+ *         ... send the first (next & 255) bytes to the chip at (next >> 8 & 255). If
+ *             (next >> 16), then read a byte in the same transaction (a repeated start, no
+ *             stop in between): kind = DA728X_BYTE, and the byte. If the bus fails:
+ *             kind = DA728X_FAILED, and byte = its code ...
  *         told = da728x_answer(session, sizeof session, kind, byte, NULL, 0);
  *         if (told & 255) return told & 255;
  *     }
@@ -166,15 +212,19 @@ size_t da728x_replace_trigger(uint8_t byte, uint8_t value, uint8_t *out, size_t 
  * da728x_new or da728x_configure the record is then taken by da728x_record.) Run one session
  * at a time on a chip: some operations write back a byte that they read before.
  *
+ * The usual order is da728x_new, da728x_configure, da728x_upload_waveform_memory,
+ * da728x_enable, da728x_play_sequence, each a session that is run to its end. One that fails
+ * is begun anew from the record that is in force.
+ *
  * A record is made by da728x_new and by da728x_configure, and da728x_record then hands
  * it back; every other operation leaves the caller's in force. It is:
- *    0      chip address
+ *    0      chip address, of 7 bits, handed to the bus as it is (0x4A by the datasheet)
  *    1      variant: 0 DA7280, 1 DA7281, 2 DA7282
  *    2      2 if settings are stored, else 1 (0 counts as 1) and the rest is 0
  *    3..36  the settings
  * A record of another length has no settings, address 0 and is a DA7280. Settings are:
  *    0      actuator type: 0 LRA, 1 ERM
- *    1, 2   nominal voltage in mV, at most 5990; here and below the least byte first
+ *    1, 2   nominal voltage in mV, at most 5990; here and below the low byte first
  *    3, 4   absolute voltage in mV, at most 5990
  *    5, 6   current in mA, 29 to 252
  *    7, 8   impedance in mOhm, 4000 to 49999
@@ -184,15 +234,16 @@ size_t da728x_replace_trigger(uint8_t byte, uint8_t value, uint8_t *out, size_t 
  *   14, 15  Kp, of which the low 15 bits count
  *   16, 17  Ki, likewise
  *   18      operation mode: 0 inactive, 1 DRO, 2 PWM, 3 RTWM, 4 ETWM
- *   19      driving mode: 0 frequency track, 1 wideband, 2 custom waveform
+ *   19      driving mode: 0 frequency track ("tracking" here), 1 wideband, 2 custom waveform
  *   20..23  the trigger of GPI_0: 1 if it is given, else 0; its sequence number, 0 to 15;
- *           its polarity: 0 rising, 1 falling, 2 both; its mode, 0 or 1, which says nothing
+ *           its polarity: 0 rising, 1 falling, 2 both; its mode, 0 or 1, which is ignored
  *   24..27  that of GPI_1
  *   28..31  that of GPI_2
  *   32      1 for acceleration, else 0
  *   33      1 for rapid stop, else 0
  * Missing bytes of settings count as 0 and further ones are ignored. A code past the
- * last counts as the last; a flag is set unless it is 0. */
+ * last counts as the last; a flag is set unless it is 0. DRO plays the override value, PWM an
+ * input pin, RTWM a sequence that is started over the bus, ETWM one that a trigger starts. */
 #define DA728X_SESSION 278
 #define DA728X_RECORD 37
 #define DA728X_SETTINGS 34
@@ -202,12 +253,13 @@ size_t da728x_replace_trigger(uint8_t byte, uint8_t value, uint8_t *out, size_t 
  * that was begun in these bytes before, and has its record and result. A session of
  * another length stays in either case.
  *
- * Reads CHIP_REV, which has to be that of the variant (16 otherwise); the record that
- * it makes has no settings. */
+ * Reads CHIP_REV, which has to be that of the variant (0xBA, 0xCA, 0xDA; da728x_answer tells
+ * 16 otherwise); the record that it makes has no settings. Never refused. */
 uint8_t da728x_new(uint8_t address, uint8_t variant,
                    uint8_t *session, size_t session_len);
 
 /* Sets the chip up, in 14 to 25 exchanges; the record that it makes has the settings stored.
+ * If one of them fails, the chip has a part of the settings and no record is made.
  * Refused with the first that holds: 12 for acceleration or rapid stop when not tracking;
  * 13 for no trigger in ETWM mode, 14 for more than one on the DA7281; 11 for a value
  * outside the ranges above (of a trigger's sequence number in ETWM mode only); 14 for
@@ -216,9 +268,9 @@ uint8_t da728x_configure(const uint8_t *record, size_t record_len,
                          const uint8_t *settings, size_t settings_len,
                          uint8_t *session, size_t session_len);
 
-/* CHIP_REV; the event registers IRQ_EVENT1, IRQ_EVENT_WARNING_DIAG and
- * IRQ_EVENT_SEQ_DIAG, with FF written to IRQ_EVENT1 at the end, which clears them;
- * IRQ_STATUS1: see da728x_result. */
+/* Reads CHIP_REV; reads IRQ_EVENT1, IRQ_EVENT_WARNING_DIAG and IRQ_EVENT_SEQ_DIAG, then writes
+ * 0xFF to IRQ_EVENT1, which clears the events; reads IRQ_STATUS1. da728x_result gives what was
+ * read. Never refused. */
 uint8_t da728x_get_chip_rev(const uint8_t *record, size_t record_len,
                             uint8_t *session, size_t session_len);
 uint8_t da728x_get_events(const uint8_t *record, size_t record_len,
@@ -226,22 +278,23 @@ uint8_t da728x_get_events(const uint8_t *record, size_t record_len,
 uint8_t da728x_get_status(const uint8_t *record, size_t record_len,
                           uint8_t *session, size_t session_len);
 
-/* The frequency that is driven; the stored one stays. 15 without settings, then 11
- * outside 50 to 300 Hz when tracking, else 25 to 1024. */
+/* Sets the frequency that the chip drives; the stored one stays. 15 without settings, then 11
+ * outside 50 to 300 Hz when tracking, else outside 25 to 1024. */
 uint8_t da728x_set_frequency(const uint8_t *record, size_t record_len, uint16_t frequency_hz,
                              uint8_t *session, size_t session_len);
 
-/* The amplitude in DRO mode. 15 without settings, 11 below 0 under acceleration, 12 in
- * another mode. */
+/* Sets the amplitude in DRO mode, -128 to 127. 15 without settings, then 11 below 0 under
+ * acceleration, then 12 in another mode. */
 uint8_t da728x_set_override_value(const uint8_t *record, size_t record_len, int8_t value,
                                   uint8_t *session, size_t session_len);
 
-/* The timebases of the waveform memory: 0 for 5.44, 21.76, 43.52 and 87.04 ms, 1 for
- * 1.36, 5.44, 21.76 and 43.52 ms (above 1 counts as 1). */
+/* Sets what the frames' timebase codes 0 to 3 mean: 0 for 5.44, 21.76, 43.52 and 87.04 ms, 1
+ * for 1.36, 5.44, 21.76 and 43.52 ms (above 1 counts as 1). Never refused. */
 uint8_t da728x_set_timebase(const uint8_t *record, size_t record_len, uint8_t timebase,
                             uint8_t *session, size_t session_len);
 
-/* Enables the stored operation mode, and makes the chip inactive. 15 without settings. */
+/* da728x_enable sets the chip to the stored operation mode and starts nothing; da728x_disable
+ * makes it inactive. 15 without settings. */
 uint8_t da728x_enable(const uint8_t *record, size_t record_len,
                       uint8_t *session, size_t session_len);
 uint8_t da728x_disable(const uint8_t *record, size_t record_len,
@@ -252,27 +305,30 @@ uint8_t da728x_set_custom_drive_waveform(const uint8_t *record, size_t record_le
                                          uint8_t a, uint8_t b, uint8_t c,
                                          uint8_t *session, size_t session_len);
 
-/* Lets the waveform memory be written; keeps it from being written. */
+/* Lets the waveform memory be written; keeps it from being written. Never refused. */
 uint8_t da728x_unlock_waveform_memory(const uint8_t *record, size_t record_len,
                                       uint8_t *session, size_t session_len);
 uint8_t da728x_lock_waveform_memory(const uint8_t *record, size_t record_len,
                                     uint8_t *session, size_t session_len);
 
 /* Unlocks the waveform memory, writes the image to its front in exchanges of at most 32
- * of its bytes, and locks it if lock_after is not 0. 8 for more than 100 bytes. */
+ * of its bytes, and locks it if lock_after is not 0: 6 exchanges for a hundred bytes and the
+ * lock. 8 for more than 100 bytes. The bytes go out as they are: it is da728x_read_counts that
+ * tells whether they are an image. The session keeps a copy of them. */
 uint8_t da728x_upload_waveform_memory(const uint8_t *record, size_t record_len,
                                       const uint8_t *image, size_t image_len, uint8_t lock_after,
                                       uint8_t *session, size_t session_len);
 
 /* Reads len bytes from the front of the waveform memory, but at most 100 and at most
  * buffer_len, one an exchange, into the buffer that da728x_answer is lent: buffer_len is
- * its length. */
+ * its length, at each answer. Never refused. */
 uint8_t da728x_read_waveform_memory(const uint8_t *record, size_t record_len,
                                     size_t len, size_t buffer_len,
                                     uint8_t *session, size_t session_len);
 
-/* Selects a sequence and how often it loops (0 plays it once); starts the one
- * selected; both. 11 for a sequence number or a loop count above 15. */
+/* Selects a sequence, 0 for the first that was added, and how often it loops (0 plays it
+ * once); starts the one selected; both. 11 for a sequence number or a loop count above 15;
+ * da728x_start_sequence is never refused. That the chip has such a sequence is not checked. */
 uint8_t da728x_select_sequence(const uint8_t *record, size_t record_len,
                                uint8_t sequence_id, uint8_t loops,
                                uint8_t *session, size_t session_len);
@@ -285,13 +341,13 @@ uint8_t da728x_play_sequence(const uint8_t *record, size_t record_len,
 /* The exchange that is to be made next: how many bytes are to be sent, 1 to 33, plus 256
  * times the chip address, plus 65536 if a byte is then to be read. 0 once the session has
  * ended. The bytes to send are copied into the front of bytes, as many as fit; the other
- * bytes of bytes stay. */
+ * bytes of bytes stay. The session stays too: asked again, it tells the same. */
 uint32_t da728x_pending(const uint8_t *session, size_t session_len,
                         uint8_t *bytes, size_t bytes_len);
 
 /* What the bus answered to the pending exchange. DA728X_DONE fits where no byte is wanted,
  * DA728X_BYTE, with the byte, where one is; DA728X_FAILED (or any kind above it), with the
- * bus's own code, fits always. */
+ * bus's own code, fits always. With DA728X_DONE the byte is ignored. */
 #define DA728X_DONE 0
 #define DA728X_BYTE 1
 #define DA728X_FAILED 2
@@ -301,9 +357,9 @@ uint32_t da728x_pending(const uint8_t *session, size_t session_len,
  * plus 2^24 if the session has ended:
  *   19  the answer does not fit, the session has ended, or it reads memory and buffer_len is
  *       not what was said at its start: nothing changes, and the exchange is still pending;
- *   17  the bus failed, and 16  the chip is of another variant: the session has ended, what
- *       was sent stands, and the record that it was started from is in force (da728x_new
- *       has none);
+ *   17  the bus failed, and 16  the chip is of another variant (in da728x_new only): the
+ *       session has ended, what was sent stands, and the record that it was started from is
+ *       in force (da728x_new has none);
  *    0  the exchange was made. A byte of memory is stored at its own index of buffer; no
  *       other byte of buffer changes, and none in any other case.
  * Where no memory is read buffer may be of any length. */
