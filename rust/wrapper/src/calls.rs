@@ -19,7 +19,8 @@ pub enum Gain {
     Eighth = 3,
 }
 
-/// How long one timebase of a frame's snippet lasts.
+/// How long one timebase of a frame's snippet lasts, unless
+/// [`DA728x::set_timebase`](crate::DA728x::set_timebase) changed what the four stand for.
 #[derive(Debug, Clone, Copy, PartialEq, Eq, Default)]
 #[repr(u8)]
 pub enum Timebase {
@@ -35,17 +36,33 @@ pub enum Timebase {
 }
 
 /// One builder call, on the snippet, the frame, the sequence or the memory under construction.
+///
+/// A list of calls is made of records of four bytes, one a call. It runs in order, on a snippet
+/// without points, a silent frame and a sequence without frames. A refused call changes nothing,
+/// and the calls after it run all the same: look at every answer.
+///
+/// ```
+/// # use yambelugo::{Call, Error, Gain};
+/// let calls = [
+///     Call::FrameNew(16), // refused: the frame is still silence
+///     Call::Gain(Gain::Half),
+/// ];
+/// let (mut answers, mut out) = ([0; 2], [0; 3]);
+/// let length = yambelugo::frame(calls.map(Call::encode).as_flattened(), &mut answers, &mut out);
+/// assert_eq!(answers, [Error::InvalidSnippetId.number(), 0]);
+/// assert_eq!(out[..length], [0x20]);
+/// ```
 #[derive(Debug, Clone, Copy, PartialEq, Eq)]
 pub enum Call {
     /// Begins the snippet anew, without points.
     SnippetNew,
-    /// Adds a ramp of this length and amplitude to the snippet.
+    /// Adds a ramp of this length (1..8) and amplitude (0..15) to the snippet.
     Ramp(u8, u8),
-    /// Adds a step of this length and amplitude to the snippet.
+    /// Adds a step of this length (1..8) and amplitude (0..15) to the snippet.
     Step(u8, u8),
     /// Adds a point to the snippet.
     Point(PwlPoint),
-    /// Begins the frame anew, for this snippet number (1..15).
+    /// Begins the frame anew, for this snippet number (1..15); 1 is the snippet added first.
     FrameNew(u8),
     /// Begins the frame anew, for silence.
     Silence,
@@ -61,16 +78,22 @@ pub enum Call {
     SequenceNew,
     /// Adds the frame, as it is built now, to the sequence.
     AddFrame,
-    /// Adds the snippet, as it is built now, to the memory. No call but in
-    /// [`assemble`](crate::assemble).
+    /// Adds the snippet, as it is built now, to the memory; the next begins with `SnippetNew`. No
+    /// call but in [`assemble`](crate::assemble).
     AddSnippet,
-    /// Adds the sequence, as it is built now, to the memory. No call but in
-    /// [`assemble`](crate::assemble).
+    /// Adds the sequence, as it is built now, to the memory; the next begins with `SequenceNew`. No
+    /// call but in [`assemble`](crate::assemble).
     AddSequence,
 }
 
 impl Call {
     /// The record of this call in a list of calls.
+    ///
+    /// ```
+    /// # use yambelugo::Call;
+    /// const PULSE: [[u8; 4]; 2] = [Call::Ramp(1, 15).encode(), Call::FrequencyHz(300).encode()];
+    /// assert_eq!(PULSE.as_flattened(), [2, 1, 15, 0, 10, 44, 1, 0]);
+    /// ```
     pub const fn encode(self) -> [u8; 4] {
         let (code, a, b) = match self {
             Call::SnippetNew => (1, 0, 0),
@@ -98,6 +121,16 @@ impl Call {
 /// `answers` gets a byte for each call, as far as it goes: 0 or the number of the refusal. The
 /// other bytes of `answers` and `out` stay.
 ///
+/// ```
+/// # use yambelugo::{Call, Error};
+/// let calls = [Call::Ramp(3, 10), Call::Ramp(9, 10), Call::Step(1, 0)].map(Call::encode);
+/// let (mut answers, mut out) = ([0; 3], [0; 16]);
+/// let length = yambelugo::snippet(calls.as_flattened(), &mut answers, &mut out)?;
+/// assert_eq!(answers, [0, Error::InvalidTimebase.number(), 0]);
+/// assert_eq!(out[..length], [0xAA, 0x00]);
+/// # Ok::<(), Error>(())
+/// ```
+///
 /// # Errors
 /// `EmptySnippet` if the snippet has no points; `out` stays then.
 pub fn snippet(calls: &[u8], answers: &mut [u8], out: &mut [u8]) -> Result<usize, Error> {
@@ -108,8 +141,7 @@ pub fn snippet(calls: &[u8], answers: &mut [u8], out: &mut [u8]) -> Result<usize
 /// the bytes copied. `answers` is as in [`snippet`].
 ///
 /// ```
-/// use yambelugo::{Call, Gain, Timebase};
-///
+/// # use yambelugo::{Call, Gain, Timebase};
 /// let calls = [
 ///     Call::FrameNew(3),
 ///     Call::Gain(Gain::Half),
@@ -128,13 +160,31 @@ pub fn frame(calls: &[u8], answers: &mut [u8], out: &mut [u8]) -> usize {
 /// Runs the calls, builds the sequence and copies its bytes into the front of `out`, as many as
 /// fit; the bytes copied. `answers` is as in [`snippet`].
 ///
+/// ```
+/// # use yambelugo::{Call, Error};
+/// let calls = [Call::FrameNew(1), Call::AddFrame, Call::LoopCount(2), Call::AddFrame];
+/// let calls = calls.map(Call::encode);
+/// let (mut answers, mut out) = ([0; 4], [0; 96]);
+/// let length = yambelugo::sequence(calls.as_flattened(), &mut answers, &mut out)?;
+/// assert_eq!(out[..length], [0x01, 0x01, 0x90]);
+/// assert_eq!(yambelugo::sequence(&[], &mut [], &mut out), Err(Error::EmptySequence));
+/// # Ok::<(), Error>(())
+/// ```
+///
 /// # Errors
 /// `EmptySequence` if the sequence has no frames; `out` stays then.
 pub fn sequence(calls: &[u8], answers: &mut [u8], out: &mut [u8]) -> Result<usize, Error> {
     told(run(ffi::da728x_sequence, calls, answers, out), 65536).map(|length| length as usize)
 }
 
-/// Runs the calls; the bytes of the sequence under construction. `answers` is as in [`snippet`].
+/// Runs the calls; how many bytes (0..96) the sequence under construction has. `answers` is as in
+/// [`snippet`].
+///
+/// ```
+/// # use yambelugo::Call;
+/// let calls = [Call::FrequencyHz(170), Call::AddFrame, Call::Silence, Call::AddFrame];
+/// assert_eq!(yambelugo::current_len(calls.map(Call::encode).as_flattened(), &mut []), 3 + 1);
+/// ```
 pub fn current_len(calls: &[u8], answers: &mut [u8]) -> usize {
     let (list, len) = (calls.as_ptr(), calls.len());
     // SAFETY: each pointer and length is a borrowed slice; the mutable one overlaps no other.

@@ -12,7 +12,22 @@ pub enum Variant {
     DA7282 = 2,
 }
 
-/// What the actuator is and bears.
+/// What the actuator is and bears: the words of its datasheet.
+///
+/// ```
+/// # use yambelugo::{ActuatorConfig, ActuatorType};
+/// const ACTUATOR: ActuatorConfig = ActuatorConfig {
+///     actuator_type: ActuatorType::LRA,
+///     nominal_max_mV: 2500,
+///     absolute_max_mV: 3500,
+///     max_current_mA: 165,
+///     impedance_mOhm: 8000,
+///     inductance_uH: 50,
+///     frequency_Hz: 170,
+///     pid_Kp_Ki: None,
+/// };
+/// # assert_eq!(ACTUATOR.encode()[1..3], [0xC4, 0x09]);
+/// ```
 #[allow(non_snake_case)]
 #[derive(Debug, Clone, Copy, PartialEq, Eq)]
 pub struct ActuatorConfig {
@@ -78,6 +93,27 @@ pub struct TriggerConfig {
 }
 
 /// How the chip is run.
+///
+/// ```
+/// # use yambelugo::*;
+/// /// The falling edge of the second pin plays sequence 3.
+/// const ON_A_PIN: DeviceConfig = DeviceConfig {
+///     operation_mode: OperationMode::ETWM_MODE,
+///     driving_mode: DrivingMode::FREQUENCY_TRACK,
+///     gpi_triggers: [
+///         None,
+///         Some(TriggerConfig {
+///             sequence_id: 3,
+///             polarity: TriggerPolarity::Falling,
+///             mode: TriggerMode::SingleSequence,
+///         }),
+///         None,
+///     ],
+///     acceleration: false,
+///     rapid_stop: false,
+/// };
+/// # assert_eq!(ON_A_PIN.encode(), [4, 0, 0, 0, 0, 0, 1, 3, 1, 0, 0, 0, 0, 0, 0, 0]);
+/// ```
 #[derive(Debug, Clone, Copy, PartialEq, Eq)]
 pub struct DeviceConfig {
     /// What the chip plays.
@@ -88,7 +124,7 @@ pub struct DeviceConfig {
     pub gpi_triggers: [Option<TriggerConfig>; 3],
     /// Active acceleration, only when tracking.
     pub acceleration: bool,
-    /// Rapid stop, which is not supported yet.
+    /// Rapid stop, which is not supported: it has to be off.
     pub rapid_stop: bool,
 }
 
@@ -122,7 +158,7 @@ pub enum DrivingMode {
     CUSTOM_WAVEFORM = 2,
 }
 
-/// How long the timebases of the waveform memory are.
+/// How long the four timebases of frames ([`Timebase`](crate::Timebase)) are.
 #[allow(non_camel_case_types)]
 #[derive(Debug, Clone, Copy, PartialEq, Eq)]
 #[repr(u8)]
@@ -134,7 +170,8 @@ pub enum WaveformMemoryTimebase {
 }
 
 impl ActuatorConfig {
-    /// The first 18 bytes of settings.
+    /// The first 18 bytes of settings, laid out as the C header says; they stand at 3 in a
+    /// configured record's bytes.
     pub const fn encode(self) -> [u8; 18] {
         let [n0, n1] = self.nominal_max_mV.to_le_bytes();
         let [a0, a1] = self.absolute_max_mV.to_le_bytes();
@@ -163,7 +200,8 @@ impl TriggerConfig {
 }
 
 impl DeviceConfig {
-    /// The last 16 bytes of settings.
+    /// The last 16 bytes of settings, laid out as the C header says; they stand at 21 in a
+    /// configured record's bytes.
     pub const fn encode(self) -> [u8; 16] {
         let [first, second, third] = self.gpi_triggers;
         let [a0, a1, a2, a3] = TriggerConfig::encode(first);

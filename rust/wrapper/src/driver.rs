@@ -19,20 +19,19 @@ const COMPLETED: u64 = 1 << 32;
 
 /// The driver record: the chip's address and variant, and the settings once they are stored.
 ///
-/// An operation starts a [`Session`] from the record. [`DA728x::new`] and [`DA728x::configure`] hand
-/// back the record to go on with after their last exchange; every other operation, and one that
-/// fails, leaves the record as it is.
+/// An operation starts a [`Session`] from the record. [`DA728x::new`] and [`DA728x::configure`]
+/// hand back the record to go on with after their last exchange; every other operation, and one
+/// that fails, leaves the record as it is.
+///
+/// Its arguments are checked when an operation starts; a refused one starts no session. Run one
+/// session at a time on a chip: some operations write back a byte that they read before.
 ///
 /// ```
-/// use yambelugo::{DA728x, Error, Reply, Variant};
-///
-/// let mut session = DA728x::new(0x4A, Variant::DA7280);
-/// let exchange = session.pending().unwrap();
-/// assert_eq!((exchange.address(), exchange.bytes(), exchange.wanted()), (0x4A, &[0x00][..], true));
-/// assert!(session.answer(Reply::Byte(0xBA), &mut []).unwrap().ended);
-///
-/// let driver = session.record().unwrap();
+/// # use yambelugo::{DA728x, Error, Exchange, Refusal, Variant};
+/// # let bus = |exchange: Exchange| exchange.reply(Ok(0xBA));
+/// let driver = DA728x::new(0x4A, Variant::DA7280).run(bus, &mut [])?.record().unwrap();
 /// assert_eq!(driver.enable(), Err(Error::NotConfigured));
+/// # Ok::<(), Refusal>(())
 /// ```
 #[derive(Debug, Clone, Copy, PartialEq, Eq)]
 pub struct DA728x {
@@ -40,7 +39,21 @@ pub struct DA728x {
 }
 
 impl DA728x {
-    /// Reads CHIP_REV; a record without settings if it is that of the variant.
+    /// Reads CHIP_REV; a record without settings if it is that of the variant. `address` is the
+    /// chip's on the bus, of 7 bits.
+    ///
+    /// ```
+    /// # use yambelugo::{DA728x, Error, Reply, Variant};
+    /// let mut session = DA728x::new(0x4A, Variant::DA7281);
+    /// let exchange = session.pending().unwrap();
+    /// assert_eq!((exchange.address(), exchange.bytes()), (0x4A, &[0x00][..]));
+    /// assert!(exchange.wanted());
+    ///
+    /// // The chip is a DA7280.
+    /// let refused = session.answer(Reply::Byte(0xBA), &mut []).unwrap_err();
+    /// assert_eq!((refused.error, refused.ended), (Error::VariantMismatch, true));
+    /// assert_eq!(session.record(), None);
+    /// ```
     #[allow(clippy::new_ret_no_self, reason = "the session makes the record")]
     pub fn new(address: u8, variant: Variant) -> Session {
         // SAFETY: the pointer and length are those of the session that is borrowed mutably.
@@ -48,11 +61,24 @@ impl DA728x {
     }
 
     /// The record with these bytes, laid out as the C header says; each byte string is one.
+    ///
+    /// A record that was kept over a reset of the processor says what the chip had before: the chip
+    /// itself is not asked.
+    ///
+    /// ```
+    /// # use yambelugo::{DA728x, Error, Exchange, Refusal, Variant};
+    /// # let bus = |exchange: Exchange| exchange.reply(Ok(0xBA));
+    /// let driver = DA728x::new(0x4A, Variant::DA7280).run(bus, &mut [])?.record().unwrap();
+    /// let kept = *driver.as_bytes();
+    /// assert_eq!(kept[..3], [0x4A, 0, 1]); // the address, a DA7280, no settings
+    /// assert_eq!(DA728x::from_bytes(kept), driver);
+    /// # Ok::<(), Refusal>(())
+    /// ```
     pub const fn from_bytes(bytes: [u8; RECORD]) -> Self {
         Self { bytes }
     }
 
-    /// The record's bytes, laid out as the C header says.
+    /// The record's bytes, laid out as the C header says: [`DA728x::from_bytes`] takes them.
     pub const fn as_bytes(&self) -> &[u8; RECORD] {
         &self.bytes
     }
@@ -63,6 +89,38 @@ impl DA728x {
     /// The first that holds: `WrongMode` for acceleration or rapid stop when not tracking;
     /// `MissingTriggerConfigInEtwmMode` for no trigger in ETWM mode, `NotSupported` for more than
     /// one on the DA7281; `InvalidValue` for a value out of range; `NotSupported` for rapid stop.
+    ///
+    /// ```
+    /// # use yambelugo::*;
+    /// # let driver = DA728x::from_bytes([0; RECORD]);
+    /// # let bus = |exchange: Exchange| exchange.reply(Ok(0xBA));
+    /// let actuator = ActuatorConfig {
+    ///     actuator_type: ActuatorType::LRA,
+    ///     nominal_max_mV: 2500,
+    ///     absolute_max_mV: 3500,
+    ///     max_current_mA: 165,
+    ///     impedance_mOhm: 8000,
+    ///     inductance_uH: 50,
+    ///     frequency_Hz: 170,
+    ///     pid_Kp_Ki: None,
+    /// };
+    /// let device = DeviceConfig {
+    ///     operation_mode: OperationMode::RTWM_MODE,
+    ///     driving_mode: DrivingMode::FREQUENCY_TRACK,
+    ///     gpi_triggers: [None; 3],
+    ///     acceleration: true,
+    ///     rapid_stop: false,
+    /// };
+    /// let mut session = driver.configure(actuator, device)?;
+    /// let configured = session.run(bus, &mut [])?.record().unwrap();
+    /// assert_eq!(configured.as_bytes()[3..21], actuator.encode());
+    ///
+    /// // The first that holds: the frequency is out of range too.
+    /// let device = DeviceConfig { driving_mode: DrivingMode::WIDEBAND, ..device };
+    /// let actuator = ActuatorConfig { frequency_Hz: 20, ..actuator };
+    /// assert_eq!(driver.configure(actuator, device), Err(Error::WrongMode));
+    /// # Ok::<(), Error>(())
+    /// ```
     pub fn configure(&self, actuator: ActuatorConfig, device: DeviceConfig) -> Started {
         let mut settings = [0; 34];
         settings[..18].copy_from_slice(&actuator.encode());
@@ -76,16 +134,52 @@ impl DA728x {
     }
 
     /// Reads CHIP_REV: [`Session::chip_rev`].
+    ///
+    /// ```
+    /// # use yambelugo::{DA728x, RECORD, Refusal, Reply};
+    /// # let driver = DA728x::from_bytes([0; RECORD]);
+    /// let mut session = driver.get_chip_rev();
+    /// assert_eq!(session.run(|_| Reply::Byte(0xBA), &mut [])?.chip_rev(), Some(0xBA));
+    /// # Ok::<(), Refusal>(())
+    /// ```
     pub fn get_chip_rev(&self) -> Session {
         self.starts(ffi::da728x_get_chip_rev)
     }
 
-    /// Reads the three event registers, then clears the events: [`Session::events`].
+    /// Reads the three event registers, then writes FF to IRQ_EVENT1, which clears the events:
+    /// [`Session::events`].
+    ///
+    /// ```
+    /// # use yambelugo::{DA728x, RECORD, Refusal, Reply};
+    /// # let driver = DA728x::from_bytes([0; RECORD]);
+    /// // Registers 3, 4 and 5 of this chip hold 14, 00 and 80.
+    /// let bus = |exchange: yambelugo::Exchange| match exchange.bytes() {
+    ///     [0x03] => Reply::Byte(0x14),
+    ///     [0x04] => Reply::Byte(0x00),
+    ///     [0x05] => Reply::Byte(0x80),
+    ///     clear => {
+    ///         assert_eq!(clear, [0x03, 0xFF]);
+    ///         Reply::Done
+    ///     }
+    /// };
+    /// let events = driver.get_events().run(bus, &mut [])?.events();
+    /// // E_SEQ_FAULT and E_SEQ_DONE; no warning; E_SEQ_ID_FAULT.
+    /// assert_eq!(events, Some([0x14, 0x00, 0x80]));
+    /// # Ok::<(), Refusal>(())
+    /// ```
     pub fn get_events(&self) -> Session {
         self.starts(ffi::da728x_get_events)
     }
 
     /// Reads IRQ_STATUS1: [`Session::status`].
+    ///
+    /// ```
+    /// # use yambelugo::{DA728x, RECORD, Refusal, Reply};
+    /// # let driver = DA728x::from_bytes([0; RECORD]);
+    /// let status = driver.get_status().run(|_| Reply::Byte(0x04), &mut [])?.status();
+    /// assert_eq!(status, Some(0x04)); // STA_SEQ_DONE
+    /// # Ok::<(), Refusal>(())
+    /// ```
     pub fn get_status(&self) -> Session {
         self.starts(ffi::da728x_get_status)
     }
@@ -94,6 +188,24 @@ impl DA728x {
     ///
     /// # Errors
     /// `NotConfigured`; `InvalidValue` outside 50..300 Hz when tracking, else 25..1024 Hz.
+    ///
+    /// ```
+    /// # use yambelugo::{DA728x, Error, RECORD, Reply};
+    /// # let mut record = [0; RECORD];
+    /// # record[2] = 2;
+    /// # let driver = DA728x::from_bytes(record);
+    /// let mut sent = Vec::new();
+    /// driver.set_frequency(170)?.run(
+    ///     |exchange| {
+    ///         sent.push(exchange.bytes().to_vec());
+    ///         Reply::Done
+    ///     },
+    ///     &mut [],
+    /// )?;
+    /// assert_eq!(sent, [[0x0A, 34], [0x0B, 59]]);
+    /// assert_eq!(driver.set_frequency(301), Err(Error::InvalidValue));
+    /// # Ok::<(), Error>(())
+    /// ```
     pub fn set_frequency(&self, frequency_hz: u16) -> Started {
         let (record, record_len) = self.lent();
         // SAFETY: each pointer and length is a borrowed array; the mutable one overlaps no other.
@@ -102,10 +214,20 @@ impl DA728x {
         })
     }
 
-    /// Sets the amplitude that DRO mode plays.
+    /// Sets the amplitude that DRO mode plays, -128..127.
     ///
     /// # Errors
     /// `NotConfigured`; `InvalidValue` below 0 under acceleration; `WrongMode` unless in DRO mode.
+    ///
+    /// ```
+    /// # use yambelugo::{DA728x, Error, RECORD};
+    /// # let mut record = [0; RECORD];
+    /// # (record[2], record[21]) = (2, 1);
+    /// # let driver = DA728x::from_bytes(record);
+    /// let session = driver.set_override_value(-1)?;
+    /// assert_eq!(session.pending().unwrap().bytes(), [0x23, 0xFF]);
+    /// # Ok::<(), Error>(())
+    /// ```
     pub fn set_override_value(&self, value: i8) -> Started {
         let (record, record_len) = self.lent();
         // SAFETY: each pointer and length is a borrowed array; the mutable one overlaps no other.
@@ -114,7 +236,16 @@ impl DA728x {
         })
     }
 
-    /// Sets how long the timebases of the waveform memory are.
+    /// Sets how long the four timebases of frames are, for all that the chip plays afterwards.
+    ///
+    /// ```
+    /// # use yambelugo::{DA728x, RECORD, Refusal, Reply, WaveformMemoryTimebase};
+    /// # let driver = DA728x::from_bytes([0; RECORD]);
+    /// let mut session = driver.set_timebase(WaveformMemoryTimebase::TIMEBASE_136_544_2176_4352);
+    /// session.answer(Reply::Byte(0xF9), &mut [])?;
+    /// assert_eq!(session.pending().unwrap().bytes(), [0x24, 0xFD]); // the other bits stay
+    /// # Ok::<(), Refusal>(())
+    /// ```
     pub fn set_timebase(&self, timebase: WaveformMemoryTimebase) -> Session {
         let (record, record_len) = self.lent();
         // SAFETY: each pointer and length is a borrowed array; the mutable one overlaps no other.
@@ -127,22 +258,51 @@ impl DA728x {
     ///
     /// # Errors
     /// `NotConfigured`.
+    ///
+    /// ```
+    /// # use yambelugo::{DA728x, Error, RECORD};
+    /// # let mut record = [0; RECORD];
+    /// # (record[2], record[21]) = (2, 3);
+    /// # let driver = DA728x::from_bytes(record);
+    /// // A driver that is configured for RTWM_MODE.
+    /// assert_eq!(driver.enable()?.pending().unwrap().bytes(), [0x22, 0x03]);
+    /// # Ok::<(), Error>(())
+    /// ```
     pub fn enable(&self) -> Started {
         self.begins(ffi::da728x_enable)
     }
 
-    /// Makes the chip inactive.
+    /// Makes the chip inactive, which stops what it plays.
     ///
     /// # Errors
     /// `NotConfigured`.
+    ///
+    /// ```
+    /// # use yambelugo::{DA728x, Error, RECORD, Reply};
+    /// # let mut record = [0; RECORD];
+    /// # record[2] = 2;
+    /// # let driver = DA728x::from_bytes(record);
+    /// let mut session = driver.disable()?;
+    /// session.answer(Reply::Byte(0x0B), &mut [])?;
+    /// assert_eq!(session.pending().unwrap().bytes(), [0x22, 0x08]); // the other bits stay
+    /// # Ok::<(), Error>(())
+    /// ```
     pub fn disable(&self) -> Started {
         self.begins(ffi::da728x_disable)
     }
 
-    /// Is always refused.
+    /// Is always refused: the published driver has no body for it.
     ///
     /// # Errors
     /// `NotConfigured`; `WrongMode` unless in CUSTOM_WAVEFORM; else `NotSupported`.
+    ///
+    /// ```
+    /// # use yambelugo::{DA728x, Error, RECORD};
+    /// # let mut record = [0; RECORD];
+    /// # (record[2], record[22]) = (2, 2);
+    /// # let driver = DA728x::from_bytes(record);
+    /// assert_eq!(driver.set_custom_drive_waveform([1, 2, 3]), Err(Error::NotSupported));
+    /// ```
     pub fn set_custom_drive_waveform(&self, points: [u8; 3]) -> Started {
         let (record, record_len) = self.lent();
         let [a, b, c] = points;
@@ -152,20 +312,46 @@ impl DA728x {
         })
     }
 
-    /// Lets the waveform memory be written.
+    /// Lets the waveform memory be written. [`DA728x::upload_waveform_memory`] does so by itself.
     pub fn unlock_waveform_memory(&self) -> Session {
         self.starts(ffi::da728x_unlock_waveform_memory)
     }
 
     /// Keeps the waveform memory from being written.
+    ///
+    /// ```
+    /// # use yambelugo::{DA728x, RECORD};
+    /// # let driver = DA728x::from_bytes([0; RECORD]);
+    /// assert_eq!(driver.unlock_waveform_memory().pending().unwrap().bytes(), [0x2D, 0x80]);
+    /// assert_eq!(driver.lock_waveform_memory().pending().unwrap().bytes(), [0x2D, 0x00]);
+    /// ```
     pub fn lock_waveform_memory(&self) -> Session {
         self.starts(ffi::da728x_lock_waveform_memory)
     }
 
-    /// Unlocks the waveform memory, writes these bytes to its front, and locks it if asked.
+    /// Unlocks the waveform memory, writes these bytes to its front, at most 32 an exchange, and
+    /// locks it if asked. The session has a copy of the bytes.
+    ///
+    /// They go out as they are: [`read_counts`](crate::read_counts) tells whether they are an
+    /// image.
     ///
     /// # Errors
     /// `WaveformMemoryFull` for more than 100 bytes.
+    ///
+    /// ```
+    /// # use yambelugo::{DA728x, Error, IMAGE, RECORD, Reply};
+    /// # let driver = DA728x::from_bytes([0; RECORD]);
+    /// # let mut image = [0; IMAGE];
+    /// # image[..7].copy_from_slice(&[1, 1, 5, 6, 0xAA, 0x00, 0x01]);
+    /// let mut session = driver.upload_waveform_memory(&image, true)?;
+    /// let mut lengths = Vec::new();
+    /// while let Some(exchange) = session.pending() {
+    ///     lengths.push(exchange.bytes().len());
+    ///     session.answer(Reply::Done, &mut [])?;
+    /// }
+    /// assert_eq!(lengths, [2, 33, 33, 33, 5, 2]); // unlock, four times a register and bytes, lock
+    /// # Ok::<(), Error>(())
+    /// ```
     pub fn upload_waveform_memory(&self, image: &[u8], lock_after: bool) -> Started {
         let (record, record_len) = self.lent();
         let (list, list_len) = (image.as_ptr(), image.len());
@@ -177,20 +363,20 @@ impl DA728x {
     }
 
     /// Reads the front of the waveform memory, one byte an exchange, into the buffer that is lent
-    /// with each answer: `len` bytes, but at most 100 and at most `buffer_len`, the buffer's length.
-    /// [`Session::read_count`] is that number.
+    /// with each answer: `len` bytes, but at most 100 and at most `buffer_len`, the buffer's
+    /// length. [`Session::read_count`] is that number.
     ///
     /// ```
-    /// use yambelugo::{DA728x, Reply, RECORD};
+    /// # use yambelugo::{DA728x, RECORD, Refusal, Reply};
+    /// # let driver = DA728x::from_bytes([0; RECORD]);
+    /// // A chip whose memory holds 1, 2, 3 and so on, from register 84.
+    /// let bus = |exchange: yambelugo::Exchange| Reply::Byte(exchange.bytes()[0] - 0x83);
     ///
-    /// let driver = DA728x::from_bytes([0; RECORD]);
     /// let mut buffer = [0xFF; 4];
     /// let mut session = driver.read_waveform_memory(3, buffer.len());
-    /// while let Some(exchange) = session.pending() {
-    ///     let [address] = exchange.bytes() else { panic!() };
-    ///     session.answer(Reply::Byte(address - 0x83), &mut buffer).unwrap();
-    /// }
-    /// assert_eq!((session.read_count(), buffer), (Some(3), [1, 2, 3, 0xFF]));
+    /// assert_eq!(session.run(bus, &mut buffer)?.read_count(), Some(3));
+    /// assert_eq!(buffer, [1, 2, 3, 0xFF]);
+    /// # Ok::<(), Refusal>(())
     /// ```
     pub fn read_waveform_memory(&self, len: usize, buffer_len: usize) -> Session {
         let (record, record_len) = self.lent();
@@ -200,7 +386,8 @@ impl DA728x {
         })
     }
 
-    /// Selects the sequence to play and how often it loops.
+    /// Selects the sequence to play, 0 for the first of the image, and how often it loops; 0 plays
+    /// it once. That the memory has such a sequence is not checked.
     ///
     /// # Errors
     /// `InvalidValue` for a sequence number or a loop count above 15.
@@ -212,15 +399,30 @@ impl DA728x {
         })
     }
 
-    /// Starts the sequence that is selected.
+    /// Starts the sequence that is selected; the chip has to be enabled.
     pub fn start_sequence(&self) -> Session {
         self.starts(ffi::da728x_start_sequence)
     }
 
-    /// Selects a sequence and starts it.
+    /// Selects a sequence and starts it: [`DA728x::select_sequence`], then
+    /// [`DA728x::start_sequence`].
     ///
     /// # Errors
     /// `InvalidValue` for a sequence number or a loop count above 15.
+    ///
+    /// ```
+    /// # use yambelugo::{DA728x, Error, RECORD, Reply};
+    /// # let driver = DA728x::from_bytes([0; RECORD]);
+    /// let mut sent = Vec::new();
+    /// let bus = |exchange: yambelugo::Exchange| {
+    ///     sent.push(exchange.bytes().to_vec());
+    ///     if exchange.wanted() { Reply::Byte(0x03) } else { Reply::Done }
+    /// };
+    /// driver.play_sequence(1, 2)?.run(bus, &mut [])?;
+    /// assert_eq!(sent, [vec![0x28, 0x21], vec![0x22], vec![0x22, 0x13]]);
+    /// assert_eq!(driver.play_sequence(16, 0), Err(Error::InvalidValue));
+    /// # Ok::<(), Error>(())
+    /// ```
     pub fn play_sequence(&self, sequence_id: u8, loops: u8) -> Started {
         let (record, record_len) = self.lent();
         // SAFETY: each pointer and length is a borrowed array; the mutable one overlaps no other.
@@ -266,38 +468,114 @@ fn started(start: impl FnOnce(*mut u8, usize) -> u8) -> Session {
 
 /// An operation under way: it hands out one exchange at a time and takes back the bus's answer.
 ///
-/// It borrows nothing, so a bus loop can hold it across an await.
+/// [`Session::run`] takes it to its end over a bus that blocks. Over a bus that is awaited, the
+/// loop is yours: a session borrows nothing, so that a task can hold it across an await, and is 278
+/// bytes. `examples/async_bus.rs` has all of it, with failures after which the operation is started
+/// anew.
 ///
 /// ```
-/// use yambelugo::{Refusal, Reply, Session};
+/// # use yambelugo::{Exchange, Refusal, Reply, Session};
+/// use embedded_hal_async::i2c::I2c;
 ///
-/// trait Bus {
-///     /// Sends the bytes and, if wanted, reads one; a failure is the bus's own code.
-///     async fn exchange(&mut self, address: u8, bytes: &[u8], wanted: bool) -> Result<u8, u8>;
-/// }
-///
-/// async fn run(mut session: Session, bus: &mut impl Bus) -> Result<Session, Refusal> {
+/// async fn run(i2c: &mut impl I2c, session: &mut Session) -> Result<(), Refusal> {
 ///     while let Some(exchange) = session.pending() {
-///         let wanted = exchange.wanted();
-///         let reply = match bus.exchange(exchange.address(), exchange.bytes(), wanted).await {
-///             Ok(byte) if wanted => Reply::Byte(byte),
-///             Ok(_) => Reply::Done,
-///             Err(code) => Reply::Failed(code),
+///         let (address, mut byte) = (exchange.address(), [0]);
+///         let made = match exchange.wanted() {
+///             true => i2c.write_read(address, exchange.bytes(), &mut byte).await,
+///             false => i2c.write(address, exchange.bytes()).await,
 ///         };
-///         session.answer(reply, &mut [])?;
+///         // Any code stands for a failure of this bus.
+///         session.answer(exchange.reply(made.map(|()| byte[0]).map_err(|_| 1)), &mut [])?;
 ///     }
-///     Ok(session)
+///     Ok(())
 /// }
 /// ```
 ///
-/// Run one session at a time on a chip: some operations write back a byte that they read before.
+/// Where the bus calls back, from an interrupt say, keep the session and answer from there:
+///
+/// ```
+/// # use yambelugo::{DA728x, Exchange, RECORD, Refusal, Session};
+/// struct Transfer {
+///     session: Session,
+///     under_way: Option<Exchange>,
+/// }
+///
+/// impl Transfer {
+///     /// Starts the next exchange on the hardware, if there is one.
+///     fn start(&mut self) {
+///         self.under_way = self.session.pending();
+///     }
+///
+///     /// The hardware is done with the exchange, or failed.
+///     fn on_interrupt(&mut self, result: Result<u8, u8>) -> Result<(), Refusal> {
+///         let Some(exchange) = self.under_way.take() else { return Ok(()) };
+///         self.session.answer(exchange.reply(result), &mut [])?;
+///         self.start();
+///         Ok(())
+///     }
+/// }
+/// # let session = DA728x::from_bytes([0; RECORD]).start_sequence();
+/// # let mut transfer = Transfer { session, under_way: None };
+/// # transfer.start();
+/// # while transfer.under_way.is_some() {
+/// #     transfer.on_interrupt(Ok(0x03))?;
+/// # }
+/// # assert!(transfer.session.completed());
+/// # Ok::<(), Refusal>(())
+/// ```
 #[derive(Debug, Clone, PartialEq, Eq)]
+#[must_use = "nothing is sent until its exchanges are made"]
 pub struct Session {
     bytes: [u8; SESSION],
 }
 
 impl Session {
-    /// The exchange that the bus is to make next; none once the session has ended.
+    /// Takes the session to its end over a bus that blocks: a function that makes an exchange. The
+    /// session that comes back is completed. `buffer` is as in [`Session::answer`].
+    ///
+    /// A failed session hands out nothing more: to try again, start the operation anew.
+    ///
+    /// ```
+    /// # use yambelugo::{DA728x, Error, Exchange, RECORD, Refusal, Reply};
+    /// # fn i2c_write(_: u8, _: &[u8]) -> Result<(), u8> { Ok(()) }
+    /// # fn i2c_write_read(_: u8, _: &[u8], _: &mut [u8]) -> Result<(), u8> { Err(7) }
+    /// # let driver = DA728x::from_bytes([0; RECORD]);
+    /// /// The unit's bus, which fails with codes of its own.
+    /// fn bus(exchange: Exchange) -> Reply {
+    ///     let mut byte = [0];
+    ///     let made = match exchange.wanted() {
+    ///         true => i2c_write_read(exchange.address(), exchange.bytes(), &mut byte),
+    ///         false => i2c_write(exchange.address(), exchange.bytes()),
+    ///     };
+    ///     exchange.reply(made.map(|()| byte[0]))
+    /// }
+    ///
+    /// driver.lock_waveform_memory().run(bus, &mut [])?;
+    ///
+    /// let mut session = driver.start_sequence();
+    /// let failed = session.run(bus, &mut []).unwrap_err();
+    /// assert_eq!((failed.error, failed.made), (Error::I2c(7), 1));
+    /// assert_eq!(session.run(bus, &mut []).unwrap_err().error, Error::OutOfTurn);
+    /// # Ok::<(), Refusal>(())
+    /// ```
+    ///
+    /// # Errors
+    /// Those of [`Session::answer`]. What was sent stands.
+    pub fn run(
+        &mut self,
+        mut bus: impl FnMut(Exchange) -> Reply,
+        buffer: &mut [u8],
+    ) -> Result<&Self, Refusal> {
+        while !self.completed() {
+            // An ended session refuses any reply.
+            let reply = self.pending().map_or(Reply::Done, &mut bus);
+            self.answer(reply, buffer)?;
+        }
+        Ok(self)
+    }
+
+    /// The exchange that the bus is to make next; none once the session has ended. Asked again
+    /// before an answer, it is the same.
     pub fn pending(&self) -> Option<Exchange> {
         let mut bytes = [0; MOST];
         let (session, session_len) = self.lent();
@@ -314,9 +592,9 @@ impl Session {
     /// said at the start, in which the byte is stored at its own index.
     ///
     /// ```
-    /// use yambelugo::{DA728x, Error, Reply, RECORD};
-    ///
+    /// # use yambelugo::{DA728x, Error, Reply, RECORD};
     /// let mut session = DA728x::from_bytes([0; RECORD]).start_sequence();
+    /// // It begins by a read: done is no answer to that, and changes nothing.
     /// let refused = session.answer(Reply::Done, &mut []).unwrap_err();
     /// assert_eq!((refused.error, refused.made, refused.ended), (Error::OutOfTurn, 0, false));
     /// assert_eq!(session.answer(Reply::Byte(0x01), &mut []).unwrap().made, 1);
@@ -352,12 +630,36 @@ impl Session {
     }
 
     /// Whether every exchange was made, and none ended the session by an error.
+    ///
+    /// ```
+    /// # use yambelugo::{DA728x, RECORD, Reply};
+    /// # let driver = DA728x::from_bytes([0; RECORD]);
+    /// let mut session = driver.lock_waveform_memory();
+    /// assert!(!session.completed());
+    /// session.answer(Reply::Failed(1), &mut []).unwrap_err();
+    /// assert!(session.pending().is_none() && !session.completed());
+    ///
+    /// // Nothing to read needs no exchange.
+    /// assert!(driver.read_waveform_memory(0, 4).completed());
+    /// ```
     pub fn completed(&self) -> bool {
         self.result().is_some()
     }
 
     /// The record to go on with, once [`DA728x::new`] or [`DA728x::configure`] is completed. None
     /// before, and none for other operations: the record that they were started from is in force.
+    ///
+    /// ```
+    /// # use yambelugo::{DA728x, RECORD, Refusal, Reply, Variant};
+    /// let mut session = DA728x::new(0x4A, Variant::DA7280);
+    /// assert_eq!(session.record(), None);
+    /// session.answer(Reply::Byte(0xBA), &mut [])?;
+    /// let driver = session.record().unwrap();
+    ///
+    /// let record = driver.lock_waveform_memory().run(|_| Reply::Done, &mut [])?.record();
+    /// assert_eq!(record, None); // `driver` goes on
+    /// # Ok::<(), Refusal>(())
+    /// ```
     pub fn record(&self) -> Option<DA728x> {
         let mut bytes = [0; RECORD];
         let (session, session_len) = self.lent();
@@ -381,8 +683,7 @@ impl Session {
     /// and IRQ_EVENT_SEQ_DIAG.
     ///
     /// ```
-    /// use yambelugo::{DA728x, Reply, RECORD};
-    ///
+    /// # use yambelugo::{DA728x, Reply, RECORD};
     /// let mut session = DA728x::from_bytes([0; RECORD]).get_events();
     /// for reply in [Reply::Byte(1), Reply::Byte(2), Reply::Byte(3), Reply::Done] {
     ///     assert_eq!(session.events(), None);
@@ -416,7 +717,15 @@ impl Session {
     }
 }
 
-/// What the bus is to do: send these bytes to the chip and, if wanted, read one back.
+/// What the bus is to do: send these bytes to the chip and, if wanted, read one back in the same
+/// transaction (a repeated start, no stop in between). A bus calls these `write` and `write_read`.
+///
+/// ```
+/// # use yambelugo::{DA728x, RECORD, Variant};
+/// let exchange = DA728x::new(0x4A, Variant::DA7280).pending().unwrap();
+/// assert_eq!((exchange.address(), exchange.bytes()), (0x4A, &[0x00][..]));
+/// assert!(exchange.wanted()); // so this is a `write_read` of one byte
+/// ```
 #[derive(Debug, Clone, Copy, PartialEq, Eq)]
 pub struct Exchange {
     address: u8,
@@ -440,9 +749,28 @@ impl Exchange {
     pub const fn wanted(&self) -> bool {
         self.wanted
     }
+
+    /// The reply that fits this exchange: the byte read, if one is wanted, or the bus's own code.
+    ///
+    /// ```
+    /// # use yambelugo::{DA728x, RECORD, Reply};
+    /// # let driver = DA728x::from_bytes([0; RECORD]);
+    /// let reads = driver.get_status().pending().unwrap();
+    /// assert_eq!(reads.reply(Ok(0x04)), Reply::Byte(0x04));
+    /// let writes = driver.lock_waveform_memory().pending().unwrap();
+    /// assert_eq!(writes.reply(Ok(0x04)), Reply::Done);
+    /// assert_eq!(writes.reply(Err(7)), Reply::Failed(7));
+    /// ```
+    pub const fn reply(&self, result: Result<u8, u8>) -> Reply {
+        match result {
+            Ok(byte) if self.wanted => Reply::Byte(byte),
+            Ok(_) => Reply::Done,
+            Err(code) => Reply::Failed(code),
+        }
+    }
 }
 
-/// What the bus answered to an exchange.
+/// What the bus answered to an exchange; [`Exchange::reply`] makes the one that fits.
 #[derive(Debug, Clone, Copy, PartialEq, Eq)]
 pub enum Reply {
     /// The bytes were sent; fits where no byte is wanted.
@@ -463,6 +791,15 @@ pub struct Turn {
 }
 
 /// Why an answer was refused, or why the session ended by it.
+///
+/// ```
+/// # use yambelugo::{DA728x, Error, RECORD, Refusal, Reply};
+/// # let driver = DA728x::from_bytes([0; RECORD]);
+/// let refusal = driver.get_status().run(|_| Reply::Failed(7), &mut []).unwrap_err();
+/// assert_eq!(refusal, Refusal { error: Error::I2c(7), made: 1, ended: true });
+/// assert_eq!(refusal.to_string(), "the bus failed with code 7, after 1 exchange");
+/// assert_eq!(Error::from(refusal), Error::I2c(7)); // so `?` takes it to an Error
+/// ```
 #[derive(Debug, Clone, Copy, PartialEq, Eq)]
 pub struct Refusal {
     /// The refusal or the failure.
@@ -475,7 +812,8 @@ pub struct Refusal {
 
 impl fmt::Display for Refusal {
     fn fmt(&self, f: &mut fmt::Formatter) -> fmt::Result {
-        write!(f, "{}, after {} exchanges", self.error, self.made)
+        let plural = if self.made == 1 { "" } else { "s" };
+        write!(f, "{}, after {} exchange{plural}", self.error, self.made)
     }
 }
 
@@ -484,5 +822,30 @@ impl core::error::Error for Refusal {}
 impl From<Refusal> for Error {
     fn from(refusal: Refusal) -> Error {
         refusal.error
+    }
+}
+
+#[cfg(test)]
+mod tests {
+    use super::{DA728x, Error, RECORD, Refusal, Reply};
+
+    #[test]
+    fn a_session_that_was_run_is_completed() {
+        let driver = DA728x::from_bytes([0; RECORD]);
+        let mut session = driver.start_sequence();
+        assert!(session.run(|it| it.reply(Ok(3)), &mut []).unwrap().completed());
+        assert!(session.run(|_| panic!("every exchange is made"), &mut []).is_ok());
+        let failed = driver.start_sequence().run(|it| it.reply(Err(7)), &mut []).unwrap_err();
+        assert_eq!(failed, Refusal { error: Error::I2c(7), made: 1, ended: true });
+        let refused = driver.start_sequence().run(|_| Reply::Done, &mut []).unwrap_err();
+        assert_eq!(refused, Refusal { error: Error::OutOfTurn, made: 0, ended: false });
+    }
+
+    #[test]
+    fn a_session_that_has_failed_cannot_be_run() {
+        let mut session = DA728x::from_bytes([0; RECORD]).start_sequence();
+        assert!(session.answer(Reply::Failed(7), &mut []).is_err());
+        let refused = session.run(|_| panic!("no exchange is pending"), &mut []).unwrap_err();
+        assert_eq!(refused, Refusal { error: Error::OutOfTurn, made: 1, ended: true });
     }
 }

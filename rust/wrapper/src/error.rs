@@ -4,12 +4,15 @@ use core::fmt;
 
 /// Why a call was refused or an operation failed.
 ///
-/// ```
-/// use yambelugo::Error;
+/// Its number is that of the C functions, and of the answers to a list of calls.
 ///
-/// assert_eq!(Error::EmptySnippet.number(), 9);
-/// assert_eq!(Error::from_number(17, 4), Some(Error::I2c(4)));
-/// assert_eq!(Error::from_number(0, 0), None);
+/// ```
+/// # use yambelugo::{Call, Error};
+/// let mut answers = [0; 1];
+/// let refused = yambelugo::snippet(&Call::Ramp(3, 16).encode(), &mut answers, &mut []);
+/// assert_eq!(refused, Err(Error::EmptySnippet));
+/// assert_eq!(Error::from_number(answers[0], 0), Some(Error::InvalidAmplitude));
+/// assert_eq!(Error::InvalidAmplitude.to_string(), "the amplitude of a point is above 15");
 /// ```
 #[derive(Debug, Clone, Copy, PartialEq, Eq)]
 pub enum Error {
@@ -55,6 +58,11 @@ pub enum Error {
 
 impl Error {
     /// The number by which the C functions tell this error.
+    ///
+    /// ```
+    /// # use yambelugo::Error;
+    /// assert_eq!((Error::EmptySnippet.number(), Error::I2c(4).number()), (9, 17));
+    /// ```
     pub const fn number(self) -> u8 {
         match self {
             Error::InvalidTimebase => 1,
@@ -80,6 +88,12 @@ impl Error {
     }
 
     /// The error with this number; `code` is the bus's own and counts for 17 only.
+    ///
+    /// ```
+    /// # use yambelugo::Error;
+    /// assert_eq!(Error::from_number(17, 4), Some(Error::I2c(4)));
+    /// assert_eq!(Error::from_number(0, 0), None);
+    /// ```
     pub const fn from_number(number: u8, code: u8) -> Option<Self> {
         Some(match number {
             1 => Error::InvalidTimebase,

@@ -11,10 +11,11 @@ pub const IMAGE: usize = 100;
 /// The number of `NotAnImage`.
 const NO_IMAGE: u8 = 18;
 
-/// The fields of a frame that was read.
+/// The fields of a frame that was read: [`read_frame`].
 #[derive(Debug, Clone, Copy, PartialEq, Eq)]
 pub struct Frame {
-    /// The snippet number (1..15), or 0 for silence.
+    /// The snippet number (1..15), or 0 for silence. Number 1 is the snippet that [`read_point`]
+    /// has at 0; the image need not have a snippet of this number.
     pub snippet: u8,
     /// The gain.
     pub gain: Gain,
@@ -31,8 +32,7 @@ pub struct Frame {
 /// `answers` is as in [`snippet`](crate::snippet).
 ///
 /// ```
-/// use yambelugo::Call;
-///
+/// # use yambelugo::Call;
 /// let calls = [
 ///     Call::Ramp(3, 10),
 ///     Call::Step(1, 0),
@@ -43,7 +43,13 @@ pub struct Frame {
 /// ];
 /// let (mut answers, mut image) = ([0; 6], [0; yambelugo::IMAGE]);
 /// yambelugo::assemble(calls.map(Call::encode).as_flattened(), &mut answers, &mut image)?;
+/// // Counts, where each item ends, the snippet, the sequence; zeros follow.
 /// assert_eq!(image[..8], [1, 1, 5, 6, 0xAA, 0x00, 0x01, 0]);
+///
+/// let without = calls[..3].iter().map(|call| call.encode()).collect::<Vec<_>>();
+/// let refused = yambelugo::assemble(without.as_flattened(), &mut answers, &mut image);
+/// assert_eq!(refused, Err(yambelugo::Error::EmptySequence));
+/// assert_eq!(image[0], 1); // as it was
 /// # Ok::<(), yambelugo::Error>(())
 /// ```
 ///
@@ -59,11 +65,11 @@ pub fn assemble(calls: &[u8], answers: &mut [u8], image: &mut [u8; IMAGE]) -> Re
     told(answer.into(), 1).map(|_| ())
 }
 
-/// How many snippets and sequences an image has.
+/// How many snippets and sequences an image has. So this tells whether bytes are an image at all:
+/// ask before you upload bytes that came from elsewhere.
 ///
 /// ```
-/// use yambelugo::Error;
-///
+/// # use yambelugo::Error;
 /// let mut image = [0; yambelugo::IMAGE];
 /// image[..7].copy_from_slice(&[1, 1, 5, 6, 0xAA, 0x00, 0x01]);
 /// assert_eq!(yambelugo::read_counts(&image), Ok((1, 1)));
@@ -89,13 +95,13 @@ pub fn read_counts(image: &[u8]) -> Result<(usize, usize), Error> {
 /// A point of a snippet, both counted from 0; `None` if there is none or the bytes are no image.
 ///
 /// ```
-/// use yambelugo::PwlPoint;
-///
+/// # use yambelugo::PwlPoint;
 /// let mut image = [0; yambelugo::IMAGE];
 /// image[..7].copy_from_slice(&[1, 1, 5, 6, 0xAA, 0x00, 0x01]);
 /// assert_eq!(yambelugo::read_point(&image, 0, 0), PwlPoint::ramp(3, 10).ok());
-/// assert_eq!(yambelugo::read_point(&image, 0, 1), PwlPoint::step(1, 0).ok());
-/// assert_eq!(yambelugo::read_point(&image, 0, 2), None);
+///
+/// let snippet = (0..).map_while(|at| yambelugo::read_point(&image, 0, at));
+/// assert_eq!(snippet.map(PwlPoint::as_byte).collect::<Vec<_>>(), [0xAA, 0x00]);
 /// ```
 pub fn read_point(image: &[u8], snippet: usize, point: usize) -> Option<PwlPoint> {
     // SAFETY: the pointer and length are a borrowed slice.
@@ -107,8 +113,7 @@ pub fn read_point(image: &[u8], snippet: usize, point: usize) -> Option<PwlPoint
 /// A frame of a sequence, both counted from 0; `None` if there is none or the bytes are no image.
 ///
 /// ```
-/// use yambelugo::{Frame, Gain, Timebase};
-///
+/// # use yambelugo::{Frame, Gain, Timebase};
 /// let mut image = [0; yambelugo::IMAGE];
 /// image[..8].copy_from_slice(&[1, 1, 4, 7, 0xAA, 0x33, 0x96, 0x2C]);
 /// let frame = Frame {

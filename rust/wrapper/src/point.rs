@@ -3,15 +3,18 @@
 use crate::error::{Error, told};
 use crate::ffi;
 
-/// A point: a ramp or a step, its length in timebases and its amplitude.
+/// A point of a snippet: a ramp or a step, its length in timebases and its amplitude.
 ///
 /// ```
-/// use yambelugo::{Error, PwlPoint};
-///
+/// # use yambelugo::{Call, Error, PwlPoint};
 /// let point = PwlPoint::ramp(3, 10)?;
 /// assert_eq!(point.as_byte(), 0xAA);
 /// assert_eq!((point.is_ramp(), point.timebases(), point.amplitude()), (true, 3, 10));
-/// assert_eq!(PwlPoint::step(0, 16), Err(Error::InvalidTimebase));
+///
+/// // Added to a snippet, it is the same as the call `Call::Ramp(3, 10)`.
+/// let mut out = [0; 16];
+/// let length = yambelugo::snippet(&Call::Point(point).encode(), &mut [], &mut out)?;
+/// assert_eq!(out[..length], [0xAA]);
 /// # Ok::<(), Error>(())
 /// ```
 #[derive(Debug, Clone, Copy, PartialEq, Eq)]
@@ -21,11 +24,29 @@ pub struct PwlPoint {
 
 impl PwlPoint {
     /// A ramp of 1..8 timebases to an amplitude of 0..15.
+    ///
+    /// # Errors
+    /// `InvalidTimebase`, else `InvalidAmplitude`.
+    ///
+    /// ```
+    /// # use yambelugo::{Error, PwlPoint};
+    /// assert_eq!(PwlPoint::ramp(9, 16), Err(Error::InvalidTimebase));
+    /// assert_eq!(PwlPoint::ramp(8, 16), Err(Error::InvalidAmplitude));
+    /// assert_eq!(PwlPoint::ramp(8, 15).map(PwlPoint::as_byte), Ok(0xFF));
+    /// ```
     pub fn ramp(timebases: u8, amplitude: u8) -> Result<Self, Error> {
         Self::new(1, timebases, amplitude)
     }
 
     /// A step of 1..8 timebases to an amplitude of 0..15.
+    ///
+    /// # Errors
+    /// `InvalidTimebase`, else `InvalidAmplitude`.
+    ///
+    /// ```
+    /// # use yambelugo::PwlPoint;
+    /// assert_eq!(PwlPoint::step(1, 0).map(PwlPoint::as_byte), Ok(0x00));
+    /// ```
     pub fn step(timebases: u8, amplitude: u8) -> Result<Self, Error> {
         Self::new(0, timebases, amplitude)
     }
