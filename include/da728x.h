@@ -62,7 +62,8 @@ extern "C" {
  * The point's byte, or 256 times the number of the refusal (1, then 2). */
 uint16_t da728x_point(uint8_t ramp, uint8_t timebases, uint8_t amplitude);
 
-/* The fields of a point's byte: 1 for a ramp and 0 for a step; 1..8; 0..15. */
+/* The fields of a point's byte: 1 for a ramp and 0 for a step; its length, 1 to 8; its amplitude, 0
+ * to 15. */
 uint8_t da728x_point_is_ramp(uint8_t byte);
 uint8_t da728x_point_timebases(uint8_t byte);
 uint8_t da728x_point_amplitude(uint8_t byte);

@@ -56,13 +56,13 @@ pub enum Timebase {
 pub enum Call {
     /// Begins the snippet anew, without points.
     SnippetNew,
-    /// Adds a ramp of this length (1..8) and amplitude (0..15) to the snippet.
+    /// Adds a ramp of this length (1 to 8) and amplitude (0 to 15) to the snippet.
     Ramp(u8, u8),
-    /// Adds a step of this length (1..8) and amplitude (0..15) to the snippet.
+    /// Adds a step of this length (1 to 8) and amplitude (0 to 15) to the snippet.
     Step(u8, u8),
     /// Adds a point to the snippet.
     Point(PwlPoint),
-    /// Begins the frame anew, for this snippet number (1..15); 1 is the snippet added first.
+    /// Begins the frame anew, for this snippet number (1 to 15); 1 is the snippet added first.
     FrameNew(u8),
     /// Begins the frame anew, for silence.
     Silence,
@@ -70,9 +70,9 @@ pub enum Call {
     Gain(Gain),
     /// Sets the frame's timebase.
     Timebase(Timebase),
-    /// Sets the frame's loop count (0..15).
+    /// Sets the frame's loop count (0 to 15).
     LoopCount(u8),
-    /// Sets the frame's frequency (0..511 Hz).
+    /// Sets the frame's frequency (0 to 511 Hz).
     FrequencyHz(u16),
     /// Begins the sequence anew, without frames.
     SequenceNew,
@@ -177,7 +177,7 @@ pub fn sequence(calls: &[u8], answers: &mut [u8], out: &mut [u8]) -> Result<usiz
     told(run(ffi::da728x_sequence, calls, answers, out), 65536).map(|length| length as usize)
 }
 
-/// Runs the calls; how many bytes (0..96) the sequence under construction has. `answers` is as in
+/// Runs the calls; how many bytes (0 to 96) the sequence under construction has. `answers` is as in
 /// [`snippet`].
 ///
 /// ```

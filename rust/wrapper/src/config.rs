@@ -37,13 +37,13 @@ pub struct ActuatorConfig {
     pub nominal_max_mV: u16,
     /// The absolute voltage, at most 5990 mV.
     pub absolute_max_mV: u16,
-    /// The current, 29..252 mA.
+    /// The current, 29 to 252 mA.
     pub max_current_mA: u16,
-    /// The impedance, 4000..49999 mOhm.
+    /// The impedance, 4000 to 49999 mOhm.
     pub impedance_mOhm: u16,
     /// The inductance in uH.
     pub inductance_uH: u16,
-    /// The resonant frequency, 50..300 Hz when tracking, else 25..1024 Hz.
+    /// The resonant frequency, 50 to 300 Hz when tracking, else 25 to 1024 Hz.
     pub frequency_Hz: u16,
     /// The PID words Kp and Ki, of which the low 15 bits count.
     pub pid_Kp_Ki: Option<(u16, u16)>,
@@ -84,7 +84,7 @@ pub enum TriggerPolarity {
 /// A trigger, which a pin of the chip gives in ETWM mode.
 #[derive(Debug, Clone, Copy, PartialEq, Eq)]
 pub struct TriggerConfig {
-    /// The sequence that it plays, 0..15.
+    /// The sequence that it plays, 0 to 15.
     pub sequence_id: u8,
     /// The edge that it acts on.
     pub polarity: TriggerPolarity,

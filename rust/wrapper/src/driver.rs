@@ -187,7 +187,7 @@ impl DA728x {
     /// Sets the frequency that the chip drives with; the stored one stays.
     ///
     /// # Errors
-    /// `NotConfigured`; `InvalidValue` outside 50..300 Hz when tracking, else 25..1024 Hz.
+    /// `NotConfigured`; `InvalidValue` outside 50 to 300 Hz when tracking, else outside 25 to 1024.
     ///
     /// ```
     /// # use yambelugo::{DA728x, Error, RECORD, Reply};
@@ -214,7 +214,7 @@ impl DA728x {
         })
     }
 
-    /// Sets the amplitude that DRO mode plays, -128..127.
+    /// Sets the amplitude that DRO mode plays, -128 to 127.
     ///
     /// # Errors
     /// `NotConfigured`; `InvalidValue` below 0 under acceleration; `WrongMode` unless in DRO mode.
@@ -470,8 +470,8 @@ fn started(start: impl FnOnce(*mut u8, usize) -> u8) -> Session {
 ///
 /// [`Session::run`] takes it to its end over a bus that blocks. Over a bus that is awaited, the
 /// loop is yours: a session borrows nothing, so that a task can hold it across an await, and is 278
-/// bytes. `examples/async_bus.rs` has all of it, with failures after which the operation is started
-/// anew.
+/// bytes. A failed session hands out nothing more, as if it were done: to try again, start the
+/// operation anew. `examples/async_bus.rs` has all of it.
 ///
 /// ```
 /// # use yambelugo::{Exchange, Refusal, Reply, Session};

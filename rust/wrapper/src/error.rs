@@ -16,7 +16,7 @@ use core::fmt;
 /// ```
 #[derive(Debug, Clone, Copy, PartialEq, Eq)]
 pub enum Error {
-    /// 1: a point's length is not 1..8.
+    /// 1: a point's length is not 1 to 8.
     InvalidTimebase,
     /// 2: a point's amplitude is above 15.
     InvalidAmplitude,

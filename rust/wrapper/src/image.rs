@@ -14,16 +14,16 @@ const NO_IMAGE: u8 = 18;
 /// The fields of a frame that was read: [`read_frame`].
 #[derive(Debug, Clone, Copy, PartialEq, Eq)]
 pub struct Frame {
-    /// The snippet number (1..15), or 0 for silence. Number 1 is the snippet that [`read_point`]
+    /// The snippet number (1 to 15), or 0 for silence. Number 1 is the snippet that [`read_point`]
     /// has at 0; the image need not have a snippet of this number.
     pub snippet: u8,
     /// The gain.
     pub gain: Gain,
     /// The timebase.
     pub timebase: Timebase,
-    /// The loop count (0..15). A frame of one byte has none, any other has one.
+    /// The loop count (0 to 15). A frame of one byte has none, any other has one.
     pub loop_count: Option<u8>,
-    /// The frequency (0..511 Hz).
+    /// The frequency (0 to 511 Hz).
     pub frequency_hz: Option<u16>,
 }
 

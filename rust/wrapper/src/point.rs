@@ -23,7 +23,7 @@ pub struct PwlPoint {
 }
 
 impl PwlPoint {
-    /// A ramp of 1..8 timebases to an amplitude of 0..15.
+    /// A ramp of 1 to 8 timebases to an amplitude of 0 to 15.
     ///
     /// # Errors
     /// `InvalidTimebase`, else `InvalidAmplitude`.
@@ -38,7 +38,7 @@ impl PwlPoint {
         Self::new(1, timebases, amplitude)
     }
 
-    /// A step of 1..8 timebases to an amplitude of 0..15.
+    /// A step of 1 to 8 timebases to an amplitude of 0 to 15.
     ///
     /// # Errors
     /// `InvalidTimebase`, else `InvalidAmplitude`.
@@ -71,12 +71,12 @@ impl PwlPoint {
         ffi::da728x_point_is_ramp(self.byte) != 0
     }
 
-    /// The length, 1..8.
+    /// The length, 1 to 8.
     pub fn timebases(self) -> u8 {
         ffi::da728x_point_timebases(self.byte)
     }
 
-    /// The amplitude, 0..15.
+    /// The amplitude, 0 to 15.
     pub fn amplitude(self) -> u8 {
         ffi::da728x_point_amplitude(self.byte)
     }
