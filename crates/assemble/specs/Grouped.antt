@@ -1,4 +1,5 @@
--- The calls of a flat list, grouped by the builders that they go to: the lists of calls that demand 3 speaks of.
+-- The calls of a flat list, grouped by the builders that they go to: the lists of calls that demand 3 speaks of (document 01, 'The hundred
+-- bytes', second paragraph). proofs/Assembly.antt: both build the same.
 use Prim.Native.Nat.{ℕ}
 use mathlib.Core.List.{List, [], _∷_, _++_}
 use Rattle.errors.specs.Told.{Told, gives, refuses}

@@ -1,3 +1,4 @@
+-- The definitions that the contracts of `assemble` cite.
 pub mod Assembled
 pub mod Grouped
 pub mod Holding

@@ -1,6 +1,7 @@
-// Lists of builder calls (added): the form in which builder calls cross the boundary, with an answer for each.
+// Lists of builder calls (added; no Rust file): the form in which builder calls cross the boundary, with an answer for each.
 // Document 01, 'The hundred bytes': each call gets what the last handed back; a refused call adds nothing.
-// Proved: `run` answers every call by its number and leaves the builders that specs/ says, for any bytes and any buffer.
+// Proved: `run` answers every call by its number and leaves the builders that specs/Calls.antt says, for any bytes and any buffer.
+// The calls that add to a memory are in `assemble`.
 ghost use mathlib.Core.Path.{_≡_};
 ghost use Prim.Native.Nat.{_+_, _*_};
 ghost use lib.ListN.{set};

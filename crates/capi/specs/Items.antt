@@ -1,4 +1,5 @@
--- The item that a list of builder calls builds, encoded into a lent buffer.
+-- The item that a list of builder calls builds, encoded into a lent buffer: document 01, "functions exported for C on numbers and byte
+-- slices", and "A refusal .. writes to no lent buffer".
 use Prim.Native.Nat.{ℕ, _*_, min}
 use mathlib.Core.Bool.{cond}
 use mathlib.Core.List.{List}

@@ -1,2 +1,3 @@
+-- The definitions that the contracts of `capi` cite.
 pub mod Points
 pub mod Items

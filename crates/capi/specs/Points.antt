@@ -1,4 +1,4 @@
--- A point's answer as one number for C.
+-- A point's answer as one number for C: document 01, "functions exported for C on numbers and byte slices".
 use Prim.Native.Nat.{ℕ, _*_}
 use mathlib.Core.Bool.{Bool, true, false}
 use Rattle.errors.specs.Told.{Told, gives, refuses}

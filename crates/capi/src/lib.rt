@@ -1,5 +1,8 @@
-// The functions exported for C, on numbers and byte slices; include/da728x.h declares and explains each.
-// Every one is total: any bytes, any lengths. Its contract equates the answer and every lent byte with a definition.
+// The functions exported for C, on numbers and byte slices; include/da728x.h declares and explains each. Document 01, 'Rust forms without
+// a counterpart': "The harness in Rust calls functions exported for C on numbers and byte slices". They reach snippet.rs, frame.rs,
+// sequence.rs, memory.rs and registers.rs; those of lib.rs are in `capi_driver`.
+// Proved: every one is total, on any bytes and any lengths, and its contract equates the answer and every lent byte with a definition
+// (specs/, and those of the crates it calls). Left out: the functions without an export of their own, which docs/DIFFERENCES.md lists.
 ghost use mathlib.Core.Path.{_≡_};
 ghost use mathlib.Core.Bool.{true, false, cond};
 ghost use lib.Dec.{ltb};

@@ -1,4 +1,5 @@
--- What the functions exported for C answer as one number, and what they make of their arguments.
+-- What the functions exported for C answer as one number, and what they make of their arguments: document 01, "functions exported for C on
+-- numbers and byte slices"; "The count of exchanges made stands in every session result"; "8 also for `from_bytes`".
 use Prim.Native.Nat.{ℕ, _+_, _-_, _*_}
 use mathlib.Core.Bool.{Bool, cond}
 use mathlib.Core.List.{List, [], _∷_, _++_}

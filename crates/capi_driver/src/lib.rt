@@ -1,7 +1,8 @@
-// The functions exported for C that drive the chip, on numbers and byte slices; include/da728x.h declares and explains each. The caller
-// lends the session's bytes and the record's; `da728x_pending` and `da728x_answer` run the session, `da728x_record` hands back the
-// record. Every one is total: any bytes, any lengths.
-// Proved: the answer and every lent byte are those of the definitions of `driver` and `exchange` for the record that the bytes hold.
+// The functions exported for C that drive the chip (lib.rs; document 01, 'Exchanges' and 'Rust forms without a counterpart'), on numbers
+// and byte slices; include/da728x.h declares and explains each. The caller lends the session's bytes and the record's; `da728x_pending`
+// and `da728x_answer` run the session, `da728x_record` hands back the record. Every one is total: any bytes, any lengths.
+// Proved: the answer and every lent byte are those of the definitions of `driver` and `exchange` for the record that the bytes hold; how
+// an answer is one number is specs/Words.antt. Left out: nothing; `set_custom_drive_waveform` is always refused, as document 01 says.
 ghost use mathlib.Core.Path.{_≡_};
 ghost use lib.Dec.{ltb};
 ghost use lib.ListN.{length, take};

@@ -1,4 +1,5 @@
-// The checks that `configure` makes before its first exchange (lib.rs; document 01, 'Settings to registers').
+// The checks that `configure` makes before its first exchange (lib.rs; document 01, 'Settings to registers'), those that document 01 adds
+// among them. Nothing is left out.
 // Proved: the answer is the number of the first check of specs/Checks.antt that fails, in that order. proofs/Accepted.antt: what
 // holds of settings that pass them all.
 ghost use mathlib.Core.Path.{_≡_};

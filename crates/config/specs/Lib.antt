@@ -1,1 +1,2 @@
+-- The definitions that the contracts of `config` cite.
 pub mod Codes

@@ -1,4 +1,5 @@
--- The content that an image has: what the reader answers. proofs/Images.antt: it is the one whose image the bytes are, if there is one.
+-- The content that an image has: what the reader answers. Demand 3, "lists that the builders admit and whose image those bytes are";
+-- document 01, 'The hundred bytes'. proofs/Images.antt: it is the one whose image the bytes are, if there is one.
 use Prim.Native.Nat.{ℕ, zero, suc, _+_, _-_}
 use mathlib.Core.Bool.{Bool, true, false, cond, _&&_}
 use mathlib.Core.List.{List, [], _∷_}

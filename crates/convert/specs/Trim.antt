@@ -1,4 +1,4 @@
--- TRIM4: document 01, 'Settings to registers', with L in µH.
+-- TRIM4: document 01, 'Settings to registers', "TRIM4, with L in µH: cap code .. The resistance code follows whole ohms".
 use Prim.Native.Nat.{ℕ, _-_, _/_, min}
 use mathlib.Core.Bool.{cond}
 use mathlib.Core.List.{List, [], _∷_}

@@ -1,3 +1,4 @@
+-- Document 01, 'Rust forms without a counterpart': "the record in and out by value"; the layout is ours.
 -- The driver record as 37 bytes: chip address, variant, 1 for a record without settings or 2 where settings are stored, then the
 -- settings. Numbers of two bytes have the least byte first; choices are their codes. Bytes of another number are a record without
 -- settings; where byte 2 is 0 a session has no record to hand back.

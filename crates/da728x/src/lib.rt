@@ -1,6 +1,7 @@
-// The driver record (`DA728x` of lib.rs, without the bus) and its 37 bytes, in which a caller keeps it.
-// The two `Option`s of lib.rs are one enum, since both are stored together.
-// Proved: each function equals its definition in specs/Record.antt; proofs/Kept.antt: a record is what its bytes give back.
+// The driver record (`DA728x` of lib.rs, without the bus) and its 37 bytes, in which a caller keeps it. Document 01, 'Rust forms without a
+// counterpart': "the record in and out by value". The two `Option`s of lib.rs are one enum, since both are stored together.
+// Proved: each function equals its definition in specs/Record.antt, for any bytes; proofs/Kept.antt: a record is what its bytes give back.
+// Left out: the bus, which stays the caller's; the operations are in `driver`.
 ghost use mathlib.Core.Path.{_≡_};
 ghost use mathlib.Core.List.{_∷_, _++_};
 ghost use Prim.Native.Nat.{_<_, _/_, _%_};

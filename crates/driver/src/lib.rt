@@ -1,9 +1,11 @@
 // Every operation of the driver (lib.rs; document 01, 'Settings to registers' and 'Exchanges'), begun as a session in bytes that the
 // caller lends; the crate `exchange` takes it from there. A refused one writes nothing. The `DA728x` of lib.rs is `da728x::DA728x`
 // without its bus, and goes in by value; `after` gives the record that is in force once the session has gone as far as it did.
+// Left out: the `defmt` prints, and the body that `set_custom_drive_waveform` does not have in the Rust either.
 //
 // Proved: the answer is document 01's number and the session's bytes are those of the operation's steps (specs/Operations.antt).
 // proofs/Stored.antt: settings are stored exactly after the last exchange. proofs/Counts.antt: `configure` makes 14 to 25.
+// proofs/Exchanges.antt: what is sent are the exchanges of those steps, in order, whatever the bus answers.
 ghost use mathlib.Core.Path.{_≡_};
 ghost use mathlib.Core.List.{[], _∷_};
 ghost use Prim.Native.Nat.{min};

@@ -1,2 +1,3 @@
+-- The definitions that the contracts of `errors` cite.
 pub mod Number
 pub mod Told

@@ -1,4 +1,5 @@
--- What a call that can refuse comes to, in document 01's numbers: the form in which its contract says the answer.
+-- What a call that can refuse comes to, in document 01's numbers: the form in which its contract says the answer. "When an answer is an
+-- enum, a definition gives this paper's number and values for each of its cases" ('Which form goes where').
 use Prim.Native.Nat.{ℕ}
 
 -- a value, or the number of the refusal, 1 to 19

@@ -1,6 +1,7 @@
 // The refusals (errors.rs), each with document 01's number ('Who can cause which answer').
 // The Rust's names; `Gpio` is left out, since no ported operation drives a pin; `NotAnImage` and `OutOfTurn` are added.
-// `I2c` carries the bus's own failure code. Proved: `number` is document 01's list. Left out: the texts for printing.
+// `I2c` carries the bus's own failure code. Proved: `number` is document 01's list, `bus_code` that code (specs/Number.antt). Left out:
+// the texts for printing.
 ghost use mathlib.Core.Path.{_≡_};
 ghost use Rattle.errors.specs.Number.{errorNumber, answerNumber, errorCode, busCode};
 

@@ -1,4 +1,5 @@
--- A session as the 278 bytes that the caller lends. Bytes of another number are a session that has ended.
+-- A session as the 278 bytes that the caller lends: document 01, 'Exchanges', "An operation becomes a session"; the layout is ours.
+-- Bytes of another number are a session that has ended.
 --   0 chip address             6 how many steps              16 the image to upload, 100 bytes
 --   1 0, or broken off         7 how many memory reads      116 the record to hand back, 37 bytes
 --   2 exchanges made           8 length of the read buffer, 153 the steps, 25 of five bytes

@@ -1,6 +1,6 @@
 // Sessions: what lib.rs does over an async bus (document 01, 'Exchanges'). An operation is a list of steps; a session hands out the
 // exchange of one step after the other, takes back the bus's answer, and ends. Its state is bytes that the caller lends, so that
-// firmware can hold it across an await; the layout stands in specs/State.antt.
+// firmware can hold it across an await; the layout stands in specs/State.antt. Left out: the bus itself and its waiting.
 //
 // Proved: each function equals its definition for every state, answer and buffer. Bytes of another number than 278 are a session that
 // has ended, and any 278 bytes are some session. proofs/Session.antt: over every list of answers the exchanges are those of the

@@ -1,5 +1,5 @@
--- When two frames agree, in the words of demand 3, and which frames the builders admit; a frame is told by its builder's fields.
--- Admitted frames agree exactly when their bytes are the same: proofs/Frames.antt.
+-- When two frames agree, in the words of demand 3, and which frames the builders admit (document 01, 'The hundred bytes'); a frame is told
+-- by its builder's fields. Admitted frames agree exactly when their bytes are the same: proofs/Frames.antt.
 use Prim.Native.Nat.{ℕ, _≤_}
 use mathlib.Core.Path.{_≡_}
 use mathlib.Core.Bool.{Bool, true, false}

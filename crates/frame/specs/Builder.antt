@@ -1,5 +1,5 @@
--- The calls on a frame's builder: document 01, 'Who can cause which answer'. A field is what the last accepted call
--- that sets it gave, else the default.
+-- The calls on a frame's builder: document 01, 'Who can cause which answer' and "A frame's field is what the last accepted call that sets
+-- it gave, else the Rust's default".
 use Prim.Native.Nat.{ℕ}
 use mathlib.Core.Bool.{cond}
 use lib.Dec.{ltb}

@@ -1,3 +1,4 @@
+-- The definitions that the contracts of `frame` cite.
 pub mod Agreement
 pub mod Builder
 pub mod Frame

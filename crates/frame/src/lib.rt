@@ -1,8 +1,9 @@
 // Frames and their builder (waveform/frame.rs; document 01, 'Points, frames, sequences').
 // Proved: each function answers what specs/ says of its arguments, whatever the builder's fields hold, and a refusal hands the
 // builder back as it came in. proofs/Frames.antt: frames agree, in the words of demand 3, exactly when their bytes are the same.
+// proofs/Written.antt and Reading.antt: `read` (added) undoes `build`, and reads nothing else.
 // `build` gives the frame itself, since it cannot refuse; `as_bytes` gives the array, of which the first `byte_len` are the
-// frame's; no function here takes a closure.
+// frame's; no function here takes a closure. Left out: `Default` and what the Rust derives.
 ghost use mathlib.Core.Path.{_≡_};
 ghost use Prim.Native.Nat.{min, _%_, _+_, _≤_};
 ghost use lib.ListN.{length, drop};

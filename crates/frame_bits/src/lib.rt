@@ -1,5 +1,6 @@
-// The bytes of a frame, packed and unpacked by shifts and masks (document 01, 'Points, frames, sequences' and 'Which form goes where').
-// Proved: each is the arithmetic that its contract says.
+// The bytes of a frame, packed and unpacked by shifts and masks (the body of `build` in waveform/frame.rs; document 01, 'Points, frames,
+// sequences' and 'Which form goes where').
+// Proved: each is the arithmetic that its contract says, for every argument; `frame` ties it to document 01's bytes. Nothing is left out.
 ghost use mathlib.Core.Path.{_≡_};
 ghost use Prim.Native.Nat.{_+_, _*_, _/_, _%_};
 

@@ -1,4 +1,4 @@
--- The j-th element of the i-th list in what the reader answers.
+-- The j-th element of the i-th list in what the reader answers. Document 01 leaves the form to us: "it returns lists" (demand 3).
 use Prim.Native.Nat.{ℕ, _-_}
 use mathlib.Core.List.{List, []}
 use mathlib.Core.Option.{Option, none, some}

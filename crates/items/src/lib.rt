@@ -1,6 +1,6 @@
-// The points and the frames in what the reader answers, one by one (added).
+// The points and the frames in what the reader answers, one by one (added; no Rust file; document 01, 'The hundred bytes').
 // Proved: the j-th point of the i-th snippet and the j-th frame of the i-th sequence are those of the lists that the reader's contract
-// speaks of, for any indexes.
+// speaks of (specs/Items.antt), for any indexes.
 ghost use mathlib.Core.Path.{_≡_};
 ghost use Prim.Native.Nat.{_<_};
 ghost use lib.ListN.{take, length};

@@ -1,4 +1,4 @@
--- Lists of bytes: what a slice can hold.
+-- Lists of bytes: what a slice can hold, which demand 3 calls "any bytes".
 use Prim.Native.Nat.{ℕ, _<_}
 use mathlib.Core.List.{List, [], _∷_}
 

@@ -1,4 +1,5 @@
--- What a lent buffer holds after bytes were copied into it.
+-- What a lent buffer holds after bytes were copied into it: document 01, 'Points, frames, sequences', "copies as much as fits and leaves
+-- the buffer's other bytes".
 use Prim.Native.Nat.{ℕ, _+_}
 use mathlib.Core.List.{List, _++_}
 use lib.ListN.{length, take, drop}

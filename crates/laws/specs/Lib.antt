@@ -1,2 +1,3 @@
+-- The definitions that the contracts of `laws` cite.
 pub mod Bytes
 pub mod Copied

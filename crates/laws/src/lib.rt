@@ -1,6 +1,7 @@
-// Copying bytes into a lent buffer, which every `encode_into` and every exported function does through `copy_into`,
+// Copying bytes into a lent buffer, which every `encode_into` of waveform/*.rs and every exported function does through `copy_into`,
 // and (in proofs/) the laws that several crates cite: tests computed over all small numbers, lists that show a part of an array.
 // Document 01, 'Points, frames, sequences': "copies as much as fits and leaves the buffer's other bytes".
+// Proved: `copy_into` leaves what specs/Copied.antt says, for any buffer and any bytes, and answers how many were copied.
 ghost use mathlib.Core.Path.{_≡_};
 ghost use Prim.Native.Nat.{min};
 ghost use lib.ListN.{length};

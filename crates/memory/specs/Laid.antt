@@ -1,4 +1,5 @@
--- Items put into an image one after the other: what the private functions that write an image do, turn by turn.
+-- Items put into an image one after the other: what the private functions that write an image do, turn by turn. Only private contracts
+-- cite this; document 01's words are in Image.antt.
 use Prim.Native.Nat.{ℕ, suc, _+_, _-_}
 use mathlib.Core.List.{List, [], _∷_}
 use lib.ListN.{length, set}

@@ -1,3 +1,4 @@
+-- The definitions that the contracts of `memory` cite.
 pub mod Image
 pub mod Laid
 pub mod Memory

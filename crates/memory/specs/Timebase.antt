@@ -1,4 +1,5 @@
--- The codes of the global timebase, by the order in which the Rust writes them. A code past the last counts as the last.
+-- The codes of the global timebase, by the order in which waveform/memory.rs writes them; `set_timebase` sends them. A code past the last
+-- counts as the last.
 use Prim.Native.Nat.{ℕ}
 use mathlib.Core.List.{[], _∷_}
 use lib.ListN.{getD}

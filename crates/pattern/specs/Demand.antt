@@ -1,4 +1,5 @@
--- Demand 3 as one claim over all lists of builder calls and all slices of bytes.
+-- Demand 3 as one claim over all lists of builder calls and all slices of bytes: document 01, 'The hundred bytes', "Demand 3 is one claim
+-- about all these lists of calls and all slices, not a claim for each call".
 use Prim.Native.Nat.{ℕ}
 use mathlib.Core.Path.{_≡_}
 use mathlib.Core.Logic.{_↔_}

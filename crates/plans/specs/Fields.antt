@@ -1,4 +1,5 @@
--- A register's byte by the names of its fields, and the step that replaces one field.
+-- A register's byte by the names of its fields, and the step that replaces one field: document 01, 'Settings to registers', "`new` is zero,
+-- `from` keeps every bit, `with_` alters its own field".
 use Prim.Native.Nat.{ℕ}
 use Prim.Native.String.{String}
 use mathlib.Core.List.{List, [], _∷_}

@@ -1,4 +1,5 @@
--- The lists, filled one element at a time, as the code does it; what finds no room is dropped.
+-- The lists, filled one element at a time, as the code does it; what finds no room is dropped. Only private contracts cite this; what the
+-- lists are is in Reading.antt.
 use Prim.Native.Nat.{ℕ, _+_}
 use mathlib.Core.Bool.{cond}
 use mathlib.Core.List.{List, [], _∷_}

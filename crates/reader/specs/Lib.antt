@@ -1,3 +1,4 @@
+-- The definitions that the contracts of `reader` cite.
 pub mod Flat
 pub mod Reading
 pub mod Walk

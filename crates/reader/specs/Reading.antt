@@ -1,4 +1,5 @@
--- What the reader answers: the lists of an image, or 18 (document 01, 'Who can cause which answer').
+-- What the reader answers: the lists of an image, or 18 (document 01, 'Who can cause which answer', and demand 3, "it returns lists that
+-- the builders admit and whose image those bytes are").
 use Prim.Native.Nat.{ℕ, _-_}
 use mathlib.Core.Path.{_≡_}
 use mathlib.Core.List.{List, [], _∷_, map}

@@ -1,4 +1,5 @@
-// The reader of images (added; document 01, 'The hundred bytes'; demand 3): any bytes in, the lists whose image they are out, or 18.
+// The reader of images (added; no Rust file; document 01, 'The hundred bytes'; demand 3): any bytes in, the lists whose image they are
+// out, or 18.
 // Proved: `read` answers the content that content/specs/ReadImage says, for any slice; what it refuses holds no lists.
 // The private functions answer specs/Flat.antt and specs/Walk.antt, which drop what finds no room; proofs/Capacity.antt: nothing is
 // dropped, since a hundred bytes hold no more.

@@ -1,1 +1,2 @@
+-- The definitions that the contracts of `readings` cite.
 pub mod Readings

@@ -1,4 +1,4 @@
--- What an image is read back to, as numbers for C.
+-- What an image is read back to, as numbers for C: document 01, "functions exported for C on numbers and byte slices"; 18 is told by each.
 use Prim.Native.Nat.{ℕ, _+_, _*_, _<_}
 use mathlib.Core.List.{List}
 use mathlib.Core.Option.{Option, none, some}

@@ -1,5 +1,7 @@
-// What an image is read back to, as numbers for C (added): the counts, and the points and frames one by one.
-// Proved: each is that of the content that the reader's contract speaks of, for any bytes and any indexes.
+// What an image is read back to, as numbers for C (added; no Rust file; document 01, 'The hundred bytes'): the counts, and the points and
+// frames one by one.
+// Proved: each is that of the content that the reader's contract speaks of, for any bytes and any indexes; how it is one number is
+// specs/Readings.antt.
 ghost use mathlib.Core.Path.{_≡_};
 ghost use Prim.Native.Nat.{min};
 ghost use Rattle.content.specs.ReadImage.{readImage};

@@ -2,7 +2,7 @@
 // The sequence under construction carries its 96 bytes with a length and a frame count.
 // Proved: each function answers what specs/ says of its arguments, whatever the builder's fields hold, and a refusal hands the
 // builder back as it came in. `as_bytes` gives the array, of which the first `byte_len` are the sequence's; no function here
-// takes a closure.
+// takes a closure. Left out: `Default` and what the Rust derives.
 ghost use mathlib.Core.Path.{_≡_};
 ghost use Prim.Native.Nat.{min};
 ghost use lib.ListN.{length};

@@ -1,4 +1,4 @@
--- A point is one byte: document 01, 'Points, frames, sequences'.
+-- A point is one byte: document 01, 'Points, frames, sequences'. "A bad length is told before a bad amplitude".
 use Prim.Native.Nat.{ℕ, _+_, _-_, _*_, _/_, _%_, _≤_}
 use mathlib.Core.Path.{_≡_}
 use mathlib.Core.Bool.{Bool, true, false, cond}
