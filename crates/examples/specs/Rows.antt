@@ -4,32 +4,24 @@ use mathlib.Core.Bool.{Bool, true, false}
 use mathlib.Core.List.{List, [], _∷_}
 use lib.ListN.{replicate}
 use lib.IntN.{ℤ, negsuc}
-use Rattle.errors.specs.Told.{Told, gives, refuses, Step}
+use Rattle.errors.specs.Told.{Told, gives, refuses}
 use Rattle.convert.specs.Convert.{voltageByte, imaxCode, v2iWord, periodWord, highPart, lowPart, overrideByte}
 use Rattle.convert.specs.Trim.{trim4Byte}
 use Rattle.snippet.specs.Point.{point}
 use Rattle.frame.specs.declared.FrameBuilder.{FrameBuilder}
-use Rattle.frame.specs.declared.Gain.{Gain}
 use Rattle.frame.specs.declared.Gain.the-variants.{Half}
-use Rattle.frame.specs.declared.Timebase.{Timebase}
 use Rattle.frame.specs.declared.Timebase.the-variants.{«Ms43_52»}
-use Rattle.frame.specs.Builder.{newFrame, withGain, withTimebase, withLoopCount, withFrequency}
+use Rattle.frame.specs.Builder.{newFrame}
 use Rattle.frame.specs.Frame.{frameBytes, builtFrame}
-use Rattle.pattern.specs.Calls.{MemoryCall, addSnippet, addSequence, ramp, step, new, builtFrom}
+use Rattle.pattern.specs.Calls.{ramp, step, FrameCall, gain, timebase, loopCount, frequencyHz, frameStep, new, MemoryCall, addSnippet, addSequence, builtFrom}
 
 -- ---- what can be asked
-
-pub data Call : Type 0 where
-  gain : Gain → Call
-  timebase : Timebase → Call
-  loopCount : ℕ → Call
-  frequencyHz : ℕ → Call
 
 pub data Question : Type 0 where
   -- a point: ramp or step, length, amplitude
   pointOf : Bool → ℕ → ℕ → Question
   -- a frame: snippet number, and the calls on its builder
-  frameOf : ℕ → List Call → Question
+  frameOf : ℕ → List FrameCall → Question
   -- an image: the calls on a memory's builder
   imageOf : List MemoryCall → Question
   -- a voltage's byte: millivolts
@@ -54,20 +46,14 @@ pub data Outcome : Type 0 where
   word : ℕ → Outcome
   refusal : ℕ → Outcome
 
-abbrev pub called : FrameBuilder → Call → Step FrameBuilder
-called b (gain g) = record { number = 0; builder = withGain b g }
-called b (timebase t) = record { number = 0; builder = withTimebase b t }
-called b (loopCount k) = withLoopCount b k
-called b (frequencyHz f) = withFrequency b f
-
 -- the frame's bytes, or the first refusal: n is the number of the last call
-abbrev pub framed : List Call → ℕ → FrameBuilder → Outcome
+abbrev pub framed : List FrameCall → ℕ → FrameBuilder → Outcome
 framed [] zero b = bytes (frameBytes (builtFrame b))
 framed [] (suc n) b = refusal (suc n)
-framed (k ∷ ks) zero b = framed ks (called b k .number) (called b k .builder)
+framed (k ∷ ks) zero b = framed ks (frameStep b k .number) (frameStep b k .builder)
 framed (k ∷ ks) (suc n) b = refusal (suc n)
 
-abbrev pub begun : Told FrameBuilder → List Call → Outcome
+abbrev pub begun : Told FrameBuilder → List FrameCall → Outcome
 begun (gives b) ks = framed ks 0 b
 begun (refuses n) ks = refusal n
 
