@@ -17,7 +17,8 @@ use Rattle.items.specs.Items.{element}
 use Rattle.items.specs.Places.{startIn, placeIn}
 
 module _ {A : Type 0} where
-  elem-none : (l : List A) (i : ℕ) → length l ≤ i → getElem? l i ≡ none
+  -- an index past the end is that of no element
+  pub elem-none : (l : List A) (i : ℕ) → length l ≤ i → getElem? l i ≡ none
   elem-none [] i h = refl
   elem-none (x ∷ l) zero h = absurd (omega arith)
   elem-none (x ∷ l) (suc i) h = elem-none l i (omega arith)
@@ -57,10 +58,6 @@ module _ {A : Type 0} where
   element-placed [] from i j l = refl
   element-placed (e ∷ es) from zero j l = one-part l from (e - from) j
   element-placed (e ∷ es) from (suc i) j l = element-placed es e i j l
-
-  -- an index past the end is that of no element
-  pub elem-out : (l : List A) (i : ℕ) → length l ≤ i → getElem? l i ≡ none
-  elem-out = elem-none
 
 -- ---- the place, by the tests that the code makes
 

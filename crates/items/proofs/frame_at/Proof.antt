@@ -8,7 +8,7 @@ use lib.ListN.{length, take, getElem?}
 use Rattle.laws.proofs.Lists.{length-of-map}
 use Rattle.items.specs.declared.Place.{Place}
 use Rattle.items.specs.Places.{placeTold}
-use Rattle.items.proofs.Placed.{elem-some, elem-out, element-at, element-absent}
+use Rattle.items.proofs.Placed.{elem-some, elem-none, element-at, element-absent}
 use Rattle.frame.specs.Builder.{silentFrame}
 use borrow.Author.Needs.{needs}
 use Rattle.items.proofs.frame_at.Statement.{statement}
@@ -19,7 +19,7 @@ returns c =
     let p = c .before .before .before .before .before .before .before .args .t1 in
     let e = sym (ap placeTold (c .before .before .k .given .1)) ∙ c .before .before .before .before .find .ensures in
     let h : length (p .items) ≡ 96 = search (needs, length-of-map) in
-    sym (elem-out (p .items) _ (omega (arith, c .if1 .taken))) ∙ element-at (take (p .count) (p .ends)) (p .items) (c .before .before .before .before .before .before .before .args .i) (c .before .before .before .before .before .before .before .args .j) _ e
+    sym (elem-none (p .items) _ (omega (arith, c .if1 .taken))) ∙ element-at (take (p .count) (p .ends)) (p .items) (c .before .before .before .before .before .before .before .args .i) (c .before .before .before .before .before .before .before .args .j) _ e
 
 returns-2 : tie.Need-returns-2
 returns-2 c =
