@@ -2,9 +2,9 @@
 -- Assumes nothing.
 use mathlib.Core.Path.{_≡_, refl, sym, ap, _∙_, subst}
 use mathlib.Core.Logic.{_↔_}
-use mathlib.Core.Bool.{Bool, true, false, cond, _&&_}
+use mathlib.Core.Bool.{Bool, true, false, cond}
 use mathlib.Core.List.{List, [], _∷_, _++_, map}
-use mathlib.Core.Option.{Option, none, some}
+use mathlib.Core.Option.{Option, none, some, Option·none-ne-some}
 use Prim.Native.Nat.{ℕ, zero, suc, _≤_}
 use native.Mathlib.Omega.{arith}
 use lib.ListN.{length}
@@ -13,7 +13,7 @@ use Rattle.content.specs.ReadImage.{andThen, every}
 
 module _ {A : Type 0} where
   pub none-some : {X : Type 0} (a : A) → none ≡ some a → X
-  none-some a e = let z : _≡_ {A = ℕ} 0 1 = cc in absurd (omega arith)
+  none-some a e = absurd (Option·none-ne-some a e)
 
   pub some-inj : {a b : A} → some a ≡ some b → a ≡ b
   some-inj e = cc
@@ -27,13 +27,6 @@ module _ {A : Type 0} where
 
   pub cons-eq : {a b : A} {l m : List A} → a ≡ b → l ≡ m → a ∷ l ≡ b ∷ m
   cons-eq p q = λ i. p i ∷ q i
-
-pub both-true : (a b : Bool) → (a && b) ≡ true → (a ≡ true) × (b ≡ true)
-both-true true b e = (refl, e)
-both-true false b e = let z : _≡_ {A = ℕ} 0 1 = cc in absurd (omega arith)
-
-pub true-both : (a b : Bool) → a ≡ true → b ≡ true → (a && b) ≡ true
-true-both a b e f = simp (e, f)
 
 module _ {A B : Type 0} where
   pub then-some : (m : Option A) (f : A → Option B) {b : B} → andThen m f ≡ some b → (a : A) × (m ≡ some a) × (f a ≡ some b)
@@ -93,6 +86,14 @@ map-id (x ∷ l) = ap (λ r. x ∷ r) (map-id l)
 pub all-append : {A : Type 0} (P : A → Type 0) (l m : List A) → All P l → All P m → All P (l ++ m)
 all-append P [] m p q = q
 all-append P (x ∷ l) m p q = (p .0, all-append P l m (p .1) q)
+
+pub all-left : {A : Type 0} (P : A → Type 0) (l m : List A) → All P (l ++ m) → All P l
+all-left P [] m h = tt
+all-left P (x ∷ l) m h = (h .0, all-left P l m (h .1))
+
+pub all-right : {A : Type 0} (P : A → Type 0) (l m : List A) → All P (l ++ m) → All P m
+all-right P [] m h = h
+all-right P (x ∷ l) m h = all-right P l m (h .1)
 
 pub all-map : {A B : Type 0} {P : A → Type 0} (Q : B → Type 0) (f : A → B) (h : (a : A) → P a → Q (f a)) (l : List A) → All P l → All Q (map f l)
 all-map Q f h [] p = tt

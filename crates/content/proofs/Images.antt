@@ -14,21 +14,13 @@ use Rattle.frame.proofs.Canon.{canon}
 use Rattle.memory.specs.Image.{joined, endPointers, imageSize, imageBytes}
 use Rattle.content.specs.Content.{Point, Content, pointBytes, framesBytes, imageOf, SnippetAdmitted, SequenceAdmitted, Admitted, Same}
 use Rattle.content.specs.ReadImage.{andThen, every, readSnippet, readSequence, Items, readItems, contentFrom, readImage}
-use Rattle.content.proofs.Codec.{Codec, every-codec, refuses, same, write-canon, good-canon, then-some, some-inj, map-id, all-append, all-map}
+use Rattle.content.proofs.Codec.{Codec, every-codec, refuses, same, write-canon, good-canon, then-some, some-inj, map-id, all-append, all-left, all-right, all-map}
 use Rattle.content.proofs.Points.{snippet-codec, snippet-long}
 use Rattle.content.proofs.Sequences.{sequence-codec, sequence-long}
 use Rattle.content.proofs.Items.{NotEmpty, written, Good, hundred, items-sound, items-complete}
 use Rattle.content.proofs.Sameness.{canonical, same-canonical, canonical-same}
 
 -- ---- bytes
-
-all-right : {A : Type 0} (P : A → Type 0) (l m : List A) → All P (l ++ m) → All P m
-all-right P [] m h = h
-all-right P (x ∷ l) m h = all-right P l m (h .1)
-
-all-left : {A : Type 0} (P : A → Type 0) (l m : List A) → All P (l ++ m) → All P l
-all-left P [] m h = tt
-all-left P (x ∷ l) m h = (h .0, all-left P l m (h .1))
 
 items-bytes : (xs : List (List ℕ)) → Bytes (joined xs) → All Bytes xs
 items-bytes [] h = tt

@@ -1,7 +1,7 @@
 -- The hundred bytes: reading the items of an image undoes laying them out.
 -- Assumes nothing.
 use mathlib.Core.Path.{_≡_, refl, sym, ap, _∙_, subst}
-use mathlib.Core.Bool.{Bool, true, false, cond, _&&_}
+use mathlib.Core.Bool.{Bool, true, false, cond, _&&_, and-eq-true-iff}
 use mathlib.Core.List.{List, [], _∷_, _++_, append-assoc}
 use mathlib.Core.Option.{Option, none, some}
 use Prim.Native.Nat.{ℕ, zero, suc, _+_, _-_, _≤_, _<_}
@@ -13,7 +13,7 @@ use lib.Seq.{take-at, drop-at, length-take-le}
 use Rattle.laws.specs.Bytes.{All}
 use Rattle.memory.specs.Image.{joined, endPointers, imageSize, imageBytes}
 use Rattle.content.specs.ReadImage.{andThen, Cut, cut, allZero, Items, countsFit, itemsFrom, readItems}
-use Rattle.content.proofs.Codec.{cond-some, cond-on, some-inj, none-some, then-some, both-true, true-both, cons-eq}
+use Rattle.content.proofs.Codec.{cond-some, cond-on, some-inj, none-some, then-some, cons-eq}
 
 abbrev pub NotEmpty : List ℕ → Type 0
 NotEmpty x = 1 ≤ length x
@@ -29,7 +29,7 @@ cut-sound : (before : ℕ) (es l : List ℕ) (c : Cut) → cut before es l ≡ s
 cut-sound before [] l c e = subst (λ (d : Cut). WasCut before [] l d) (some-inj e) (record { full = tt; at = refl; all = refl })
 cut-sound before (e ∷ es) l c h =
     let (t, h₁) = cond-some (ltb before e && leb (e - before) (length l)) _ h in
-    let (u, v) = both-true (ltb before e) (leb (e - before) (length l)) t in
+    let (u, v) = and-eq-true-iff (ltb before e) (leb (e - before) (length l)) .0 t in
     let (d, h₂, h₃) = then-some (cut e es (drop (e - before) l)) _ h₁ in
     let s = cut-sound e es (drop (e - before) l) d h₂ in
     let a = ltb-true before e u in
@@ -48,7 +48,7 @@ cut-complete before [] r g = refl
 cut-complete before (x ∷ xs) r g =
     let e : ℕ = before + length x in
     let n : length x ≡ e - before = omega arith in
-    cond-on _ _ (true-both _ _ (lt-ltb before e (omega arith)) (le-leb (e - before) (length (joined (x ∷ xs) ++ r)) (omega (arith, length-append x (joined xs), length-append (x ++ joined xs) r))))
+    cond-on _ _ (and-eq-true-iff _ _ .1 (lt-ltb before e (omega arith), le-leb (e - before) (length (joined (x ∷ xs) ++ r)) (omega (arith, length-append x (joined xs), length-append (x ++ joined xs) r))))
     ∙ rw (append-assoc x (joined xs) r, drop-at x (joined xs ++ r) (e - before) n, take-at x (joined xs ++ r) (e - before) n, cut-complete e xs r (g .1))
 
 -- ---- the tail
@@ -56,7 +56,7 @@ cut-complete before (x ∷ xs) r g =
 zero-sound : (l : List ℕ) → allZero l ≡ true → l ≡ replicate (length l) 0
 zero-sound [] t = refl
 zero-sound (x ∷ xs) t =
-    let (u, v) = both-true (ltb x 1) (allZero xs) t in
+    let (u, v) = and-eq-true-iff (ltb x 1) (allZero xs) .0 t in
     let e : x ≡ 0 = omega (arith, ltb-true x 1 u) in cons-eq e (zero-sound xs v)
 
 zero-complete : (n : ℕ) → allZero (replicate n 0) ≡ true
@@ -76,11 +76,11 @@ pub record Good (r : Items) : Type 0 where
   pub full : All NotEmpty (r .snippets ++ r .sequences)
   pub fits : imageSize (r .snippets) (r .sequences) ≤ 100
 
-counts-sound : (s q : ℕ) → countsFit s q ≡ true → (1 ≤ s) × (s ≤ 15) × (1 ≤ q) × (q ≤ 16)
+pub counts-sound : (s q : ℕ) → countsFit s q ≡ true → (1 ≤ s) × (s ≤ 15) × (1 ≤ q) × (q ≤ 16)
 counts-sound s q t =
-    let (t₁, d) = both-true (leb 1 s && leb s 15 && leb 1 q) (leb q 16) t in
-    let (t₂, c) = both-true (leb 1 s && leb s 15) (leb 1 q) t₁ in
-    let (a, b) = both-true (leb 1 s) (leb s 15) t₂ in
+    let (t₁, d) = and-eq-true-iff (leb 1 s && leb s 15 && leb 1 q) (leb q 16) .0 t in
+    let (t₂, c) = and-eq-true-iff (leb 1 s && leb s 15) (leb 1 q) .0 t₁ in
+    let (a, b) = and-eq-true-iff (leb 1 s) (leb s 15) .0 t₂ in
     (leb-true 1 s a, leb-true s 15 b, leb-true 1 q c, leb-true q 16 d)
 
 counts-complete : (s q : ℕ) → 1 ≤ s → s ≤ 15 → 1 ≤ q → q ≤ 16 → countsFit s q ≡ true
@@ -120,7 +120,7 @@ items-sound [] r e = none-some r e
 items-sound (s ∷ []) r e = none-some r e
 items-sound (s ∷ q ∷ l) r e =
     let (t, e₁) = cond-some (eqb (length l) 98 && countsFit s q) _ e in
-    let (u, v) = both-true (eqb (length l) 98) (countsFit s q) t in
+    let (u, v) = and-eq-true-iff (eqb (length l) 98) (countsFit s q) .0 t in
     let (c, e₂, e₃) = then-some (cut (1 + s + q) (take (s + q) l) (drop (s + q) l)) (itemsFrom s) e₁ in
     let (z, e₄) = cond-some (allZero (c .left)) _ e₃ in
     subst (λ (x : Items). Good x × (written x ≡ s ∷ q ∷ l)) (some-inj e₄)
@@ -156,5 +156,5 @@ items-complete r g =
     rw (a, take-at (endPointers (1 + s + q) xs) (joined xs ++ tail) (s + q) m, drop-at (endPointers (1 + s + q) xs) (joined xs ++ tail) (s + q) m, cut-complete (1 + s + q) xs tail (g .full))
     (cond-on _ _ (zero-complete (100 - (2 + s + q + length (joined xs))))
     ∙ rw (take-at (r .snippets) (r .sequences) s refl, drop-at (r .snippets) (r .sequences) s refl)) in
-    cond-on _ _ (true-both _ _ (eq-eqb _ 98 (image-length s q xs n (g .fits))) (counts-complete s q (g .someSnippets) (g .fewSnippets) (g .someSequences) (g .fewSequences)))
+    cond-on _ _ (and-eq-true-iff _ _ .1 (eq-eqb _ 98 (image-length s q xs n (g .fits)), counts-complete s q (g .someSnippets) (g .fewSnippets) (g .someSequences) (g .fewSequences)))
     ∙ z

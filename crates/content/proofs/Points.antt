@@ -1,7 +1,7 @@
 -- Snippets: reading the points of some bytes undoes writing them.
 -- Assumes nothing.
 use mathlib.Core.Path.{_≡_, refl, sym, ap, _∙_, subst}
-use mathlib.Core.Bool.{Bool, true, false, cond, _&&_}
+use mathlib.Core.Bool.{Bool, true, false, cond, _&&_, and-eq-true-iff}
 use mathlib.Core.List.{List, [], _∷_, map}
 use mathlib.Core.Option.{Option, none, some}
 use Prim.Native.Nat.{ℕ, suc, _≤_, _<_, _+_, _-_, _*_}
@@ -14,7 +14,7 @@ use Rattle.snippet.specs.Point.{pointByte, PointAdmitted}
 use Rattle.snippet.proofs.Points.{ramp-back, timebases-back, amplitude-back, byte-back, byte-admitted}
 use Rattle.content.specs.Content.{Point, byteOf, pointBytes, SnippetAdmitted}
 use Rattle.content.specs.ReadImage.{pointIn, pointsIn, readSnippet}
-use Rattle.content.proofs.Codec.{Codec, cond-some, cond-on, some-inj, both-true, true-both, cons-eq}
+use Rattle.content.proofs.Codec.{Codec, cond-some, cond-on, some-inj, cons-eq}
 
 abbrev Good : Point → Type 0
 Good p = PointAdmitted (p .timebases) (p .amplitude)
@@ -54,7 +54,7 @@ snippet-sound : (bs : List ℕ) (ps : List Point) → Bytes bs → readSnippet b
 unfolding readSnippet
 snippet-sound bs ps h e =
     let (t, e₁) = cond-some (leb 1 (length bs) && leb (length bs) 16) _ e in
-    let (u, v) = both-true (leb 1 (length bs)) (leb (length bs) 16) t in
+    let (u, v) = and-eq-true-iff (leb 1 (length bs)) (leb (length bs) 16) .0 t in
     let n = points-length bs in
     subst (λ (l : List Point). SnippetAdmitted l × (pointBytes l ≡ bs)) (some-inj e₁) (
       record { some = omega (arith, leb-true 1 (length bs) u); few = omega (arith, leb-true (length bs) 16 v); each = points-good bs },
@@ -65,7 +65,7 @@ snippet-complete : (ps : List Point) → SnippetAdmitted ps → readSnippet (poi
 unfolding readSnippet
 snippet-complete ps g =
     let n = length-map ps byteOf in
-    cond-on _ _ (true-both _ _ (le-leb 1 (length (pointBytes ps)) (omega (arith, g .some))) (le-leb (length (pointBytes ps)) 16 (omega (arith, g .few))))
+    cond-on _ _ (and-eq-true-iff _ _ .1 (le-leb 1 (length (pointBytes ps)) (omega (arith, g .some)), le-leb (length (pointBytes ps)) 16 (omega (arith, g .few))))
     ∙ ap some (points-back ps (g .each))
 
 pub snippet-codec : Codec Bytes readSnippet pointBytes SnippetAdmitted (λ ps. ps)

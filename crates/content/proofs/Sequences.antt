@@ -20,12 +20,7 @@ use Rattle.frame.proofs.Written.{sound}
 use Rattle.frame.proofs.Frames.{frame-bytes}
 use Rattle.content.specs.Content.{framesBytes, SequenceAdmitted}
 use Rattle.content.specs.ReadImage.{andThen, readFrames, readSequence}
-use Rattle.content.proofs.Codec.{Codec, cond-some, cond-on, some-inj, none-some, then-some, all-append}
-
--- the bytes after a part of some bytes are bytes
-rest-bytes : (l r : List ℕ) → Bytes (l ++ r) → Bytes r
-rest-bytes [] r h = h
-rest-bytes (b ∷ l) r h = rest-bytes l r (h .1)
+use Rattle.content.proofs.Codec.{Codec, cond-some, cond-on, some-inj, none-some, then-some, all-append, all-right}
 
 frames-sound : (k : ℕ) (bs : List ℕ) (fs : List FrameBuilder) → Bytes bs → readFrames k bs ≡ some fs
     → (length fs ≤ k) × All FrameAdmitted fs × (framesBytes fs ≡ bs)
@@ -36,7 +31,7 @@ frames-sound (suc k) (b ∷ bs) fs h e =
     let (p, e₁, e₂) = then-some (readFrame (b ∷ bs)) _ e in
     let (gs, e₃, e₄) = then-some (readFrames k (p .rest)) _ e₂ in
     let s = sound (b ∷ bs) p h e₁ in
-    let t = frames-sound k (p .rest) gs (rest-bytes (bytesOf (p .frame)) (p .rest) (subst Bytes (sym (s .1)) h)) e₃ in
+    let t = frames-sound k (p .rest) gs (all-right (λ b. b < 256) (bytesOf (p .frame)) (p .rest) (subst Bytes (sym (s .1)) h)) e₃ in
     rw (← some-inj e₄) (suc-le-suc (t .0), (s .0, t .1), ap (λ (l : List ℕ). bytesOf (p .frame) ++ l) (t .2) ∙ s .1)
 
 frames-start : (fs : List FrameBuilder) → Starts (framesBytes fs)
@@ -59,11 +54,12 @@ frames-fit : (fs : List FrameBuilder) → Bytes (framesBytes fs)
 frames-fit [] = tt
 frames-fit (f ∷ fs) = all-append (λ b. b < 256) (bytesOf f) (framesBytes fs) (frame-bytes f) (frames-fit fs)
 
-long : (fs : List FrameBuilder) → 1 ≤ length fs → 1 ≤ length (framesBytes fs)
+-- a sequence has frames exactly where it has bytes
+pub long : (fs : List FrameBuilder) → 1 ≤ length fs → 1 ≤ length (framesBytes fs)
 long [] h = h
 long (f ∷ fs) h = omega arith
 
-short : (fs : List FrameBuilder) → 1 ≤ length (framesBytes fs) → 1 ≤ length fs
+pub short : (fs : List FrameBuilder) → 1 ≤ length (framesBytes fs) → 1 ≤ length fs
 short [] h = h
 short (f ∷ fs) h = omega arith
 

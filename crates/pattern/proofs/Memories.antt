@@ -24,6 +24,7 @@ use Rattle.memory.specs.Image.{imageSize, imageBytes}
 use Rattle.memory.specs.Memory.{newMemory, withSnippet, withSequence, imageNumber, answered, snippetItems, sequenceItems, builtMemory}
 use Rattle.content.specs.Content.{Point, Content, pointBytes, framesBytes, imageOf, SnippetAdmitted, SequenceAdmitted, Admitted}
 use Rattle.content.proofs.Codec.{all-append}
+use Rattle.content.proofs.Sequences.{short}
 use Rattle.pattern.specs.Calls.{held, MemoryCall, addSnippet, addSequence, Item, points, frames, snippetsOf, sequencesOf, contentOf, withBuiltSnippet, withBuiltSequence, memoryStep, addedItem, memoryFrom, contentFrom, builtFrom, snippetFrom, pointsFrom, sequenceFrom, framesFrom}
 use Rattle.pattern.proofs.Outcomes.{Outcome, all-calls, Shows, shows-more}
 use Rattle.pattern.proofs.Snippets as snippet
@@ -102,10 +103,6 @@ with-snippet b is s ps h k = some (decLe 1 (s .len)) where
   some (yes p) = full p (decLe 15 (b .«num_snippets»))
   some (no p) = let p′ : s .len < 1 = omega arith in simp (lt-ltb _ _ p′) (inr (omega arith, h))
 
-some-frames : (fs : List FrameBuilder) → 1 ≤ length (framesBytes fs) → 1 ≤ length fs
-some-frames [] h = h
-some-frames (f ∷ fs) h = omega arith
-
 with-sequence : (b : WaveformMemoryBuilder) (is : List Item) (s : SequenceBuilder) (fs : List FrameBuilder) → Holds b is → sequence.Holds s fs
     → Added is (withBuiltSequence b (builtSequence s)) (frames fs)
 with-sequence b is s fs h k = some (decLe 1 (s .len)) where
@@ -120,7 +117,7 @@ with-sequence b is s fs h k = some (decLe 1 (s .len)) where
             (h .snippets)
             (shows-more 16 sequenceBytes framesBytes (b .sequences) (b .«num_sequences») (sequencesOf is) (record { «data» = s .«data»; len = s .len }) fs (h .sequences) q′ (k .shown))
             (h .snippet)
-            (all-append SequenceAdmitted (sequencesOf is) (fs ∷ []) (h .sequence) (record { some = some-frames fs (omega (arith, k .counted)); few = k .few; each = k .good }, tt)),
+            (all-append SequenceAdmitted (sequencesOf is) (fs ∷ []) (h .sequence) (record { some = short fs (omega (arith, k .counted)); few = k .few; each = k .good }, tt)),
       ))
 
   some : Dec (1 ≤ s .len) → Added is (withBuiltSequence b (builtSequence s)) (frames fs)

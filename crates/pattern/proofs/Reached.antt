@@ -32,6 +32,8 @@ use Rattle.memory.specs.Image.{joined, imageSize}
 use Rattle.memory.specs.Memory.{newMemory, imageNumber, builtMemory}
 use Rattle.memory.proofs.Images.{joined-length}
 use Rattle.content.specs.Content.{Point, Content, pointBytes, framesBytes, SnippetAdmitted, SequenceAdmitted, Admitted}
+use Rattle.content.proofs.Codec.{all-left}
+use Rattle.content.proofs.Sequences.{long}
 use Rattle.pattern.specs.Calls.{ran, held, SnippetCall, ramp, step, snippetStep, addedPoint, pointsFrom, FrameCall, gain, timebase, loopCount, frequencyHz, Begin, new, silence, begun, FrameCalls, numberOf, frameFrom, frameRan, withMadeFrame, sequenceStep, framesFrom, snippetFrom, sequenceFrom, MemoryCall, addSnippet, addSequence, Item, points, frames, snippetsOf, sequencesOf, contentOf, memoryStep, addedItem, contentFrom, builtFrom}
 use Rattle.pattern.proofs.Outcomes.{Outcome}
 use Rattle.pattern.proofs.Snippets as snippet
@@ -65,10 +67,6 @@ module _ {B K X : Type 0} (step′ : B → K → Step B) (adds : K → X) (P : B
         (ap₂ (λ (z : X) (zs : List X). z ∷ zs) (t .1) (rest (subst (λ (z : X). P (step′ b (call y) .builder) (xs ++ (z ∷ []))) (t .1) (w .1))))
     go rest (inr w) = let z = t .0 in absurd (omega (arith, w .0))
 
-all-front : {A : Type 0} (P : A → Type 0) (xs ys : List A) → All P (xs ++ ys) → All P xs
-all-front P [] ys h = tt
-all-front P (x ∷ xs) ys h = (h .0, all-front P xs ys (h .1))
-
 all-last : {A : Type 0} (P : A → Type 0) (xs : List A) (x : A) → All P (xs ++ (x ∷ [])) → P x
 all-last P [] x h = h .0
 all-last P (y ∷ xs) x h = all-last P xs x (h .1)
@@ -89,7 +87,7 @@ abbrev pub pointCall : Point → SnippetCall
 pointCall p = called (p .ramp) (p .timebases) (p .amplitude)
 
 points-less : (xs ys : List Point) → PointsFit (xs ++ ys) → PointsFit xs
-points-less xs ys f = (let n = length-append xs ys in omega (arith, f .0), all-front Good xs ys (f .1))
+points-less xs ys f = (let n = length-append xs ys in omega (arith, f .0), all-left Good xs ys (f .1))
 
 made-number : (b : SnippetBuilder) (r : Bool) (t a : ℕ) → PointAdmitted t a → b .len < 16 → withMade b (made.point r t a) .number ≡ 0
 made-number b r t a g l = simp (le-ltb _ _ (g .shortest), le-ltb _ _ (g .longest), le-ltb _ _ (g .strongest), lt-leb _ _ l)
@@ -154,7 +152,7 @@ frames-less : (xs ys : List FrameBuilder) → FramesFit (xs ++ ys) → FramesFit
 frames-less xs ys f = (
   let n = ap length (frames-append xs ys) ∙ length-append (framesBytes xs) (framesBytes ys) in omega (arith, f .0),
   let n = length-append xs ys in omega (arith, f .1),
-  all-front FrameAdmitted xs ys (f .2),
+  all-left FrameAdmitted xs ys (f .2),
 )
 
 made-taken : (b : SequenceBuilder) (m : FrameCalls) (o : Told FrameBuilder) (g : FrameBuilder) → o ≡ gives g
@@ -201,19 +199,15 @@ items-less xs ys f =
     let q = sequences-append xs ys in
     record {
       fewSnippets = let n = ap length s ∙ length-append (snippetsOf xs) (snippetsOf ys) in omega (arith, f .fewSnippets);
-      snippet = all-front SnippetAdmitted (snippetsOf xs) (snippetsOf ys) (subst (All SnippetAdmitted) s (f .snippet));
+      snippet = all-left SnippetAdmitted (snippetsOf xs) (snippetsOf ys) (subst (All SnippetAdmitted) s (f .snippet));
       fewSequences = let n = ap length q ∙ length-append (sequencesOf xs) (sequencesOf ys) in omega (arith, f .fewSequences);
-      sequence = all-front SequenceAdmitted (sequencesOf xs) (sequencesOf ys) (subst (All SequenceAdmitted) q (f .sequence));
-      short = all-front Short (sequencesOf xs) (sequencesOf ys) (subst (All Short) q (f .short));
+      sequence = all-left SequenceAdmitted (sequencesOf xs) (sequencesOf ys) (subst (All SequenceAdmitted) q (f .sequence));
+      short = all-left Short (sequencesOf xs) (sequencesOf ys) (subst (All Short) q (f .short));
     }
 
 abbrev itemCall : Item → MemoryCall
 itemCall (points ps) = addSnippet (map pointCall ps)
 itemCall (frames fs) = addSequence (map frameCall fs)
-
-some-bytes : (fs : List FrameBuilder) → 1 ≤ length fs → 1 ≤ length (framesBytes fs)
-some-bytes [] h = h
-some-bytes (f ∷ fs) h = omega arith
 
 item-taken : (b : WaveformMemoryBuilder) (is : List Item) (i : Item) → memory.Holds b is → ItemsFit (is ++ (i ∷ []))
     → (memoryStep b (itemCall i) .number ≡ 0) × (addedItem (itemCall i) ≡ i)
@@ -233,7 +227,7 @@ item-taken b is (frames fs) h w =
     let back = frames-reached fs (all-last Short (sequencesOf is) fs (subst (All Short) e (w .short)), a .few, a .each) in
     let held = sequence.sequence-holds (map frameCall fs) in
     let n : length (framesBytes (framesFrom (map frameCall fs))) ≡ length (framesBytes fs) = ap (λ (l : List FrameBuilder). length (framesBytes l)) back in
-    let p : 1 ≤ sequenceFrom (map frameCall fs) .len = omega (arith, held .counted, some-bytes fs (a .some)) in
+    let p : 1 ≤ sequenceFrom (map frameCall fs) .len = omega (arith, held .counted, long fs (a .some)) in
     let m = ap length e ∙ length-append (sequencesOf is) (fs ∷ []) in
     let q : b .«num_sequences» < 16 = omega (arith, w .fewSequences, h .sequences .counted) in
     (simp (le-ltb _ _ p, lt-leb _ _ q), ap frames back)

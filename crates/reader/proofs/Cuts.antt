@@ -1,7 +1,7 @@
 -- Walking item by item is cutting first and then taking each item in turn.
 -- Assumes nothing.
 use mathlib.Core.Path.{_≡_, refl, sym, ap, _∙_, subst}
-use mathlib.Core.Bool.{Bool, true, false, cond, _&&_}
+use mathlib.Core.Bool.{Bool, true, false, cond, _&&_, and-eq-true-iff}
 use mathlib.Core.List.{List, [], _∷_, _++_}
 use mathlib.Core.Option.{Option, none, some}
 use Prim.Native.Nat.{ℕ, suc, _+_, _-_, _≤_, _<_}
@@ -12,7 +12,7 @@ use lib.ListN.{length, take, drop, length-append, length-take, length-drop}
 use lib.Seq.{drop-drop}
 use Rattle.memory.specs.Image.{joined}
 use Rattle.content.specs.ReadImage.{andThen, Cut, cut}
-use Rattle.content.proofs.Codec.{some-inj, cond-some, both-true, then-some}
+use Rattle.content.proofs.Codec.{some-inj, cond-some, then-some}
 use Rattle.reader.specs.Walk.{Walked, item, walk}
 
 -- the last of the pointers
@@ -113,7 +113,7 @@ was-cut [] p image c h =
 was-cut (e ∷ es) p image c h =
     let l : List ℕ = drop (p + 1) image in
     let (t, h₁) = cond-some (ltb p e && leb (e - p) (length l)) _ h in
-    let (t₁, t₂) = both-true (ltb p e) (leb (e - p) (length l)) t in
+    let (t₁, t₂) = and-eq-true-iff (ltb p e) (leb (e - p) (length l)) .0 t in
     let u : p < e = ltb-true p e t₁ in
     let v : e - p ≤ length l = leb-true (e - p) (length l) t₂ in
     let (d, h₂, h₃) = then-some (cut e es (drop (e - p) l)) (putCut (take (e - p) l)) h₁ in

@@ -1,16 +1,16 @@
 -- What the flags say of what was read.
 -- Assumes nothing.
 use mathlib.Core.Path.{_≡_, refl, sym, ap, _∙_, subst}
-use mathlib.Core.Bool.{true, false, _&&_}
+use mathlib.Core.Bool.{true, false}
 use mathlib.Core.List.{List, [], _∷_}
 use mathlib.Core.Option.{Option, none, some}
-use Prim.Native.Nat.{ℕ, _+_, _≤_, _<_}
+use Prim.Native.Nat.{ℕ, _+_, _<_}
 use native.Mathlib.Omega.{arith}
-use borrow.Author.Tests.{eq-eqb, ne-eqb, leb-true, ltb-true}
-use lib.Dec.{ltb, leb}
+use borrow.Author.Tests.{eq-eqb, ne-eqb, ltb-true}
+use lib.Dec.{ltb}
 use lib.ListN.{length, getD}
 use Rattle.content.specs.ReadImage.{countsFit}
-use Rattle.content.proofs.Codec.{some-inj, cond-some, both-true, then-some}
+use Rattle.content.proofs.Codec.{some-inj, cond-some, then-some}
 use Rattle.reader.specs.declared.Points.{Points}
 use Rattle.reader.specs.declared.Frames.{Frames}
 use Rattle.reader.specs.declared.Reading.{Reading}
@@ -62,14 +62,7 @@ module _ (image : List ℕ) (s q : ℕ) (r : SnippetsRead) where
   snippets-bad none e t = refl
   snippets-bad (some w) e t = let z : _≡_ {A = ℕ} 0 1 = cc (ap (λ (x : SnippetsRead). x .found) e) in absurd (omega arith)
 
--- ---- the counts
-
-pub counts-true : (s q : ℕ) → countsFit s q ≡ true → (1 ≤ s) × (s ≤ 15) × (1 ≤ q) × (q ≤ 16)
-counts-true s q t =
-    let (t₁, d) = both-true (leb 1 s && leb s 15 && leb 1 q) (leb q 16) t in
-    let (t₂, c) = both-true (leb 1 s && leb s 15) (leb 1 q) t₁ in
-    let (a, b) = both-true (leb 1 s) (leb s 15) t₂ in
-    (leb-true 1 s a, leb-true s 15 b, leb-true 1 q c, leb-true q 16 d)
+-- ---- the whole
 
 module _ (image : List ℕ) (r : Reading) where
   pub scan-good : (s q : ℕ) → length image ≡ 100 → s ≡ getD image 0 0 → q ≡ getD image 1 0 → countsFit s q ≡ true → r ≡ afterCounts image s q → r ≡ scanned image

@@ -23,7 +23,7 @@ use Rattle.reader.specs.Walk.{snippetStep, sequenceStep, walkSequences, 
 use Rattle.reader.proofs.Capacity.{Tracks, flatPoints, flatFrames, rawSnippet, tracks-snippets, tracks-sequences}
 use Rattle.reader.proofs.Cuts.{lastOf, inTurn, afterCut, walk-cut, joinCut, cutMore, cut-append, cond-then, WasCut, was-cut}
 use Rattle.reader.proofs.Flats.{shows}
-use Rattle.reader.proofs.Found.{counts-true}
+use Rattle.content.proofs.Items.{counts-sound}
 
 -- a reading is right for what the definition reads
 abbrev pub Right : Option Content → Reading → Type 0
@@ -141,7 +141,7 @@ module _ (s q : ℕ) (l : List ℕ) (h : length l ≡ 98) (t : countsFit s q ≡
     after-snippets none e =
         via {o = none} {o′ = none} refl (snippets-none image s q last (inTurn snippetStep (c .items) noPoints) (walk-cut sequenceStep image more last noFrames ∙ rw e)) none-right
     after-snippets (some d) e =
-        let b = counts-true s q t in
+        let b = counts-sound s q t in
         let v = was-cut more last image d e in
         let within1 : last < length image = w .within (omega arith) in
         let within2 : lastOf last more < length image = v .within within1 in

@@ -3,13 +3,14 @@
 use borrow.Author.Needs.{needs}
 use mathlib.Core.Path.{sym, _∙_}
 use denote.Ref.{now}
-use Rattle.reader.proofs.Found.{counts-true, scan-good, scan-bad, scan-other}
+use Rattle.content.proofs.Items.{counts-sound}
+use Rattle.reader.proofs.Found.{scan-good, scan-bad, scan-other}
 use Rattle.reader.proofs.scan.Statement.{statement}
 use Rattle.reader.proofs.scan.Tie as tie
 
 snippets-of-requires : tie.Need-snippets-of-requires
 snippets-of-requires c κs =
-    let k = counts-true _ _ (sym (c .before .counts-fit .ensures) ∙ c .if2 .taken) in (c .before .before .before .before .before .before .if1 .taken, k .1, k .3)
+    let k = counts-sound _ _ (sym (c .before .counts-fit .ensures) ∙ c .if2 .taken) in (c .before .before .before .before .before .before .if1 .taken, k .1, k .3)
 
 returns : tie.Need-returns
 returns c =
