@@ -6,8 +6,8 @@ use mathlib.Core.List.{List, [], _∷_, _++_, append-nil}
 use native.Mathlib.Decide.{decLe}
 use native.Mathlib.Omega.{arith}
 use lib.ListN.{length, take, drop, set, replicate, length-append, length-take, length-drop, drop-of-length-le}
-use lib.Seq.{take-at, drop-at, drop-drop}
 use Rattle.laws.specs.Copied.{over}
+use Rattle.laws.proofs.Copies.{over-behind}
 use Rattle.laws.proofs.Lists.{take-shown}
 use borrow.Author.Tests.{lt-ltb, eq-eqb}
 use Rattle.exchange.specs.declared.Step.{Step}
@@ -15,16 +15,6 @@ use Rattle.exchange.specs.declared.Step.the-variants.{Write, Read, Updat
 use Rattle.exchange.specs.declared.Exchange.{Exchange}
 use Rattle.exchange.specs.Steps.{exchange, memoryAddress, chunk, stepBytes}
 use Rattle.exchange.specs.State.{at, headOf, Begun, begunBytes, begunIn, pushed}
-
--- laying bytes over a list keeps its length
-pub length-over : (l xs : List ℕ) (at : ℕ) → at + length xs ≤ length l → length (over l at xs) ≡ length l
-length-over l xs at h = simp (length-append, length-take, length-drop) (omega arith)
-
--- laid behind a front, bytes leave the front alone
-pub over-behind : (front l xs : List ℕ) (n : ℕ) → length front ≡ n → over (front ++ l) n xs ≡ front ++ xs ++ drop (length xs) l
-over-behind front l xs n e =
-    ap (λ (p : List ℕ). p ++ xs ++ drop (n + length xs) (front ++ l)) (take-at front l n e)
-    ∙ ap (λ (p : List ℕ). front ++ xs ++ p) (sym (drop-drop (length xs) n (front ++ l)) ∙ ap (drop (length xs)) (drop-at front l n e))
 
 -- four parts laid over a list that they fill
 pub over-filled : (l a b c d : List ℕ) (i j k : ℕ) → length a ≡ i → i + length b ≡ j → j + length c ≡ k → length l ≡ k + length d

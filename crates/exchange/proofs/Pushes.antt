@@ -5,10 +5,11 @@ use native.Mathlib.Omega.{arith}
 use mathlib.Core.Path.{_≡_, refl, sym, _∙_, ap}
 use mathlib.Core.Bool.{Bool, true, false, cond}
 use mathlib.Core.List.{List, [], _∷_, _++_, append-nil, append-assoc}
-use lib.ListN.{length, drop, replicate, length-append, replicate-append-replicate}
-use lib.Seq.{take-at, drop-at, drop-drop, append-snoc}
+use lib.ListN.{length, replicate, length-append, replicate-append-replicate}
+use lib.Seq.{append-snoc}
 use borrow.Author.Tests.{eq-eqb, lt-ltb}
 use Rattle.laws.specs.Copied.{over}
+use Rattle.laws.proofs.Copies.{over-at}
 use Rattle.exchange.specs.declared.Step.{Step}
 use Rattle.exchange.specs.Steps.{stepBytes}
 use Rattle.exchange.specs.State.{isSession, headOf, Begun, joinedSteps, begunBytes, begunIn, pushed, pushedAll}
@@ -24,13 +25,6 @@ push-append (x ∷ xs) ys st = push-append xs ys (pushed st x)
 joined-more : (xs : List Step) (x : Step) → joinedSteps (xs ++ (x ∷ [])) ≡ joinedSteps xs ++ stepBytes x
 joined-more [] x = append-nil (stepBytes x)
 joined-more (y ∷ xs) x = ap (λ (l : List ℕ). stepBytes y ++ l) (joined-more xs x) ∙ sym (append-assoc (stepBytes y) (joinedSteps xs) (stepBytes x))
-
--- bytes laid over as many behind the first n
-over-at : (p z rest bytes : List ℕ) (n : ℕ) → length p ≡ n → length z ≡ length bytes → over (p ++ (z ++ rest)) n bytes ≡ p ++ bytes ++ rest
-over-at p z rest bytes n e h =
-    let d = ap (drop (length bytes)) (drop-at p (z ++ rest) n e) ∙ drop-at z rest (length bytes) h in
-    let f = sym (drop-drop (length bytes) n (p ++ (z ++ rest))) ∙ d in
-    λ t. take-at p (z ++ rest) n e t ++ bytes ++ f t
 
 -- the zeros behind n steps, of which five go to one more
 abbrev zeros : ℕ → List ℕ

@@ -1,4 +1,4 @@
--- Copying byte by byte from the front is `copied`.
+-- Copying byte by byte from the front is `copied`; bytes laid over a list.
 -- Assumes nothing.
 use mathlib.Core.Path.{_≡_, ap, sym, _∙_}
 use mathlib.Core.List.{List, [], _++_, append-assoc, append-nil}
@@ -6,8 +6,8 @@ use Prim.Native.Nat.{ℕ, _+_, _-_, _≤_, min}
 use native.Mathlib.Decide.{decLe}
 use native.Mathlib.Nat.{zero-add, le-refl}
 use native.Mathlib.Omega.{arith}
-use lib.ListN.{length, take, drop, length-drop, drop-of-length-le}
-use lib.Seq.{paste, take-all, drop-drop}
+use lib.ListN.{length, take, drop, length-append, length-take, length-drop, drop-of-length-le}
+use lib.Seq.{paste, take-all, take-at, drop-at, drop-drop}
 use borrow.Rule.Slice.PartMut.{midOf, postOf, putMid}
 use borrow.Rule.Slice.PartAt.{part-to-end}
 use Rattle.laws.specs.Copied.{copied, over}
@@ -42,3 +42,17 @@ put-over d xs at n e h =
     ∙ ap (λ (l : List ℕ). take at d ++ (copied (drop at d) xs ++ l)) p
     ∙ ap (λ (l : List ℕ). take at d ++ l) (append-nil (copied (drop at d) xs))
     ∙ copied-over d xs at (omega arith)
+
+-- laying bytes over a list keeps its length
+pub length-over : (l xs : List ℕ) (at : ℕ) → at + length xs ≤ length l → length (over l at xs) ≡ length l
+length-over l xs at h = simp (length-append, length-take, length-drop) (omega arith)
+
+-- laid behind a front, bytes leave the front alone
+pub over-behind : (front l xs : List ℕ) (n : ℕ) → length front ≡ n → over (front ++ l) n xs ≡ front ++ xs ++ drop (length xs) l
+over-behind front l xs n e =
+    ap (λ (p : List ℕ). p ++ xs ++ drop (n + length xs) (front ++ l)) (take-at front l n e)
+    ∙ ap (λ (p : List ℕ). front ++ xs ++ p) (sym (drop-drop (length xs) n (front ++ l)) ∙ ap (drop (length xs)) (drop-at front l n e))
+
+-- and what stands behind as many others
+pub over-at : (front z rest xs : List ℕ) (n : ℕ) → length front ≡ n → length z ≡ length xs → over (front ++ (z ++ rest)) n xs ≡ front ++ xs ++ rest
+over-at front z rest xs n e f = over-behind front (z ++ rest) xs n e ∙ ap (λ (l : List ℕ). front ++ xs ++ l) (drop-at z rest (length xs) f)

@@ -6,22 +6,14 @@ use Prim.Native.Nat.{ℕ, suc, _+_, _-_, _≤_}
 use native.Mathlib.Nat.{add-zero}
 use native.Mathlib.Omega.{arith}
 use lib.ListN.{length, drop, set, replicate, length-append, length-replicate, replicate-append-replicate}
-use lib.Seq.{set-append-seam, take-at, drop-at}
+use lib.Seq.{set-append-seam}
 use Rattle.laws.specs.Copied.{over}
+use Rattle.laws.proofs.Copies.{over-at}
 use Rattle.memory.specs.Image.{joined, endPointers, imageSize, imageBytes}
 use Rattle.memory.specs.Laid.{withItem, laid}
 
 abbrev zeros : ℕ → List ℕ
 zeros n = replicate n 0
-
--- bytes laid over as many others
-over-at : (a b d xs : List ℕ) (n : ℕ) → length a ≡ n → length b ≡ length xs → over (a ++ (b ++ d)) n xs ≡ a ++ (xs ++ d)
-over-at a b d xs n e f =
-    let g : length (a ++ b) ≡ n + length xs = length-append a b ∙ (let k : length a + length b ≡ n + length xs = omega arith in k) in
-    ap (λ (l : List ℕ). l ++ xs ++ drop (n + length xs) (a ++ (b ++ d))) (take-at a (b ++ d) n e)
-    ∙ ap (λ (l : List ℕ). a ++ xs ++ drop (n + length xs) l) (sym (append-assoc a b d))
-    ∙ ap (λ (l : List ℕ). a ++ xs ++ l) (drop-at (a ++ b) d (n + length xs) g)
-    ∙ append-assoc a xs d
 
 -- an image under way: header and end pointers p, zeros for the n end pointers to come, the bytes d, and m zeros
 abbrev underWay : List ℕ → ℕ → List ℕ → ℕ → List ℕ

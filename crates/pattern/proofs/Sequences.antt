@@ -11,6 +11,7 @@ use lib.ListN.{length, take, drop, length-append, length-take, length-drop}
 use lib.Seq.{take-at}
 use Rattle.laws.specs.Bytes.{All}
 use Rattle.laws.specs.Copied.{over}
+use Rattle.laws.proofs.Copies.{length-over}
 use Rattle.errors.specs.Told.{Told, gives, refuses, Step}
 use Rattle.frame.specs.declared.Frame.{Frame}
 use Rattle.frame.specs.declared.FrameBuilder.{FrameBuilder}
@@ -41,9 +42,6 @@ over-shown : (d xs : List ℕ) (n : ℕ) → n + length xs ≤ length d → take
 over-shown d xs n h =
     take-at (take n d ++ xs) (drop (n + length xs) d) (n + length xs) (length-append (take n d) xs ∙ ap (λ (k : ℕ). k + length xs) (length-take n d ∙ omega arith))
 
-over-long : (d xs : List ℕ) (n : ℕ) → n + length xs ≤ length d → length (over d n xs) ≡ length d
-over-long d xs n h = simp (length-append, length-take, length-drop) (omega arith)
-
 pub frames-append : (xs ys : List FrameBuilder) → framesBytes (xs ++ ys) ≡ framesBytes xs ++ framesBytes ys
 frames-append [] ys = refl
 frames-append (x ∷ xs) ys = ap (λ (l : List ℕ). bytesOf x ++ l) (frames-append xs ys) ∙ sym (append-assoc (bytesOf x) (framesBytes xs) (framesBytes ys))
@@ -69,7 +67,7 @@ with-frame b fs x f e g h = full (decLe (b .len + length (frameBytes x)) 96) whe
       (inl (
         refl,
         record {
-          long = over-long (b .«data») (frameBytes x) (b .len) (let l = h .long in omega arith) ∙ h .long;
+          long = length-over (b .«data») (frameBytes x) (b .len) (let l = h .long in omega arith) ∙ h .long;
           shown = over-shown (b .«data») (frameBytes x) (b .len) (let l = h .long in omega arith)
               ∙ ap (λ (l : List ℕ). l ++ frameBytes x) (h .shown)
               ∙ ap (λ (l : List ℕ). framesBytes fs ++ l) e

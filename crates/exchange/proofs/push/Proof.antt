@@ -11,7 +11,8 @@ use Rattle.laws.specs.Copied.{over}
 use Rattle.exchange.specs.declared.Step.{Step}
 use Rattle.exchange.specs.Steps.{stepBytes}
 use Rattle.exchange.specs.State.{at, pushed}
-use Rattle.exchange.proofs.Laid.{length-over, pushed-more}
+use Rattle.laws.proofs.Copies.{length-over}
+use Rattle.exchange.proofs.Laid.{pushed-more}
 use Rattle.exchange.proofs.Plan.{length-step}
 use Rattle.exchange.proofs.push.Statement.{statement}
 use Rattle.exchange.proofs.push.Tie as tie
