@@ -51,14 +51,6 @@ module _ (b s w v : ℕ) where
       cut : (x : ℕ) → x / 2 ^ t ≡ x / 2 ^ (s + w) / 2 ^ j
       cut x = ap (λ (k : ℕ). x / 2 ^ k) (sym e) ∙ sym (shr-shr x (s + w) j)
 
-  -- a field that is zero: the value is added
-  fresh : getOf b s w ≡ 0 → spliced b s w v ≡ b + v % 2 ^ w * 2 ^ s
-  unfolding getOf
-  fresh h =
-      let p : b % 2 ^ (s + w) ≡ (b / 2 ^ s % 2 ^ w) * 2 ^ s + b % 2 ^ s = ap (λ (k : ℕ). b % 2 ^ k) (add-comm s w) ∙ mod-pow-add b w s in
-      let q : b % 2 ^ (s + w) ≡ b % 2 ^ s = p ∙ simp h (omega arith) in
-      omega (arith, split b (s + w))
-
 module _ (b s w v : ℕ) where
   -- a field within the byte is not cut
   whole : s + w ≤ 8 → withOf b s w v ≡ spliced b s w v
@@ -78,7 +70,3 @@ module _ (b s w v : ℕ) where
   pub with-above : (t u : ℕ) → s + w ≤ t → getOf (withOf b s w v) t u ≡ getOf b t u
   unfolding withOf
   with-above t u h = above b s (room s w) v t u (t - (s + room s w)) (omega arith)
-
-  -- where the field is still zero the value is added
-  pub with-fresh : s + w ≤ 8 → getOf b s w ≡ 0 → withOf b s w v ≡ b + v % 2 ^ w * 2 ^ s
-  with-fresh h z = whole h ∙ fresh b s w v z
