@@ -8,11 +8,12 @@ use mathlib.Core.List.{List, [], _∷_, _++_, cons-ne-nil}
 use lib.Dec.{ltb}
 use lib.ListN.{length, take, drop, length-drop}
 use lib.Seq.{getD-drop, drop-drop}
-use borrow.Author.Tests.{eq-eqb, eqb-true}
+use borrow.Author.Tests.{eq-eqb, eqb-true, ltb-true}
 use Rattle.exchange.specs.declared.Step.{Step}
 use Rattle.exchange.specs.declared.Step.the-variants.{Store}
 use Rattle.exchange.specs.State.{at, isSession, addressIn, brokenIn, madeIn, countIn, stepCount, readCount, imageIn, recordIn, bytesRead, stepIn, each, plan, left}
 use Rattle.exchange.specs.Turn.{going, moved}
+use Rattle.exchange.proofs.Left as steps
 use Rattle.exchange.proofs.Plan.{length-each, stepAt, plan-parts}
 
 -- ---- states that differ before byte 6 only
@@ -122,15 +123,6 @@ left-counts st x xs e =
     let h = longer (plan st) (madeIn st) x xs (g .steps) in
     (eqb-true _ _ (g .session), omega (arith, length-each (stepIn st) 0 (stepCount st + readCount st)))
 
--- once broken off it has none
-broken-left : (st : List ℕ) → brokenIn st ≡ true → left st ≡ []
-unfolding left
-broken-left st e = go (isSession st) e
-  where
-    go : (s : Bool) → brokenIn st ≡ true → cond (s && not (brokenIn st)) (drop (madeIn st) (plan st)) [] ≡ []
-    go false e = refl
-    go true e = rw e
-
 module _ (st : List ℕ) (x : Step) (xs : List Step) (e : left st ≡ x ∷ xs) where
   -- a move goes on to the next step
   pub left-moved : (a b c : ℕ) → left (moved st 0 a b c) ≡ xs
@@ -145,4 +137,4 @@ module _ (st : List ℕ) (x : Step) (xs : List Step) (e : left st ≡ x ∷ xs) 
 
   -- or breaks the session off
   pub left-broken : (a b c : ℕ) → left (moved st 1 a b c) ≡ []
-  left-broken a b c = broken-left (moved st 1 a b c) (moves st 1 a b c (left-going st x xs e .session) .broken)
+  left-broken a b c = steps.left-broken (moved st 1 a b c) (ltb-true 0 _ (moves st 1 a b c (left-going st x xs e .session) .broken))

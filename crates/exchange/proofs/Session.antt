@@ -1,6 +1,10 @@
 -- The theorem on sessions: over every list of answers the exchanges are those of the steps, in order, and the count is true.
 -- Assumes nothing.
-use Rattle.exchange.specs.Session.{Session}
+use mathlib.Core.Path.{_∙_, ap}
+use mathlib.Core.List.{reverseAux-eq}
+use lib.ListN.{take}
+use Rattle.exchange.specs.State.{bytesRead}
+use Rattle.exchange.specs.Session.{came, Session}
 use Rattle.exchange.proofs.Order.{follows}
 use Rattle.exchange.proofs.Turns.{refused}
 use Rattle.exchange.proofs.Takes.{takes, fails, tells, spares}
@@ -23,7 +27,7 @@ session = record {
   refused = refused;
   spares = spares;
   fills = λ st i n buffer replies. fills replies st i n buffer;
-  shows = λ st cs s. keeps cs st s .shows;
+  shows = λ st cs s. keeps cs st s .shows ∙ ap (take 3) (reverseAux-eq (came st cs) (bytesRead st));
   hands = λ st cs s. (keeps cs st s .session, keeps cs st s .handed);
   pushes = pushes;
   begins = begins;

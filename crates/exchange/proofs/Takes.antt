@@ -2,7 +2,7 @@
 -- Assumes nothing.
 use Prim.Native.Nat.{ℕ, zero-le, suc-le-suc}
 use mathlib.Core.Path.{_≡_, refl, sym, _∙_, ap}
-use mathlib.Core.Bool.{Bool, true, false, cond, not, _&&_, true≢false}
+use mathlib.Core.Bool.{Bool, true, false, cond, not, _&&_, true≢false, and-false}
 use mathlib.Core.List.{List, [], _∷_}
 use lib.Dec.{ltb, eqb}
 use lib.ListN.{length}
@@ -15,11 +15,6 @@ use Rattle.exchange.specs.declared.Fit.the-variants.{Unfit, Got, Wrong}
 use Rattle.exchange.specs.State.{countIn, left, noneLeft}
 use Rattle.exchange.specs.Turn.{pendingFor, fitsNext, changed, fitOf, stateAfter, bufferBy, bufferAfter, numberBy, codeBy, toldOf}
 use Rattle.exchange.specs.Session.{fitsExchange, taken, stores}
-
--- a test and one that fails
-and-false : (b : Bool) → b && false ≡ false
-and-false true = refl
-and-false false = refl
 
 -- every step sends something
 sends : (st : List ℕ) (x : Step) → ltb 0 (pendingFor st (x ∷ []) .len) ≡ true

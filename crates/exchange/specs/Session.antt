@@ -3,7 +3,7 @@
 use Prim.Native.Nat.{ℕ, _+_, _^_, _≤_, _<_, min}
 use mathlib.Core.Path.{_≡_}
 use mathlib.Core.Bool.{Bool, true, false, cond, not, _&&_}
-use mathlib.Core.List.{List, [], _∷_, _++_}
+use mathlib.Core.List.{List, [], _∷_, _++_, reverse}
 use lib.Dec.{ltb, eqb}
 use lib.ListN.{length, take, drop}
 use Rattle.laws.specs.Copied.{over}
@@ -133,11 +133,6 @@ stores (Match register value ∷ xs) = false
 stores (Chunk offset len ∷ xs) = false
 stores [] = false
 
--- bytes in the order in which they came, the latest in front of earlier ones
-abbrev pub latestFirst : List ℕ → List ℕ → List ℕ
-latestFirst [] earlier = earlier
-latestFirst (b ∷ bytes) earlier = latestFirst bytes (b ∷ earlier)
-
 -- ---- the theorem
 
 pub record Session : Type 0 where
@@ -169,9 +164,9 @@ pub record Session : Type 0 where
   -- memory reads from index i on fill the buffer from there, and change no other byte
   pub fills : (st : List ℕ) (i n : ℕ) (buffer : List ℕ) (replies : List Reply) → left st ≡ each Store i n → i + n ≤ length buffer →
       filled st buffer replies ≡ over buffer i (came st (lending st buffer replies))
-  -- the session shows the last three bytes that came
+  -- the session shows the last three bytes that came, the latest first
   pub shows : (st : List ℕ) (cs : List Call) → isSession st ≡ true →
-      bytesRead (final st cs) ≡ take 3 (latestFirst (came st cs) (bytesRead st))
+      bytesRead (final st cs) ≡ take 3 (reverse (came st cs) ++ bytesRead st)
   -- the record to hand back stays as it was begun with
   pub hands : (st : List ℕ) (cs : List Call) → isSession st ≡ true → (isSession (final st cs) ≡ true) × (recordIn (final st cs) ≡ recordIn st)
   -- pushing steps to a session that was begun is beginning it with these steps
