@@ -1,4 +1,4 @@
--- A frame as it is read back: an absent loop count that equals 0 is 0. Frames agree exactly when they are the same read back.
+-- Frames agree exactly when they are the same read back.
 -- Assumes nothing.
 use mathlib.Core.Path.{_≡_, refl, sym, ap, _∙_}
 use mathlib.Core.Bool.{Bool, true, false, cond}
@@ -8,22 +8,7 @@ use Rattle.frame.specs.declared.LoopCount.{LoopCount}
 use Rattle.frame.specs.declared.LoopCount.the-variants as LoopCount
 use Rattle.frame.specs.declared.Frequency.{Frequency}
 use Rattle.frame.specs.declared.FrameBuilder.{FrameBuilder}
-use Rattle.frame.specs.Agreement.{absentIsZero, LoopsAgree, Agree}
-
--- the loop count that stands in the bytes
-abbrev pub written : Bool → LoopCount → LoopCount
-written zero? (LoopCount.Given k) = LoopCount.Given k
-written zero? LoopCount.Absent = cond zero? (LoopCount.Given 0) LoopCount.Absent
-
-unfoldable pub canon : FrameBuilder → FrameBuilder
-canon f =
-    record {
-      «snippet_id» = f .«snippet_id»;
-      gain = f .gain;
-      timebase = f .timebase;
-      «loop_count» = written (absentIsZero (f .«snippet_id») (f .frequency)) (f .«loop_count»);
-      frequency = f .frequency;
-    }
+use Rattle.frame.specs.Agreement.{absentIsZero, LoopsAgree, Agree, written, canon}
 
 loops-agree : (z : Bool) (j k : LoopCount) → written z j ≡ written z k → LoopsAgree z j k
 loops-agree z LoopCount.Absent LoopCount.Absent e = tt

@@ -18,10 +18,9 @@ use Rattle.frame.specs.declared.LoopCount.the-variants as LoopCount
 use Rattle.frame.specs.declared.Frequency.{Frequency}
 use Rattle.frame.specs.declared.Frequency.the-variants as Frequency
 use Rattle.frame.specs.declared.FrameBuilder.{FrameBuilder}
-use Rattle.frame.specs.Agreement.{FrameAdmitted, LoopAdmitted, FrequencyAdmitted, absentIsZero}
+use Rattle.frame.specs.Agreement.{FrameAdmitted, LoopAdmitted, FrequencyAdmitted, absentIsZero, written, canon}
 use Rattle.frame.specs.Frame.{gainCode, timebaseCode, firstByte, secondByte, thirdByte, loopGiven, loops, bytesOf}
-use Rattle.frame.specs.Read.{gainAt, timebaseAt, fieldsIn, oneByte, twoBytes, threeBytes, Parsed, parsed, readThird, readSecond, readAfter, readFrame}
-use Rattle.frame.proofs.Canon.{written, canon}
+use Rattle.frame.specs.Read.{gainAt, timebaseAt, fieldsIn, oneByte, twoBytes, threeBytes, Parsed, parsed, readThird, readSecond, readAfter, readFrame, Starts}
 
 -- ---- codes, both ways
 
@@ -38,11 +37,6 @@ timebase-back «Ms43_52» = (refl, omega arith)
 timebase-back «Ms87_04» = (refl, omega arith)
 
 -- ---- what was written is read
-
--- what follows a frame begins no second byte
-abbrev pub Starts : List ℕ → Type 0
-Starts [] = Unit
-Starts (b ∷ r) = b < 128
 
 -- the first byte's fields, g and t being codes
 first-back : (g t n : ℕ) → g < 4 → t < 4 →

@@ -45,7 +45,7 @@ second-there : (a b v : ℕ) → 128 ≤ b → b < 256 → v ≡ b / 4 % 2 * 4 +
 second-there a b v l u e = sum (b / 128) (b / 8 % 16) (b / 4 % 2) (b / 2 % 2) (b % 2) v _ b (bits b u) (omega arith) (omega arith) e (high a b)
 
 -- what a parse is worth
-abbrev pub Sound : List ℕ → Parsed → Type 0
+abbrev Sound : List ℕ → Parsed → Type 0
 Sound l p = FrameAdmitted (p .frame) × (bytesOf (p .frame) ++ p .rest ≡ l)
 
 one-sound : (a : ℕ) (r : List ℕ) → a < 128 → Sound (a ∷ r) (record { frame = oneByte a; rest = r })
@@ -102,7 +102,7 @@ after-sound a (b ∷ r) p h v e = go (ltb b 128) refl e where
   go true d e = given _ _ p (one-sound a (b ∷ r) h) e
   go false d e = second-sound a b r p h (ltb-false b 128 d) (v .0) (v .1) e
 
-pub sound : (l : List ℕ) (p : Parsed) → Bytes l → readFrame l ≡ some p → Sound l p
+pub sound : (l : List ℕ) (p : Parsed) → Bytes l → readFrame l ≡ some p → FrameAdmitted (p .frame) × (bytesOf (p .frame) ++ p .rest ≡ l)
 unfolding readFrame
 sound [] p v e = never p e
 sound (a ∷ r) p v e = go (ltb a 128) refl e where

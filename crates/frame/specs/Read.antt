@@ -1,6 +1,6 @@
 -- The first frame of bytes (each below 256) that are frames laid end to end, and the bytes after it; none where the first one to three
 -- bytes rule that out: document 01, 'The hundred bytes'. proofs/Reading.antt and Written.antt: this undoes writing, and nothing else.
-use Prim.Native.Nat.{ℕ, _+_, _-_, _*_, _/_, _%_}
+use Prim.Native.Nat.{ℕ, _+_, _-_, _*_, _/_, _%_, _<_}
 use mathlib.Core.Bool.{cond}
 use mathlib.Core.List.{List, [], _∷_}
 use mathlib.Core.Option.{Option, none, some}
@@ -86,6 +86,11 @@ readAfter a (b ∷ r) = cond (ltb b 128) (parsed (oneByte a) (b ∷ r)) (readSec
 unfoldable pub readFrame : List ℕ → Option Parsed
 readFrame [] = none
 readFrame (a ∷ r) = cond (ltb a 128) (readAfter a r) none
+
+-- what follows a frame begins no second byte
+abbrev pub Starts : List ℕ → Type 0
+Starts [] = Unit
+Starts (b ∷ r) = b < 128
 
 -- ---- as the code answers it
 
