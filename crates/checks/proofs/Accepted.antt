@@ -1,4 +1,4 @@
--- What holds of settings that pass every check: the bounds that the conversions to register values rest on. Assumes nothing.
+-- Settings that pass every check are within the bounds. Assumes nothing.
 use Prim.Native.Nat.{ℕ, zero, suc, _≤_}
 use native.Mathlib.Omega.{arith}
 use mathlib.Core.Path.{_≡_, refl, _∙_, sym, ap}
@@ -11,25 +11,9 @@ use Rattle.config.specs.declared.DeviceConfig.{DeviceConfig}
 use Rattle.config.specs.declared.Trigger.{Trigger}
 use Rattle.config.specs.declared.Trigger.the-variants.{Absent, Given}
 use Rattle.config.specs.declared.Variant.{Variant}
+use Rattle.checks.specs.Accepted.{To15, Accepted}
 use Rattle.checks.specs.Checks.{tracking, etwm, above15, outsideBand, Check, configureChecks, firstFailing, configureNumber}
 use Rattle.checks.proofs.First.{failsAt}
-
--- a given trigger's sequence number is at most 15
-abbrev pub To15 : Trigger → Type 0
-To15 Absent = Unit
-To15 (Given t) = t .«sequence_id» ≤ 15
-
-pub record Accepted (a : ActuatorConfig) (d : DeviceConfig) : Type 0 where
-  pub nominal : a .«nominal_max_mV» ≤ 5990
-  pub absolute : a .«absolute_max_mV» ≤ 5990
-  pub current : (29 ≤ a .«max_current_mA») × (a .«max_current_mA» ≤ 252)
-  pub impedance : (4000 ≤ a .«impedance_mOhm») × (a .«impedance_mOhm» ≤ 49999)
-  pub frequency : (25 ≤ a .«frequency_Hz») × (a .«frequency_Hz» ≤ 1024)
-  pub frequency-tracking : tracking (d .«driving_mode») ≡ true → (50 ≤ a .«frequency_Hz») × (a .«frequency_Hz» ≤ 300)
-  pub rapid-stop : d .«rapid_stop» ≡ false
-  pub trigger-0 : etwm (d .«operation_mode») ≡ true → To15 (d .«gpi_trigger_0»)
-  pub trigger-1 : etwm (d .«operation_mode») ≡ true → To15 (d .«gpi_trigger_1»)
-  pub trigger-2 : etwm (d .«operation_mode») ≡ true → To15 (d .«gpi_trigger_2»)
 
 -- every check has a number above 0
 abbrev numbered : List Check → Bool

@@ -1,3 +1,4 @@
--- The definitions that the contracts of `convert` cite.
+-- The definitions that the contracts of `convert` cite, and what is whole.
 pub mod Convert
 pub mod Trim
+pub mod Whole
