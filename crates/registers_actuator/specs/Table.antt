@@ -1,9 +1,8 @@
 -- The parts of each register from FRQ_LRA_PER_H to TOP_CFG4, with the names and widths of registers.rs; padding is named
 -- `__`. Document 01, "Settings to registers": "A register's fields fill from bit 0 up in the written order".
-use mathlib.Core.Path.{_≡_, refl}
-use mathlib.Core.List.{List, [], _∷_, map}
+use mathlib.Core.List.{List, [], _∷_}
 use Prim.Native.String.{String}
-use Rattle.field.specs.Layout.{Part, part, total}
+use Rattle.field.specs.Layout.{Part, part}
 
 abbrev pub frq-lra-per-h : List Part
 frq-lra-per-h = part "LRA_PER_H" 8 ∷ []
@@ -42,7 +41,3 @@ tables = frq-lra-per-h ∷ frq-lra-per-l ∷ actuator1 ∷ actuator2 ∷ actuato
 -- the fields that registers.rs marks `access = RO`
 abbrev pub read-only : List String
 read-only = []
-
--- every register has eight bits
-pub eight : map total tables ≡ map (λ ps. 8) tables
-eight = refl

@@ -1,9 +1,8 @@
 -- The parts of each register from TOP_INT_CFG1 to SWG_C3, with the names and widths of registers.rs; padding is named `__`.
 -- Document 01, "Settings to registers": "A register's fields fill from bit 0 up in the written order".
-use mathlib.Core.Path.{_≡_, refl}
-use mathlib.Core.List.{List, [], _∷_, map}
+use mathlib.Core.List.{List, [], _∷_}
 use Prim.Native.String.{String}
-use Rattle.field.specs.Layout.{Part, part, total}
+use Rattle.field.specs.Layout.{Part, part}
 
 abbrev pub top-int-cfg1 : List Part
 top-int-cfg1 = part "BEMF_FAULT_LIM" 2 ∷ part "FRQ_LOCKED_LIM" 6 ∷ []
@@ -48,7 +47,3 @@ tables = top-int-cfg1 ∷ top-int-cfg6-h ∷ top-int-cfg6-l ∷ top-int-cfg7-h �
 -- the fields that registers.rs marks `access = RO`
 abbrev pub read-only : List String
 read-only = []
-
--- every register has eight bits
-pub eight : map total tables ≡ map (λ ps. 8) tables
-eight = refl

@@ -1,9 +1,8 @@
 -- The parts of each register from CHIP_REV to IRQ_MASK1, with the names and widths of registers.rs; padding is named `__`.
 -- Document 01, "Settings to registers": "A register's fields fill from bit 0 up in the written order".
-use mathlib.Core.Path.{_≡_, refl}
-use mathlib.Core.List.{List, [], _∷_, map}
+use mathlib.Core.List.{List, [], _∷_}
 use Prim.Native.String.{String}
-use Rattle.field.specs.Layout.{Part, part, total}
+use Rattle.field.specs.Layout.{Part, part}
 
 abbrev pub chip-rev : List Part
 chip-rev = part "CHIP_REV_MAJOR" 4 ∷ part "CHIP_REV_MINOR" 4 ∷ []
@@ -30,7 +29,3 @@ tables = chip-rev ∷ irq-event1 ∷ irq-event-warning-diag ∷ irq-event-seq-di
 -- the fields that registers.rs marks `access = RO`
 abbrev pub read-only : List String
 read-only = "CHIP_REV_MAJOR" ∷ "CHIP_REV_MINOR" ∷ []
-
--- every register has eight bits
-pub eight : map total tables ≡ map (λ ps. 8) tables
-eight = refl

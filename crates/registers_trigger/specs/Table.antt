@@ -1,9 +1,8 @@
 -- The parts of each register from SEQ_CTL2 to IRQ_MASK2, with the names and widths of registers.rs; padding is named `__`.
 -- Document 01, "Settings to registers": "A register's fields fill from bit 0 up in the written order".
-use mathlib.Core.Path.{_≡_, refl}
-use mathlib.Core.List.{List, [], _∷_, map}
+use mathlib.Core.List.{List, [], _∷_}
 use Prim.Native.String.{String}
-use Rattle.field.specs.Layout.{Part, part, total}
+use Rattle.field.specs.Layout.{Part, part}
 
 abbrev pub seq-ctl2 : List Part
 seq-ctl2 = part "PS_SEQ_ID" 4 ∷ part "PS_SEQ_LOOP" 4 ∷ []
@@ -45,7 +44,3 @@ tables = seq-ctl2 ∷ gpi-0-ctl ∷ gpi-1-ctl ∷ gpi-2-ctl ∷ mem-ctl1 ∷ mem
 -- the fields that registers.rs marks `access = RO`
 abbrev pub read-only : List String
 read-only = "WAV_MEM_BASE_ADDR" ∷ []
-
--- every register has eight bits
-pub eight : map total tables ≡ map (λ ps. 8) tables
-eight = refl
