@@ -16,13 +16,14 @@ ghost use Rattle.laws.specs.Copied.{copied};
 ghost use Rattle.assemble.specs.Assembled.{first, numbers, patternCallsIn, assembled, imageOut};
 ghost use Rattle.content.specs.ReadImage.{readImage};
 ghost use Rattle.readings.specs.Readings.{countsWord, pointIn, frameIn};
+ghost use Rattle.field.specs.Field.{codeOf};
 ghost use Rattle.field.specs.Layout.{readings, replacements};
 ghost use Rattle.registers.specs.Addresses.{addresses};
 ghost use Rattle.registers_interrupts.specs.Table as interrupts;
 ghost use Rattle.registers_actuator.specs.Table as actuator;
 ghost use Rattle.registers_control.specs.Table as control;
 ghost use Rattle.registers_trigger.specs.Table as trigger;
-ghost use Rattle.capi.specs.Points.{pointWord, flagByte};
+ghost use Rattle.capi.specs.Points.{pointWord};
 ghost use Rattle.capi.specs.Items.{buildersOf, snippetOf, frameOf, sequenceOf, answered, itemWord, itemOut};
 use snippet::PointAnswer;
 use snippet::PwlPoint;
@@ -49,7 +50,7 @@ pub extern "C" fn da728x_point(ramp: u8, timebases: u8, amplitude: u8) -> u16
 
 #[no_mangle]
 pub extern "C" fn da728x_point_is_ramp(byte: u8) -> u8
-    ensures { λ r. ⌜ r ≡ flagByte (rampIn byte) ⌝ }
+    ensures { λ r. ⌜ r ≡ codeOf (rampIn byte) ⌝ }
 {
     PwlPoint::from_byte(byte).is_ramp() as u8
 }

@@ -1,20 +1,16 @@
 -- A point is one byte: document 01, 'Points, frames, sequences'. "A bad length is told before a bad amplitude".
 use Prim.Native.Nat.{ℕ, _+_, _-_, _*_, _/_, _%_, _≤_}
 use mathlib.Core.Path.{_≡_}
-use mathlib.Core.Bool.{Bool, true, false, cond}
+use mathlib.Core.Bool.{Bool, cond}
 use lib.Dec.{ltb, eqb}
 use Rattle.errors.specs.Number.{errorNumber}
 use Rattle.errors.specs.Told.{Told, gives, refuses}
 use Rattle.snippet.specs.declared.PointAnswer.{PointAnswer}
 use Rattle.snippet.specs.declared.PointAnswer.the-variants as PointAnswer
 
-abbrev pub bit : Bool → ℕ
-bit true = 1
-bit false = 0
-
 -- bit 7 set for a ramp, bits 6..4 length − 1, bits 3..0 amplitude; for a length of 1..8 and an amplitude of 0..15 only
 abbrev pub pointByte : Bool → ℕ → ℕ → ℕ
-pointByte ramp timebases amplitude = bit ramp * 128 + (timebases - 1) * 16 + amplitude
+pointByte ramp timebases amplitude = cond ramp 128 0 + (timebases - 1) * 16 + amplitude
 
 -- a ramp (true) or a step (false): 1 for a length that is not 1..8, else 2 for an amplitude above 15, else the byte
 abbrev pub point : Bool → ℕ → ℕ → Told ℕ
