@@ -3,7 +3,7 @@
 use mathlib.Core.Path.{_≡_, refl, sym, ap, _∙_}
 use mathlib.Core.Bool.{Bool, true, false, cond}
 use mathlib.Core.List.{List, [], _∷_}
-use Prim.Native.Nat.{ℕ, zero, suc, _+_, _-_, _≤_, _<_}
+use Prim.Native.Nat.{ℕ, suc, _+_, _-_, _≤_, _<_}
 use native.Mathlib.Omega.{arith}
 use lib.Dec.{eqb, ltb}
 use lib.ListN.{length, set, drop, getD}
@@ -15,39 +15,18 @@ use Rattle.memory.specs.declared.WaveformMemory.{WaveformMemory}
 use Rattle.calls.specs.declared.Builders.{Builders}
 use Rattle.calls.specs.Calls as calls
 use Rattle.calls.specs.Calls.{callAt}
+use Rattle.calls.proofs.Turns.{fours-next, fours-none}
 use Rattle.memory.specs.declared.WaveformMemoryBuilder.{WaveformMemoryBuilder}
 use Rattle.assemble.specs.Assembled.{PatternCall, small, addSnippet, addSequence, State, onBuilders, onMemory, called, after, numbers, patternCallAt, patternCallsIn, kindAt, withItem, imageOut}
 
-next : (l : List ℕ) (at : ℕ) → at + 4 ≤ length l
-    → patternCallsIn (drop at l) ≡ patternCallAt (getD l at 0) (getD l (suc at) 0) (getD l (suc (suc at)) 0) ∷ patternCallsIn (drop (suc (suc (suc (suc at)))) l)
-unfolding patternCallsIn
-next [] at h = absurd (omega arith)
-next (k ∷ []) zero h = absurd (omega arith)
-next (k ∷ a ∷ []) zero h = absurd (omega arith)
-next (k ∷ a ∷ b ∷ []) zero h = absurd (omega arith)
-next (k ∷ a ∷ b ∷ c ∷ r) zero h = refl
-next (k ∷ r) (suc at) h = next r at (omega arith)
-
 calls-next : (l : List ℕ) (at : ℕ) → at + 4 ≤ length l
     → patternCallsIn (drop at l) ≡ patternCallAt (getD l at 0) (getD l (at + 1) 0) (getD l (at + 2) 0) ∷ patternCallsIn (drop (at + 4) l)
-calls-next l at h =
-    let a : at + 1 ≡ suc at = omega arith in
-    let b : at + 2 ≡ suc (suc at) = omega arith in
-    let d : at + 4 ≡ suc (suc (suc (suc at))) = omega arith in
-    rw (a, b, d) (next l at h)
-
-short : (l : List ℕ) → length l < 4 → patternCallsIn l ≡ []
 unfolding patternCallsIn
-short [] h = refl
-short (k ∷ []) h = refl
-short (k ∷ a ∷ []) h = refl
-short (k ∷ a ∷ b ∷ []) h = refl
-short (k ∷ a ∷ b ∷ c ∷ r) h = absurd (omega arith)
+calls-next = fours-next patternCallAt
 
 pub calls-none : (l : List ℕ) (at : ℕ) → length l - at < 4 → patternCallsIn (drop at l) ≡ []
-calls-none l zero h = short l (omega arith)
-calls-none [] (suc at) h = short [] (omega arith)
-calls-none (k ∷ r) (suc at) h = calls-none r at (omega arith)
+unfolding patternCallsIn
+calls-none = fours-none patternCallAt
 
 -- which call a code says, by its kind
 pub small-call : (code a b k : ℕ) → k ≡ kindAt code → k ≤ 0 → patternCallAt code a b ≡ small (callAt code a b)

@@ -10,7 +10,7 @@ use Rattle.sequence.specs.Sequence.{builtSequence}
 use Rattle.calls.specs.declared.Call.{Call}
 use Rattle.calls.specs.declared.Builders.{Builders}
 use Rattle.calls.specs.Calls as calls
-use Rattle.calls.specs.Calls.{callAt, started}
+use Rattle.calls.specs.Calls.{callAt, inFours, started}
 use Rattle.memory.specs.declared.WaveformMemory.{WaveformMemory}
 use Rattle.memory.specs.declared.WaveformMemoryBuilder.{WaveformMemoryBuilder}
 use Rattle.memory.specs.Memory.{newMemory, builtMemory}
@@ -54,11 +54,7 @@ abbrev pub patternCallAt : ℕ → ℕ → ℕ → PatternCall
 patternCallAt code a b = cond (eqb code 13) addSnippet (cond (eqb code 14) addSequence (small (callAt code a b)))
 
 unfoldable pub patternCallsIn : List ℕ → List PatternCall
-patternCallsIn [] = []
-patternCallsIn (code ∷ []) = []
-patternCallsIn (code ∷ a ∷ []) = []
-patternCallsIn (code ∷ a ∷ b ∷ []) = []
-patternCallsIn (code ∷ a ∷ b ∷ last ∷ r) = patternCallAt code a b ∷ patternCallsIn r
+patternCallsIn bytes = inFours patternCallAt bytes
 
 -- 1 for a call that adds the snippet, 2 for one that adds the sequence, 0 for any other
 abbrev pub kindAt : ℕ → ℕ

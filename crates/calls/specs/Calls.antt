@@ -94,9 +94,12 @@ abbrev pub callAt : ℕ → ℕ → ℕ → Call
 callAt code a b = getD (codes a b) code Call.Nothing
 
 -- records of four bytes, the last of which says nothing; a shorter last record says nothing
+abbrev pub inFours : {K : Type 0} → (ℕ → ℕ → ℕ → K) → List ℕ → List K
+inFours call [] = []
+inFours call (code ∷ []) = []
+inFours call (code ∷ a ∷ []) = []
+inFours call (code ∷ a ∷ b ∷ []) = []
+inFours call (code ∷ a ∷ b ∷ last ∷ r) = call code a b ∷ inFours call r
+
 unfoldable pub callsIn : List ℕ → List Call
-callsIn [] = []
-callsIn (code ∷ []) = []
-callsIn (code ∷ a ∷ []) = []
-callsIn (code ∷ a ∷ b ∷ []) = []
-callsIn (code ∷ a ∷ b ∷ last ∷ r) = callAt code a b ∷ callsIn r
+callsIn bytes = inFours callAt bytes
