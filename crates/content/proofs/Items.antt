@@ -86,7 +86,7 @@ counts-sound s q t =
 counts-complete : (s q : ℕ) → 1 ≤ s → s ≤ 15 → 1 ≤ q → q ≤ 16 → countsFit s q ≡ true
 counts-complete s q a b c d = simp (le-leb 1 s a, le-leb s 15 b, le-leb 1 q c, le-leb q 16 d)
 
-pub length-pointers : (before : ℕ) (xs : List (List ℕ)) → length (endPointers before xs) ≡ length xs
+pub length-pointers : {A : Type 0} (before : ℕ) (xs : List (List A)) → length (endPointers before xs) ≡ length xs
 length-pointers before [] = refl
 length-pointers before (x ∷ xs) = ap suc (length-pointers (before + length x) xs)
 

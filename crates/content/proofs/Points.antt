@@ -27,7 +27,7 @@ points-good : (bs : List ℕ) → All Good (pointsIn bs)
 points-good [] = tt
 points-good (b ∷ bs) = (byte-admitted b, points-good bs)
 
-points-there : (bs : List ℕ) → Bytes bs → pointBytes (pointsIn bs) ≡ bs
+pub points-there : (bs : List ℕ) → Bytes bs → pointBytes (pointsIn bs) ≡ bs
 points-there [] h = refl
 points-there (b ∷ bs) h = cons-eq (byte-back b (h .0)) (points-there bs (h .1))
 

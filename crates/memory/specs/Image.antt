@@ -4,12 +4,12 @@ use mathlib.Core.List.{List, [], _∷_, _++_}
 use lib.ListN.{length, replicate}
 
 -- the items' bytes, one after the other
-abbrev pub joined : List (List ℕ) → List ℕ
+abbrev pub joined : {A : Type 0} → List (List A) → List A
 joined [] = []
 joined (x ∷ xs) = x ++ joined xs
 
 -- the index of each item's last byte, where the byte before the first item stands at index `before`
-abbrev pub endPointers : ℕ → List (List ℕ) → List ℕ
+abbrev pub endPointers : {A : Type 0} → ℕ → List (List A) → List ℕ
 endPointers before [] = []
 endPointers before (x ∷ xs) = (before + length x) ∷ endPointers (before + length x) xs
 

@@ -10,63 +10,60 @@ use lib.Dec.{ltb, leb}
 use lib.ListN.{length, length-append}
 use Rattle.memory.specs.Image.{joined}
 use Rattle.frame.specs.declared.FrameBuilder.{FrameBuilder}
+use Rattle.frame.specs.Builder.{silentFrame}
 use Rattle.frame.specs.Read.{Parsed, readFrame}
 use Rattle.content.specs.ReadImage.{andThen, every, readFrames, readSequence}
-use Rattle.content.proofs.Codec.{none-some, some-inj, cond-some, then-some}
+use Rattle.content.proofs.Codec.{none-some, some-inj, cond-some, then-some, cons-eq}
 use Rattle.reader.specs.declared.Points.{Points}
 use Rattle.reader.specs.declared.Frames.{Frames}
 use Rattle.reader.specs.Reading.{noPoints, noFrames}
 use Rattle.reader.specs.Flat.{pushPoint, pushPoints, pushFrame, endSnippet, endSequence}
 use Rattle.reader.specs.Walk.{runFrames, snippetStep, sequenceStep}
 use Rattle.reader.proofs.Cuts.{inTurn}
-use Rattle.reader.proofs.Flats.{Flat, push, pushAll, close, Holds, pushed, add-list, ended, close-on}
+use Rattle.reader.proofs.Flats.{Flat, push, pushAll, close, joined-snoc, flatOf, add-list}
 use Rattle.reader.proofs.Running.{rest}
 
 -- ---- any state that shows a flat list of lists
 
-module _ {A S : Type 0} (most : ℕ) (flat : S → Flat A) where
+module _ {A S : Type 0} (blank : A) (most : ℕ) (flat : S → Flat A) where
   -- both read nothing, or the state holds the lists behind those that it held
   abbrev pub Tracks : List (List A) → Option S → Option (List (List A)) → Type 0
   Tracks xs none none = Unit {0}
   Tracks xs none (some ys) = ⊥
   Tracks xs (some o) none = ⊥
-  Tracks xs (some o) (some ys) = Holds most (flat o) (xs ++ ys)
+  Tracks xs (some o) (some ys) = flat o ≡ flatOf blank most (xs ++ ys)
 
   tracks-put : (xs : List (List A)) (x : List A) (m : Option S) (n : Option (List (List A))) → Tracks (xs ++ x ∷ []) m n
       → Tracks xs m (andThen n (λ ys. some (x ∷ ys)))
   tracks-put xs x none none s = s
   tracks-put xs x none (some ys) s = s
   tracks-put xs x (some o) none s = s
-  tracks-put xs x (some o) (some ys) s = subst (λ (l : List (List A)). Holds most (flat o) l) (append-assoc xs (x ∷ []) ys) s
+  tracks-put xs x (some o) (some ys) s = s ∙ ap (flatOf blank most) (append-assoc xs (x ∷ []) ys)
 
   module _ (step : List ℕ → S → Option S) (raw : List ℕ → Option (List A)) (add : S → List A → S)
       (hs : (bs : List ℕ) (o : S) → step bs o ≡ andThen (raw bs) (λ x. some (add o x)))
       (hl : (bs : List ℕ) (x : List A) → raw bs ≡ some x → length x ≤ length bs)
       (ha : (o : S) (x : List A) → flat (add o x) ≡ close most (pushAll (flat o) x)) where
-    pub tracks : (items : List (List ℕ)) (o : S) (xs : List (List A)) → Holds most (flat o) xs
-        → flat o .len + length (joined items) ≤ 96 → flat o .count + length items ≤ most
+    pub tracks : (items : List (List ℕ)) (o : S) (xs : List (List A)) → flat o ≡ flatOf blank most xs
+        → length (joined xs) + length (joined items) ≤ 96 → length xs + length items ≤ most
         → Tracks xs (inTurn step items o) (every raw items)
-    tracks [] o xs h f g = subst (λ (l : List (List A)). Holds most (flat o) l) (sym (append-nil xs)) h
+    tracks [] o xs h f g = h ∙ ap (flatOf blank most) (sym (append-nil xs))
     tracks (bs ∷ items) o xs h f g =
         subst (λ (m : Option S). Tracks xs (andThen m (λ o′. inTurn step items o′)) (every raw (bs ∷ items))) (sym (hs bs o))
         (go (tracks items) (raw bs) refl)
       where
-        go : ((o : S) (xs : List (List A)) → Holds most (flat o) xs → flat o .len + length (joined items) ≤ 96 → flat o .count + length items ≤ most → Tracks xs (inTurn step items o) (every raw items))
+        go : ((o : S) (xs : List (List A)) → flat o ≡ flatOf blank most xs → length (joined xs) + length (joined items) ≤ 96 → length xs + length items ≤ most → Tracks xs (inTurn step items o) (every raw items))
             → (m : Option (List A)) → raw bs ≡ m
             → Tracks xs (andThen (andThen m (λ x. some (add o x))) (λ o′. inTurn step items o′)) (andThen m (λ x. andThen (every raw items) (λ ys. some (x ∷ ys))))
         go ih none k = tt
         go ih (some x) k =
             let n = hl bs x k in
             let j = length-append bs (joined items) in
-            let b : flat (add o x) ≡ close most (pushAll (flat o) x) = ha o x in
-            let q = pushed x (flat o) (h .size) (omega arith) in
-            let hh : Holds most (close most (pushAll (flat o) x)) (xs ++ x ∷ []) = add-list most (flat o) xs x h (omega arith) (omega arith) in
-            let r : Flat A = pushAll (flat o) x in
-            let c : close most r ≡ ended r = close-on most r (omega (arith, q .count)) in
-            let l : flat (add o x) .len ≡ flat o .len + length x = ap (λ (z : Flat A). z .len) (b ∙ c) ∙ q .long in
-            let d : flat (add o x) .count ≡ flat o .count + 1 = ap (λ (z : Flat A). z .count) (b ∙ c) ∙ ap (λ (i : ℕ). i + 1) (q .count) in
-            tracks-put xs x (inTurn step items (add o x)) (every raw items)
-            (ih (add o x) (xs ++ x ∷ []) (subst (λ (z : Flat A). Holds most z (xs ++ x ∷ [])) (sym b) hh) (omega arith) (omega arith))
+            let e : flat (add o x) ≡ flatOf blank most (xs ++ x ∷ []) =
+            ha o x ∙ ap (λ (z : Flat A). close most (pushAll z x)) h ∙ add-list blank most xs x (omega arith) (omega arith) in
+            let l : length (joined (xs ++ x ∷ [])) ≡ length (joined xs) + length x = ap length (joined-snoc xs x) ∙ length-append (joined xs) x in
+            let c = length-append xs (x ∷ []) in
+            tracks-put xs x (inTurn step items (add o x)) (every raw items) (ih (add o x) (xs ++ x ∷ []) e (omega arith) (omega arith))
 
 -- ---- points
 
@@ -97,6 +94,13 @@ raw-long : (bs x : List ℕ) → rawSnippet bs ≡ some x → length x ≤ lengt
 raw-long bs x e =
     let k = ap length (some-inj (cond-some (leb 1 (length bs) && leb (length bs) 16) (some bs) e .1)) in omega arith
 
+pub raw-same : (items xs : List (List ℕ)) → every rawSnippet items ≡ some xs → items ≡ xs
+raw-same [] xs e = some-inj e
+raw-same (bs ∷ items) xs e =
+    let (x, e₁, e₂) = then-some (rawSnippet bs) (λ x. andThen (every rawSnippet items) (λ ys. some (x ∷ ys))) e in
+    let (ys, e₃, e₄) = then-some (every rawSnippet items) (λ ys. some (x ∷ ys)) e₂ in
+    cons-eq (some-inj (cond-some (leb 1 (length bs) && leb (length bs) 16) (some bs) e₁ .1)) (raw-same items ys e₃) ∙ some-inj e₄
+
 abbrev addSnippet : Points → List ℕ → Points
 addSnippet o x = endSnippet (pushPoints o x)
 
@@ -109,10 +113,10 @@ unfolding snippetStep
 snippet-raw bs o = cond-some-then (leb 1 (length bs) && leb (length bs) 16) bs (addSnippet o)
 
 pub tracks-snippets : (items : List (List ℕ)) → length (joined items) ≤ 96 → length items ≤ 15
-    → Tracks 15 flatPoints [] (inTurn snippetStep items noPoints) (every rawSnippet items)
+    → Tracks 0 15 flatPoints [] (inTurn snippetStep items noPoints) (every rawSnippet items)
 tracks-snippets items f g =
-    tracks 15 flatPoints snippetStep rawSnippet addSnippet snippet-raw raw-long (λ o x. flatPoints-end (pushPoints o x) ∙ ap (close 15) (flatPoints-all x o)) items noPoints []
-    (record { size = refl; room = refl; took = refl; long = refl; count = refl; at = refl }) (omega arith) (omega arith)
+    tracks 0 15 flatPoints snippetStep rawSnippet addSnippet snippet-raw raw-long (λ o x. flatPoints-end (pushPoints o x) ∙ ap (close 15) (flatPoints-all x o)) items noPoints []
+    refl (omega arith) (omega arith)
 
 -- ---- frames
 
@@ -185,7 +189,7 @@ sequence-raw bs o =
     go false q = refl
 
 pub tracks-sequences : (items : List (List ℕ)) → length (joined items) ≤ 96 → length items ≤ 16
-    → Tracks 16 flatFrames [] (inTurn sequenceStep items noFrames) (every readSequence items)
+    → Tracks silentFrame 16 flatFrames [] (inTurn sequenceStep items noFrames) (every readSequence items)
 tracks-sequences items f g =
-    tracks 16 flatFrames sequenceStep readSequence addSequence sequence-raw sequence-long (λ o x. flatFrames-end (pushFrames o x) ∙ ap (close 16) (flatFrames-all x o)) items noFrames []
-    (record { size = refl; room = refl; took = refl; long = refl; count = refl; at = refl }) (omega arith) (omega arith)
+    tracks silentFrame 16 flatFrames sequenceStep readSequence addSequence sequence-raw sequence-long (λ o x. flatFrames-end (pushFrames o x) ∙ ap (close 16) (flatFrames-all x o)) items noFrames []
+    refl (omega arith) (omega arith)

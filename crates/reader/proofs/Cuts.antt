@@ -8,11 +8,12 @@ use Prim.Native.Nat.{ℕ, suc, _+_, _-_, _≤_, _<_}
 use native.Mathlib.Omega.{arith}
 use borrow.Author.Tests.{le-leb, lt-leb, ltb-true, ltb-false, leb-true}
 use lib.Dec.{ltb, leb}
-use lib.ListN.{length, take, drop, length-append, length-take, length-drop}
+use lib.ListN.{length, take, drop, length-append, length-take, length-drop, take-append-drop}
 use lib.Seq.{drop-drop}
+use Rattle.laws.specs.Bytes.{All, Bytes}
 use Rattle.memory.specs.Image.{joined}
 use Rattle.content.specs.ReadImage.{andThen, Cut, cut}
-use Rattle.content.proofs.Codec.{some-inj, cond-some, then-some}
+use Rattle.content.proofs.Codec.{some-inj, cond-some, then-some, all-left, all-right}
 use Rattle.reader.specs.Walk.{Walked, item, walk}
 
 -- the last of the pointers
@@ -100,16 +101,23 @@ cut-append (e ∷ es) p fs l =
 
 -- ---- what was cut
 
+part-bytes : (n : ℕ) (l : List ℕ) → Bytes l → Bytes (take n l)
+part-bytes n l h = all-left (λ b. b < 256) (take n l) (drop n l) (subst Bytes (sym (take-append-drop n l)) h)
+
+rest-bytes : (n : ℕ) (l : List ℕ) → Bytes l → Bytes (drop n l)
+rest-bytes n l h = all-right (λ b. b < 256) (take n l) (drop n l) (subst Bytes (sym (take-append-drop n l)) h)
+
 pub record WasCut (p : ℕ) (es image : List ℕ) (c : Cut) : Type 0 where
   pub left : c .left ≡ drop (lastOf p es + 1) image
   pub count : length (c .items) ≡ length es
   pub rises : p ≤ lastOf p es
   pub size : length (joined (c .items)) + p ≤ lastOf p es
   pub within : p < length image → lastOf p es < length image
+  pub bytes : Bytes image → All Bytes (c .items)
 
 pub was-cut : (es : List ℕ) (p : ℕ) (image : List ℕ) (c : Cut) → cut p es (drop (p + 1) image) ≡ some c → WasCut p es image c
 was-cut [] p image c h =
-    subst (λ (d : Cut). WasCut p [] image d) (some-inj h) (record { left = refl; count = refl; rises = omega arith; size = omega arith; within = λ k. k })
+    subst (λ (d : Cut). WasCut p [] image d) (some-inj h) (record { left = refl; count = refl; rises = omega arith; size = omega arith; within = λ k. k; bytes = λ k. tt })
 was-cut (e ∷ es) p image c h =
     let l : List ℕ = drop (p + 1) image in
     let (t, h₁) = cond-some (ltb p e && leb (e - p) (length l)) _ h in
@@ -128,4 +136,5 @@ was-cut (e ∷ es) p image c h =
       rises = omega (arith, w .rises);
       size = omega (arith, w .size);
       within = λ j. w .within (omega arith);
+      bytes = λ j. (part-bytes (e - p) l (rest-bytes (p + 1) image j), w .bytes j);
     })

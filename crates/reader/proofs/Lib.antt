@@ -4,4 +4,5 @@ pub mod Flats
 pub mod Found
 pub mod Loops
 pub mod Running
+pub mod Told
 pub mod Whole

@@ -1,4 +1,4 @@
--- What the code reads is what the definition reads, and what it refuses is empty.
+-- What the code reads is what the definition reads, laid end to end.
 -- Assumes nothing.
 use mathlib.Core.Path.{_≡_, refl, sym, ap, _∙_, subst}
 use mathlib.Core.Bool.{Bool, true, false, cond, _&&_}
@@ -8,32 +8,42 @@ use Prim.Native.Nat.{ℕ, suc, _+_, _≤_, _<_}
 use native.Mathlib.Omega.{arith}
 use borrow.Author.Tests.{eq-eqb, eqb-true, eqb-false, ne-eqb}
 use lib.Dec.{leb, eqb}
-use lib.ListN.{length, take, drop, length-take}
+use lib.ListN.{length, take, drop, getD, length-take}
 use lib.Seq.{take-add, take-at, drop-at, length-take-le}
+use Rattle.laws.specs.Bytes.{All, Bytes}
 use Rattle.errors.specs.Told.{gives}
 use Rattle.errors.specs.declared.Answer.the-variants as Answer
 use Rattle.frame.specs.declared.FrameBuilder.{FrameBuilder}
-use Rattle.content.specs.Content.{Point, Content}
+use Rattle.frame.specs.Builder.{silentFrame}
+use Rattle.content.specs.Content.{Point, Content, pointBytes}
 use Rattle.content.specs.ReadImage.{andThen, every, pointsIn, readSnippet, readSequence, Cut, cut, allZero, Items, countsFit, itemsFrom, readItems, contentFrom, readImage}
+use Rattle.content.proofs.Codec.{cons-eq}
+use Rattle.content.proofs.Points.{points-there}
+use Rattle.content.proofs.Items.{counts-sound}
 use Rattle.reader.specs.declared.Points.{Points}
 use Rattle.reader.specs.declared.Frames.{Frames}
 use Rattle.reader.specs.declared.Reading.{Reading}
-use Rattle.reader.specs.Reading.{noPoints, noFrames, readingTold, imageTold, RefusedEmpty}
+use Rattle.reader.specs.Reading.{noPoints, noFrames, readingOf}
 use Rattle.reader.specs.Walk.{snippetStep, sequenceStep, walkSequences, noReading, sequencesThen, afterSnippets, snippetsThen, afterCounts, scanned}
-use Rattle.reader.proofs.Capacity.{Tracks, flatPoints, flatFrames, rawSnippet, tracks-snippets, tracks-sequences}
+use Rattle.reader.proofs.Told.{readingTold, imageTold}
+use Rattle.reader.proofs.Capacity.{Tracks, flatPoints, flatFrames, rawSnippet, raw-same, tracks-snippets, tracks-sequences}
 use Rattle.reader.proofs.Cuts.{lastOf, inTurn, afterCut, walk-cut, joinCut, cutMore, cut-append, cond-then, WasCut, was-cut}
-use Rattle.reader.proofs.Flats.{shows}
-use Rattle.content.proofs.Items.{counts-sound}
+use Rattle.reader.proofs.Flats.{flatOf, shows}
+
+-- what is below 256 everywhere is a list of bytes
+pub bytes-of : (l : List ℕ) → ((i : ℕ) → getD l i 0 < 256) → Bytes l
+bytes-of [] h = tt
+bytes-of (b ∷ l) h = (h 0, bytes-of l (λ i. h (suc i)))
 
 -- a reading is right for what the definition reads
-abbrev pub Right : Option Content → Reading → Type 0
-Right o r = (readingTold r ≡ imageTold o) × RefusedEmpty (r .answer) r
+abbrev Right : Option Content → Reading → Type 0
+Right o r = (readingTold r ≡ imageTold o) × (r ≡ readingOf o)
 
 via : {o o′ : Option Content} {r r′ : Reading} → o ≡ o′ → r ≡ r′ → Right o′ r′ → Right o r
 via {o} {o′} {r} {r′} p e x = subst (λ (y : Reading). Right o y) (sym e) (subst (λ (y : Option Content). Right y r′) (sym p) x)
 
 none-right : Right none noReading
-none-right = (refl, (refl, refl))
+none-right = (refl, refl)
 
 refused-right : {o : Option Content} → o ≡ none → Right o noReading
 refused-right e = subst (λ (y : Option Content). Right y noReading) (sym e) none-right
@@ -66,19 +76,31 @@ cond-none : (t : Bool) → Right (cond t none none) noReading
 cond-none true = none-right
 cond-none false = none-right
 
-last-step : (t : Bool) (m : Option Points) (x : Option (List (List ℕ))) → Tracks 15 flatPoints [] m x
-    → (n : Option Frames) (y : Option (List (List FrameBuilder))) → Tracks 16 flatFrames [] n y → Right (cond t (made x y) none) (reads t m n)
-last-step t none none k n y j = cond-none t
-last-step t none (some xs) k n y j = absurd k
-last-step t (some s) none k n y j = absurd k
-last-step t (some s) (some xs) k none none j = cond-none t
-last-step t (some s) (some xs) k none (some ys) j = absurd j
-last-step t (some s) (some xs) k (some q) none j = absurd j
-last-step false (some s) (some xs) k (some q) (some ys) j = none-right
-last-step true (some s) (some xs) k (some q) (some ys) j =
-    let a = shows 15 (flatPoints s) xs k in
-    let b = shows 16 (flatFrames q) ys j in
-    ((λ i. gives (record { snippets = map pointsIn (a i); sequences = b i })), tt)
+-- snippets by their bytes are their points
+there : (xs : List (List ℕ)) → All Bytes xs → xs ≡ map pointBytes (map pointsIn xs)
+there [] h = refl
+there (x ∷ xs) h = cons-eq (sym (points-there x (h .0))) (there xs (h .1))
+
+last-step : (t : Bool) (m : Option Points) (x : Option (List (List ℕ))) → Tracks 0 15 flatPoints [] m x → ((xs : List (List ℕ)) → x ≡ some xs → All Bytes xs)
+    → (n : Option Frames) (y : Option (List (List FrameBuilder))) → Tracks silentFrame 16 flatFrames [] n y → Right (cond t (made x y) none) (reads t m n)
+last-step t none none k w n y j = cond-none t
+last-step t none (some xs) k w n y j = absurd k
+last-step t (some s) none k w n y j = absurd k
+last-step t (some s) (some xs) k w none none j = cond-none t
+last-step t (some s) (some xs) k w none (some ys) j = absurd j
+last-step t (some s) (some xs) k w (some q) none j = absurd j
+last-step false (some s) (some xs) k w (some q) (some ys) j = none-right
+last-step true (some s) (some xs) k w (some q) (some ys) j =
+    let a = shows 0 15 (flatPoints s) xs k in
+    let b = shows silentFrame 16 (flatFrames q) ys j in
+    let p = k ∙ ap (flatOf 0 15) (there xs (w xs refl)) in (
+      λ i. gives (record { snippets = map pointsIn (a i); sequences = b i }),
+      λ i. record {
+        answer = Answer.Done;
+        snippets = record { items = p i .items; len = p i .len; ends = p i .ends; count = p i .count };
+        sequences = record { items = j i .items; len = j i .len; ends = j i .ends; count = j i .count };
+      },
+    )
 
 -- ---- after the snippets
 
@@ -107,7 +129,7 @@ items-read s c d h =
 
 -- ---- the image
 
-module _ (s q : ℕ) (l : List ℕ) (h : length l ≡ 98) (t : countsFit s q ≡ true) where
+module _ (s q : ℕ) (l : List ℕ) (h : length l ≡ 98) (t : countsFit s q ≡ true) (small : Bytes (s ∷ q ∷ l)) where
   abbrev image : List ℕ
   image = s ∷ q ∷ l
 
@@ -153,7 +175,7 @@ module _ (s q : ℕ) (l : List ℕ) (h : length l ≡ 98) (t : countsFit s q ≡
         let y : List (List ℕ) → List (List ℕ) → Option Content = λ a b. made (every rawSnippet a) (every readSequence b) in
         via (items-read s c d (w .count ∙ n1) ∙ ap (λ (x : Bool). cond x (y (c .items) (d .items)) none) z)
         (snippets-some image s q last (inTurn snippetStep (c .items) noPoints) (inTurn sequenceStep (d .items) noFrames) (lastOf last more) (walk-cut sequenceStep image more last noFrames ∙ rw e))
-        (last-step (allZero (drop (lastOf last more + 1) image)) (inTurn snippetStep (c .items) noPoints) (every rawSnippet (c .items)) k (inTurn sequenceStep (d .items) noFrames) (every readSequence (d .items)) j)
+        (last-step (allZero (drop (lastOf last more + 1) image)) (inTurn snippetStep (c .items) noPoints) (every rawSnippet (c .items)) k (λ xs e. subst (All Bytes) (raw-same (c .items) xs e) (w .bytes small)) (inTurn sequenceStep (d .items) noFrames) (every readSequence (d .items)) j)
 
   after-counts : (m : Option Cut) → cut first ends (drop (first + 1) image) ≡ m
       → Right (andThen (andThen (andThen m (cutMore (lastOf first ends) more)) (itemsFrom s)) contentFrom) (snippetsThen image s q (andThen m (afterCut snippetStep image (lastOf first ends) noPoints)))
@@ -175,17 +197,21 @@ image-none : (s q : ℕ) (l : List ℕ) (t u : Bool) → eqb (length l) 98 ≡ t
 unfolding readImage readItems
 image-none s q l t u e f g = simp (e, f, g)
 
-pub whole : (image : List ℕ) → Right (readImage image) (scanned image)
+pub whole : (image : List ℕ) → Bytes image → Right (readImage image) (scanned image)
 unfolding readImage readItems
-whole [] = none-right
-whole (s ∷ []) = none-right
-whole (s ∷ q ∷ l) = go (eqb (length (s ∷ q ∷ l)) 100) (countsFit s q) refl refl where
+whole [] small = none-right
+whole (s ∷ []) small = none-right
+whole (s ∷ q ∷ l) small = go (eqb (length (s ∷ q ∷ l)) 100) (countsFit s q) refl refl where
   go : (t u : Bool) → eqb (length (s ∷ q ∷ l)) 100 ≡ t → countsFit s q ≡ u
       → Right (readImage (s ∷ q ∷ l)) (cond t (cond u (afterCounts (s ∷ q ∷ l) s q) noReading) noReading)
-  go true true e f = let n = eqb-true (length (s ∷ q ∷ l)) 100 e in counts-right s q l (omega arith) f
+  go true true e f = let n = eqb-true (length (s ∷ q ∷ l)) 100 e in counts-right s q l (omega arith) f small
   go true false e f =
       let n = eqb-true (length (s ∷ q ∷ l)) 100 e in
       refused-right (image-none s q l true false (eq-eqb (length l) 98 (omega arith)) f refl)
   go false u e f =
       let d = eqb-false (length (s ∷ q ∷ l)) 100 e in
       refused-right (image-none s q l false u (ne-eqb (length l) 98 (λ n. d (omega arith))) f refl)
+
+-- a reading that holds what the image says tells it
+pub told : (image : List ℕ) → Bytes image → (r : Reading) → r ≡ readingOf (readImage image) → readingTold r ≡ imageTold (readImage image)
+told image small r e = let w = whole image small in ap readingTold (e ∙ sym (w .1)) ∙ w .0

@@ -1,18 +1,15 @@
 -- What the reader answers: the lists of an image, or 18 (document 01, 'Who can cause which answer', and demand 3, "it returns lists that
 -- the builders admit and whose image those bytes are").
 use Prim.Native.Nat.{ℕ, _-_}
-use mathlib.Core.Path.{_≡_}
-use mathlib.Core.List.{List, [], _∷_, map}
+use mathlib.Core.List.{List, [], _∷_, _++_, map}
 use mathlib.Core.Option.{Option, none, some}
-use lib.ListN.{take, drop, replicate}
-use Rattle.errors.specs.declared.Answer.{Answer}
+use lib.ListN.{length, take, drop, replicate}
 use Rattle.errors.specs.declared.Answer.the-variants as Answer
-use Rattle.errors.specs.Number.{errorNumber}
-use Rattle.errors.specs.Told.{Told, gives, refuses}
+use Rattle.errors.specs.declared.Error.the-variants as Error
 use Rattle.frame.specs.declared.FrameBuilder.{FrameBuilder}
 use Rattle.frame.specs.Builder.{silentFrame}
-use Rattle.content.specs.Content.{Point, Content}
-use Rattle.content.specs.ReadImage.{pointsIn}
+use Rattle.memory.specs.Image.{joined, endPointers}
+use Rattle.content.specs.Content.{Content, pointBytes}
 use Rattle.reader.specs.declared.Points.{Points}
 use Rattle.reader.specs.declared.Frames.{Frames}
 use Rattle.reader.specs.declared.Reading.{Reading}
@@ -22,10 +19,7 @@ abbrev pub parts : {A : Type 0} → ℕ → List ℕ → List A → List (List A
 parts from [] l = []
 parts from (e ∷ es) l = take (e - from) (drop from l) ∷ parts e es l
 
--- the snippets' points: items holds their bytes, ends where each snippet ends
-abbrev pub snippetsIn : Points → List (List Point)
-snippetsIn p = map pointsIn (parts 0 (take (p .count) (p .ends)) (p .items))
-
+-- the sequences' frames: items holds them, ends where each sequence ends
 abbrev pub sequencesIn : Frames → List (List FrameBuilder)
 sequencesIn f = parts 0 (take (f .count) (f .ends)) (f .items)
 
@@ -36,23 +30,20 @@ noPoints = record { items = replicate 96 0; len = 0; ends = replicate 15 0; coun
 abbrev pub noFrames : Frames
 noFrames = record { items = replicate 96 silentFrame; len = 0; ends = replicate 16 0; count = 0 }
 
-abbrev pub contentIn : Reading → Content
-contentIn r = record { snippets = snippetsIn (r .snippets); sequences = sequencesIn (r .sequences) }
+-- ---- the arrays of a reading
 
-abbrev pub toldBy : Answer → Reading → Told Content
-toldBy Answer.Done r = gives (contentIn r)
-toldBy (Answer.Refused e) r = refuses (errorNumber e)
+-- a list in n places, the others filled
+abbrev pub filled : {A : Type 0} → ℕ → A → List A → List A
+filled n blank l = l ++ replicate (n - length l) blank
 
--- what a reading tells
-abbrev pub readingTold : Reading → Told Content
-readingTold r = toldBy (r .answer) r
+-- lists laid end to end, and the index behind each
+abbrev pub laidPoints : List (List ℕ) → Points
+laidPoints ls = record { items = filled 96 0 (joined ls); len = length (joined ls); ends = filled 15 0 (endPointers 0 ls); count = length ls }
 
--- the content whose image the bytes are, or 18
-abbrev pub imageTold : Option Content → Told Content
-imageTold none = refuses 18
-imageTold (some c) = gives c
+abbrev pub laidFrames : List (List FrameBuilder) → Frames
+laidFrames ls = record { items = filled 96 silentFrame (joined ls); len = length (joined ls); ends = filled 16 0 (endPointers 0 ls); count = length ls }
 
--- a refused reading holds no lists
-abbrev pub RefusedEmpty : Answer → Reading → Type 0
-RefusedEmpty Answer.Done r = Unit
-RefusedEmpty (Answer.Refused e) r = (r .snippets ≡ noPoints) × (r .sequences ≡ noFrames)
+-- the lists of a content; what is refused holds none
+abbrev pub readingOf : Option Content → Reading
+readingOf none = record { answer = Answer.Refused Error.NotAnImage; snippets = laidPoints []; sequences = laidFrames [] }
+readingOf (some c) = record { answer = Answer.Done; snippets = laidPoints (map pointBytes (c .snippets)); sequences = laidFrames (c .sequences) }

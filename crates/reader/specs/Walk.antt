@@ -6,7 +6,6 @@ use mathlib.Core.List.{List, [], _∷_}
 use mathlib.Core.Option.{Option, none, some}
 use lib.Dec.{ltb, leb, eqb}
 use lib.ListN.{length, take, drop, getD}
-use Rattle.errors.specs.declared.Error.the-variants as Error
 use Rattle.errors.specs.declared.Answer.the-variants as Answer
 use Rattle.frame.specs.Read.{readFrame}
 use Rattle.content.specs.ReadImage.{andThen, allZero, countsFit}
@@ -16,7 +15,7 @@ use Rattle.reader.specs.declared.Reading.{Reading}
 use Rattle.reader.specs.declared.FramesRead.{FramesRead}
 use Rattle.reader.specs.declared.SnippetsRead.{SnippetsRead}
 use Rattle.reader.specs.declared.SequencesRead.{SequencesRead}
-use Rattle.reader.specs.Reading.{noPoints, noFrames}
+use Rattle.reader.specs.Reading.{noPoints, noFrames, readingOf}
 use Rattle.reader.specs.Flat.{pushPoints, pushFrame, endSnippet, endSequence}
 
 -- ---- one item
@@ -80,7 +79,7 @@ sequencesRead (some w) = record { found = true; sequences = w .state; last = w .
 -- ---- the image
 
 abbrev pub noReading : Reading
-noReading = record { answer = Answer.Refused Error.NotAnImage; snippets = noPoints; sequences = noFrames }
+noReading = readingOf none
 
 -- all bytes after index last are zero
 abbrev pub finished : List ℕ → Points → Frames → ℕ → Reading

@@ -15,7 +15,8 @@ use Rattle.snippet.proofs.Points.{byte-back}
 use Rattle.content.specs.Content.{Point, Content, byteOf}
 use Rattle.content.specs.ReadImage.{andThen, pointIn, pointsIn}
 use Rattle.reader.specs.declared.Reading.{Reading}
-use Rattle.reader.specs.Reading.{parts, contentIn, toldBy, readingTold, imageTold}
+use Rattle.reader.specs.Reading.{parts}
+use Rattle.reader.proofs.Told.{contentIn, toldBy, readingTold, imageTold}
 use Rattle.items.specs.Items.{element}
 use Rattle.readings.specs.Readings.{byteCode, Small, pointCode}
 

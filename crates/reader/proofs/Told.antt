@@ -1,0 +1,33 @@
+-- What a reading tells: the content that its arrays hold, or the number of the refusal.
+use mathlib.Core.List.{List, map}
+use mathlib.Core.Option.{Option, none, some}
+use lib.ListN.{take}
+use Rattle.errors.specs.declared.Answer.{Answer}
+use Rattle.errors.specs.declared.Answer.the-variants as Answer
+use Rattle.errors.specs.Number.{errorNumber}
+use Rattle.errors.specs.Told.{Told, gives, refuses}
+use Rattle.content.specs.Content.{Point, Content}
+use Rattle.content.specs.ReadImage.{pointsIn}
+use Rattle.reader.specs.declared.Points.{Points}
+use Rattle.reader.specs.declared.Reading.{Reading}
+use Rattle.reader.specs.Reading.{parts, sequencesIn}
+
+-- the snippets' points: items holds their bytes, ends where each snippet ends
+abbrev pub snippetsIn : Points → List (List Point)
+snippetsIn p = map pointsIn (parts 0 (take (p .count) (p .ends)) (p .items))
+
+abbrev pub contentIn : Reading → Content
+contentIn r = record { snippets = snippetsIn (r .snippets); sequences = sequencesIn (r .sequences) }
+
+abbrev pub toldBy : Answer → Reading → Told Content
+toldBy Answer.Done r = gives (contentIn r)
+toldBy (Answer.Refused e) r = refuses (errorNumber e)
+
+-- what a reading tells
+abbrev pub readingTold : Reading → Told Content
+readingTold r = toldBy (r .answer) r
+
+-- the content whose image the bytes are, or 18
+abbrev pub imageTold : Option Content → Told Content
+imageTold none = refuses 18
+imageTold (some c) = gives c
