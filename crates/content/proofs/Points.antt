@@ -16,7 +16,8 @@ use Rattle.content.specs.Content.{Point, byteOf, pointBytes, SnippetAdmi
 use Rattle.content.specs.ReadImage.{pointIn, pointsIn, readSnippet}
 use Rattle.content.proofs.Codec.{Codec, cond-some, cond-on, some-inj, cons-eq}
 
-abbrev Good : Point → Type 0
+-- a point that the builders admit
+abbrev pub Good : Point → Type 0
 Good p = PointAdmitted (p .timebases) (p .amplitude)
 
 points-length : (bs : List ℕ) → length (pointsIn bs) ≡ length bs

@@ -33,6 +33,7 @@ use Rattle.memory.specs.Memory.{newMemory, imageNumber, builtMemory}
 use Rattle.memory.proofs.Images.{joined-length}
 use Rattle.content.specs.Content.{Point, Content, pointBytes, framesBytes, SnippetAdmitted, SequenceAdmitted, Admitted}
 use Rattle.content.proofs.Codec.{all-left}
+use Rattle.content.proofs.Points.{Good}
 use Rattle.content.proofs.Sequences.{long}
 use Rattle.pattern.specs.Calls.{ran, held, SnippetCall, ramp, step, snippetStep, addedPoint, pointsFrom, FrameCall, gain, timebase, loopCount, frequencyHz, Begin, new, silence, begun, FrameCalls, numberOf, frameFrom, frameRan, withMadeFrame, sequenceStep, framesFrom, snippetFrom, sequenceFrom, MemoryCall, addSnippet, addSequence, Item, points, frames, snippetsOf, sequencesOf, contentOf, memoryStep, addedItem, contentFrom, builtFrom}
 use Rattle.pattern.proofs.Outcomes.{Outcome}
@@ -72,9 +73,6 @@ all-last P [] x h = h .0
 all-last P (y ∷ xs) x h = all-last P xs x (h .1)
 
 -- ---- snippets
-
-abbrev Good : Point → Type 0
-Good p = PointAdmitted (p .timebases) (p .amplitude)
 
 abbrev pub PointsFit : List Point → Type 0
 PointsFit ps = (length ps ≤ 16) × All Good ps

@@ -13,7 +13,7 @@ use Rattle.laws.specs.Bytes.{All}
 use Rattle.errors.specs.Told.{Told, gives, refuses, Step}
 use Rattle.snippet.specs.declared.PwlPoint.{PwlPoint}
 use Rattle.snippet.specs.declared.SnippetBuilder.{SnippetBuilder}
-use Rattle.snippet.specs.Point.{PointAdmitted, pointByte}
+use Rattle.snippet.specs.Point.{pointByte}
 use Rattle.snippet.specs.Point as made
 use Rattle.snippet.specs.Snippet as code
 use Rattle.snippet.specs.Snippet.{pointOf, newSnippet, withPoint, withMade, snippetBytes}
@@ -21,11 +21,9 @@ use Rattle.snippet.proofs.Points.{byte-back, byte-admitted}
 use Rattle.content.specs.Content.{Point, byteOf, pointBytes}
 use Rattle.content.specs.ReadImage.{pointIn}
 use Rattle.content.proofs.Codec.{all-append}
+use Rattle.content.proofs.Points.{Good}
 use Rattle.pattern.specs.Calls.{SnippetCall, ramp, step, point, snippetStep, addedPoint, snippetFrom, pointsFrom}
 use Rattle.pattern.proofs.Outcomes.{Outcome, all-calls, Shows, shows-more}
-
-abbrev Good : Point → Type 0
-Good p = PointAdmitted (p .timebases) (p .amplitude)
 
 pub record Holds (b : SnippetBuilder) (ps : List Point) : Type 0 where
   pub shows : Shows 16 code.byteOf byteOf (b .points) (b .len) ps
