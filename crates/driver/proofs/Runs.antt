@@ -1,7 +1,7 @@
--- Steps pushed to a session that was begun without any are the session's steps. Assumes nothing.
+-- Steps pushed to a session that was begun are the session's steps. Assumes nothing.
 use Prim.Native.Nat.{ℕ, _≤_}
 use mathlib.Core.Path.{_≡_, refl, ap, _∙_}
-use mathlib.Core.List.{List, [], _∷_}
+use mathlib.Core.List.{List, [], _∷_, _++_}
 use lib.ListN.{length}
 use Rattle.exchange.specs.declared.Step.{Step}
 use Rattle.exchange.specs.declared.Step.the-variants.{Read, Update}
@@ -24,16 +24,10 @@ onto xs e h = e ∙ ap (λ (l : List ℕ). pushedAll l xs) h
 
 -- ---- those of a session
 
-pub ran : (st : List ℕ) {s u : List ℕ} (address : ℕ) (xs : List Step) → length xs ≤ 25 → s ≡ begunIn st (blank address) [] → u ≡ pushedAll s xs →
-    u ≡ begunIn st (blank address) xs
+pub ran : (st : List ℕ) {s u : List ℕ} (address : ℕ) (xs ys : List Step) → length (xs ++ ys) ≤ 25 → s ≡ begunIn st (blank address) xs → u ≡ pushedAll s ys →
+    u ≡ begunIn st (blank address) (xs ++ ys)
 unfolding noImage noRecord
-ran st address xs few h k = onto xs k h ∙ pushes st (blank address) [] xs refl refl few
-
--- the same behind the first
-pub ran-on : (st : List ℕ) {s u : List ℕ} (address : ℕ) (x : Step) (xs : List Step) → length (x ∷ xs) ≤ 25 → s ≡ begunIn st (blank address) (x ∷ []) → u ≡ pushedAll s xs →
-    u ≡ begunIn st (blank address) (x ∷ xs)
-unfolding noImage noRecord
-ran-on st address x xs few h k = onto xs k h ∙ pushes st (blank address) (x ∷ []) xs refl refl few
+ran st address xs ys few h k = onto ys k h ∙ pushes st (blank address) xs ys refl refl few
 
 pub made : (st : List ℕ) {s u : List ℕ} (next : DA728x) (xs : List Step) → length xs ≤ 25 → s ≡ begunIn st (handing next) [] → u ≡ pushedAll s xs →
     u ≡ begunIn st (handing next) xs

@@ -7,7 +7,7 @@ use Rattle.driver.proofs.run.Statement.{statement}
 use Rattle.driver.proofs.run.Tie as tie
 
 returns : tie.Need-returns
-returns c = ran _ _ (c .before .before .before .before .before .before .before .before .before .args .step ∷ []) (omega arith) (c .before .before .before .before .before .before .begin .ensures) (c .before .before .push .ensures)
+returns c = ran _ _ [] (c .before .before .before .before .before .before .before .before .before .args .step ∷ []) (omega arith) (c .before .before .before .before .before .before .begin .ensures) (c .before .before .push .ensures)
 
 pub run-spec : {M : Type 1} → statement M
 run-spec = tie.close (tie.spec (λ c κs. search needs) (λ c κs. search needs) (λ c. search needs) returns)

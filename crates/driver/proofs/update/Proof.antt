@@ -9,7 +9,7 @@ use Rattle.driver.proofs.update.Statement.{statement}
 use Rattle.driver.proofs.update.Tie as tie
 
 returns : tie.Need-returns
-returns c = let a = c .before .before .before .before .before .before .before .before .before .before .before .before .before .args in ran _ _ (Read (a .register) ∷ Update (a .register) (a .shift) (a .width) (a .value) ∷ []) (omega arith) (c .before .before .before .before .before .before .before .before .before .before .begin .ensures) (on (c .before .before .push2 .ensures) (c .before .before .before .before .before .before .push .ensures) refl)
+returns c = let a = c .before .before .before .before .before .before .before .before .before .before .before .before .before .args in ran _ _ [] (Read (a .register) ∷ Update (a .register) (a .shift) (a .width) (a .value) ∷ []) (omega arith) (c .before .before .before .before .before .before .before .before .before .before .begin .ensures) (on (c .before .before .push2 .ensures) (c .before .before .before .before .before .before .push .ensures) refl)
 
 pub update-spec : {M : Type 1} → statement M
 update-spec = tie.close (tie.spec (λ c κs. search needs) (λ c κs. search needs) (λ c κs. search needs) (λ c. search needs) returns)
