@@ -1,5 +1,6 @@
 //! What the comparisons of the proved library with the published Rust share.
 
+pub mod boundary;
 pub mod bus;
 pub mod driver;
 pub mod generate;

@@ -1,0 +1,188 @@
+//! The exported functions, with what the header lists for each.
+
+/// Counts where there is nothing to tell: no such point or frame, a session that has ended, no record, no result.
+pub const NOTHING: u8 = 20;
+
+/// Columns of a tally: done, the refusals 1 to 19, nothing to tell.
+pub const OUTCOMES: usize = 21;
+
+macro_rules! functions {
+    ($($name:ident: $($number:expr),*;)*) => {
+        #[allow(non_camel_case_types)]
+        #[derive(Clone, Copy, Debug, PartialEq)]
+        pub enum Function { $($name),* }
+
+        /// Each function, its name, and every number that it can tell: 0 where it is done.
+        pub const FUNCTIONS: [(Function, &str, &[u8]); 43] =
+            [$((Function::$name, stringify!($name), &[$($number),*])),*];
+    };
+}
+
+functions! {
+    da728x_point: 0, 1, 2;
+    da728x_point_is_ramp: 0;
+    da728x_point_timebases: 0;
+    da728x_point_amplitude: 0;
+    da728x_snippet: 0, 9;
+    da728x_frame: 0;
+    da728x_sequence: 0, 10;
+    da728x_current_len: 0;
+    da728x_assemble: 0, 8, 9, 10;
+    da728x_read_counts: 0, 18;
+    da728x_read_point: 0, 18, NOTHING;
+    da728x_read_frame: 0, 18, NOTHING;
+    da728x_register_addresses: 0;
+    da728x_read_interrupts: 0;
+    da728x_read_actuator: 0;
+    da728x_read_control: 0;
+    da728x_read_trigger: 0;
+    da728x_replace_interrupts: 0;
+    da728x_replace_actuator: 0;
+    da728x_replace_control: 0;
+    da728x_replace_trigger: 0;
+    da728x_new: 0;
+    da728x_configure: 0, 11, 12, 13, 14;
+    da728x_get_chip_rev: 0;
+    da728x_get_events: 0;
+    da728x_get_status: 0;
+    da728x_set_frequency: 0, 11, 15;
+    da728x_set_override_value: 0, 11, 12, 15;
+    da728x_set_timebase: 0;
+    da728x_enable: 0, 15;
+    da728x_disable: 0, 15;
+    da728x_set_custom_drive_waveform: 12, 14, 15;
+    da728x_unlock_waveform_memory: 0;
+    da728x_lock_waveform_memory: 0;
+    da728x_upload_waveform_memory: 0, 8;
+    da728x_read_waveform_memory: 0;
+    da728x_select_sequence: 0, 11;
+    da728x_start_sequence: 0;
+    da728x_play_sequence: 0, 11;
+    da728x_pending: 0, NOTHING;
+    da728x_answer: 0, 16, 17, 19;
+    da728x_record: 0, NOTHING;
+    da728x_result: 0, NOTHING;
+}
+
+impl Function {
+    pub fn name(self) -> &'static str {
+        FUNCTIONS[self as usize].1
+    }
+
+    pub fn listed(self) -> &'static [u8] {
+        FUNCTIONS[self as usize].2
+    }
+}
+
+/// What a builder call answers, by its code; other codes are no call.
+const CALLS: [&[u8]; 15] = [
+    &[0],
+    &[0],
+    &[0, 1, 2, 6],
+    &[0, 1, 2, 6],
+    &[0, 6],
+    &[0, 3],
+    &[0],
+    &[0],
+    &[0],
+    &[0, 4],
+    &[0, 5],
+    &[0],
+    &[0, 7, 8],
+    &[0, 6, 9],
+    &[0, 7, 10],
+];
+
+/// What a builder call of this code can answer; those that add to a memory are no calls outside `da728x_assemble`.
+pub fn answers(code: u8, assembling: bool) -> &'static [u8] {
+    match code {
+        13 | 14 if !assembling => &[0],
+        _ => CALLS.get(usize::from(code)).copied().unwrap_or(&[0]),
+    }
+}
+
+/// How many calls were made, by function and outcome, and what builder calls answered.
+pub struct Tally {
+    functions: [[u64; OUTCOMES]; FUNCTIONS.len()],
+    calls: [[u64; OUTCOMES]; CALLS.len()],
+    /// Exchanges, and sessions that were answered properly until they ended.
+    pub exchanges: u64,
+    pub finished: u64,
+}
+
+impl Tally {
+    pub fn new() -> Self {
+        let functions = [[0; OUTCOMES]; FUNCTIONS.len()];
+        Self { functions, calls: [[0; OUTCOMES]; CALLS.len()], exchanges: 0, finished: 0 }
+    }
+
+    /// Counts what a function told; it has to be listed.
+    pub fn count(&mut self, function: Function, told: u64) {
+        let name = function.name();
+        let listed = function.listed().iter().find(|it| u64::from(**it) == told);
+        let told = listed.unwrap_or_else(|| panic!("{name} tells {told}, which is not listed"));
+        self.functions[function as usize][usize::from(*told)] += 1;
+    }
+
+    /// Counts what a builder call answered; it has to be listed.
+    pub fn count_call(&mut self, code: u8, assembling: bool, told: u8) {
+        let listed = answers(code, assembling);
+        assert!(listed.contains(&told), "builder call {code} answers {told}, which is not listed");
+        let code = if listed.len() == 1 { 0 } else { code };
+        self.calls[usize::from(code)][usize::from(told)] += 1;
+    }
+
+    pub fn calls(&self) -> u64 {
+        self.functions.as_flattened().iter().sum()
+    }
+
+    pub fn of(&self, function: Function) -> u64 {
+        self.functions[function as usize].iter().sum()
+    }
+
+    /// Every function was called and told all that is listed for it, and so did the builder calls.
+    pub fn assert_all_seen(&self) {
+        for (function, name, listed) in FUNCTIONS {
+            for told in listed {
+                let seen = self.functions[function as usize][usize::from(*told)];
+                assert!(seen > 0, "{name}: {told} was not seen");
+            }
+        }
+        for (code, listed) in CALLS.iter().enumerate().filter(|(_, listed)| listed.len() > 1) {
+            for told in *listed {
+                let seen = self.calls[code][usize::from(*told)];
+                assert!(seen > 0, "builder call {code}: {told} was not seen");
+            }
+        }
+        assert!(self.finished > 0 && self.exchanges > 0, "no session ended");
+    }
+
+    /// The tally as lines of text.
+    pub fn lines(&self) -> Vec<String> {
+        let row = |seen: &[u64; OUTCOMES]| {
+            let outcomes = seen.iter().enumerate().filter(|(_, seen)| **seen > 0);
+            let outcomes = outcomes.map(|(told, seen)| match told {
+                0 => format!("done {seen}"),
+                20 => format!("nothing {seen}"),
+                _ => format!("{told}: {seen}"),
+            });
+            outcomes.collect::<Vec<_>>().join(", ")
+        };
+        let functions = FUNCTIONS.iter().map(|(function, name, _)| {
+            let seen = &self.functions[*function as usize];
+            format!("{name:34} {:>9}  {}", self.of(*function), row(seen))
+        });
+        let calls = self.calls.iter().enumerate().filter(|(_, seen)| seen.iter().sum::<u64>() > 0);
+        let calls = calls.map(|(code, seen)| match code {
+            0 => format!("builder calls that are never refused: {}", row(seen)),
+            _ => format!("builder call {code}: {}", row(seen)),
+        });
+        functions.chain(calls).collect()
+    }
+}
+
+impl Default for Tally {
+    fn default() -> Self {
+        Self::new()
+    }
+}

@@ -1,0 +1,343 @@
+//! Calls of the functions of points, builder calls, images and registers.
+
+use super::choices::Choices;
+use super::functions::Function::{self, *};
+use super::hands::{Hands, lent, shown};
+use crate::generate::{any_call, list, with_noise};
+use crate::patterns::KINDS;
+use crate::raw::ffi;
+use crate::registers::{ADDRESSES, GROUPS};
+
+/// The last code of a builder call.
+const LAST: u8 = 14;
+
+/// How many bytes of an image are written.
+const IMAGE: usize = 100;
+
+/// Lists of builder calls and images that are called with again, in part or altered.
+pub struct Patterns {
+    lists: Vec<Vec<u8>>,
+    images: Vec<Vec<u8>>,
+}
+
+impl Patterns {
+    pub fn new(choices: &mut Choices) -> Self {
+        let mut pools = Self { lists: vec![Vec::new(); 16], images: vec![vec![0; IMAGE]; 16] };
+        if !choices.is_taped() {
+            pools.lists.iter_mut().for_each(|list| *list = new_list(choices));
+        }
+        pools
+    }
+
+    pub fn call(&mut self, function: Function, choices: &mut Choices, hands: &mut Hands) {
+        match function {
+            da728x_point => point(choices, hands),
+            da728x_point_is_ramp | da728x_point_timebases | da728x_point_amplitude => {
+                field(function, choices, hands);
+            }
+            da728x_snippet => self.build(function, ffi::da728x_snippet, choices, hands),
+            da728x_frame => self.build(function, ffi::da728x_frame, choices, hands),
+            da728x_sequence => self.build(function, ffi::da728x_sequence, choices, hands),
+            da728x_current_len => self.current_len(choices, hands),
+            da728x_assemble => self.assemble(choices, hands),
+            da728x_read_counts => self.read_counts(choices, hands),
+            da728x_read_point => self.read_point(choices, hands),
+            da728x_read_frame => self.read_frame(choices, hands),
+            _ => register(function, choices, hands),
+        }
+    }
+
+    /// A list of builder calls of any length: a kept one, or part of it, or one with altered bytes.
+    fn list(&mut self, choices: &mut Choices) -> Vec<u8> {
+        if choices.is_taped() {
+            return new_list(choices);
+        }
+        let at = choices.below(self.lists.len());
+        if choices.chance(4) {
+            self.lists[at] = new_list(choices);
+        }
+        let mut list = self.lists[at].clone();
+        match choices.below(10) {
+            0..4 => {}
+            4 => list.truncate(choices.below(5000)),
+            5..8 => list.truncate(choices.below(120)),
+            _ => choices.forge(&mut list),
+        }
+        list
+    }
+
+    /// An image, mostly of a hundred bytes: a built one, one with altered bytes, or any bytes.
+    pub fn image(&mut self, choices: &mut Choices) -> Vec<u8> {
+        let at = choices.below(self.images.len());
+        match choices.below(10) {
+            0..5 => self.images[at].clone(),
+            5 | 6 => {
+                let mut image = self.images[at].clone();
+                choices.forge(&mut image);
+                image
+            }
+            7 => {
+                let mut image = self.images[at].clone();
+                image.resize(choices.len_near(IMAGE), 0);
+                image
+            }
+            _ => {
+                let len = choices.len_near(IMAGE);
+                choices.bytes(len)
+            }
+        }
+    }
+
+    fn build(
+        &mut self,
+        function: Function,
+        build: ffi::Build,
+        choices: &mut Choices,
+        hands: &mut Hands,
+    ) {
+        let calls = self.list(choices);
+        let (answers, out) = (answers(&calls, choices), out(choices, 96));
+        let slices = [shown(&calls), lent(&answers), lent(&out)];
+        let told = hands.call(function, choices, slices, |[list, answers, out]| {
+            // SAFETY: each pointer and length is a slice; the mutable ones overlap no other.
+            u64::from(unsafe { build(list.0, list.1, answers.0, answers.1, out.0, out.1) })
+        });
+        check_answers(function, &calls, hands);
+        let (number, written) = (told >> 16, told as usize & 0xFFFF);
+        match (function, number) {
+            (_, 1..) => assert_eq!(written, 0, "{}", function.name()),
+            (da728x_snippet, _) => assert!((1..=16).contains(&written)),
+            (da728x_frame, _) => {
+                assert!(written <= out.len() && (out.len().min(1)..=3).contains(&written))
+            }
+            _ => assert!(written <= out.len() && (out.len().min(1)..=96).contains(&written)),
+        }
+        hands.assert_rest_stays(function, 2, written);
+        hands.tally.count(function, number);
+    }
+
+    fn current_len(&mut self, choices: &mut Choices, hands: &mut Hands) {
+        let calls = self.list(choices);
+        let answers = answers(&calls, choices);
+        let slices = [shown(&calls), lent(&answers)];
+        let told = hands.call(da728x_current_len, choices, slices, |[list, answers]| {
+            // SAFETY: each pointer and length is a slice; the mutable one overlaps no other.
+            unsafe { ffi::da728x_current_len(list.0, list.1, answers.0, answers.1) as u64 }
+        });
+        check_answers(da728x_current_len, &calls, hands);
+        assert!(told <= 96, "a sequence of {told} bytes");
+        hands.tally.count(da728x_current_len, 0);
+    }
+
+    fn assemble(&mut self, choices: &mut Choices, hands: &mut Hands) {
+        let calls = self.list(choices);
+        let (answers, image) = (answers(&calls, choices), out(choices, IMAGE));
+        let slices = [shown(&calls), lent(&answers), lent(&image)];
+        let told = hands.call(da728x_assemble, choices, slices, |[list, answers, image]| {
+            let (image, len) = image;
+            // SAFETY: each pointer and length is a slice; the mutable ones overlap no other.
+            unsafe { ffi::da728x_assemble(list.0, list.1, answers.0, answers.1, image, len).into() }
+        });
+        check_answers(da728x_assemble, &calls, hands);
+        hands.assert_rest_stays(da728x_assemble, 2, if told == 0 { IMAGE } else { 0 });
+        hands.tally.count(da728x_assemble, told);
+        let (_, image) = hands.slice(2);
+        if told == 0 && image.len() == IMAGE {
+            assert!((1..=15).contains(&image[0]) && (1..=16).contains(&image[1]));
+            let at = choices.below(self.images.len());
+            self.images[at].copy_from_slice(image);
+        }
+    }
+
+    fn read_counts(&mut self, choices: &mut Choices, hands: &mut Hands) {
+        let image = self.image(choices);
+        counts(&image, choices, hands);
+    }
+
+    fn read_point(&mut self, choices: &mut Choices, hands: &mut Hands) {
+        let image = self.image(choices);
+        let (snippet, point) = (choices.number(), choices.number());
+        let told = hands.call(da728x_read_point, choices, [shown(&image)], |[(image, len)]| {
+            // SAFETY: the pointer and length are a slice.
+            unsafe { ffi::da728x_read_point(image, len, snippet, point).into() }
+        });
+        let number = match told {
+            0..256 => 0,
+            256 => 20,
+            _ => told.checked_div(256).filter(|_| told % 256 == 0).expect("no number"),
+        };
+        if let Some((snippets, _)) = found(&image, number, choices, hands) {
+            assert!(number != 0 || snippet < snippets && point < 16);
+            assert!(number == 0 || snippet >= snippets || point > 0, "a snippet without a point");
+        }
+        hands.tally.count(da728x_read_point, number);
+    }
+
+    fn read_frame(&mut self, choices: &mut Choices, hands: &mut Hands) {
+        let image = self.image(choices);
+        let (sequence, frame) = (choices.number(), choices.number());
+        let told = hands.call(da728x_read_frame, choices, [shown(&image)], |[(image, len)]| {
+            // SAFETY: the pointer and length are a slice.
+            unsafe { ffi::da728x_read_frame(image, len, sequence, frame) }
+        });
+        let [snippet, gain, timebase, loops, low, high, number, rest] = told.to_le_bytes();
+        assert_eq!(rest, 0);
+        if number == 0 {
+            assert!(snippet <= 15 && gain <= 3 && timebase <= 3 && (loops <= 15 || loops == 255));
+            assert!(matches!(u16::from_le_bytes([low, high]), 0..=511 | 65535));
+        } else {
+            assert_eq!(told << 16, 0);
+        }
+        let number = if number == 1 { 20 } else { number.into() };
+        if let Some((_, sequences)) = found(&image, number, choices, hands) {
+            assert!(number != 0 || sequence < sequences && frame < 32);
+            assert!(
+                number == 0 || sequence >= sequences || frame > 0,
+                "a sequence without a frame"
+            );
+        }
+        hands.tally.count(da728x_read_frame, number);
+    }
+}
+
+/// The numbers of snippets and sequences of an image, if it is one; all readers have to agree on that.
+fn found(
+    image: &[u8],
+    number: u64,
+    choices: &mut Choices,
+    hands: &mut Hands,
+) -> Option<(usize, usize)> {
+    let found = counts(image, choices, hands);
+    assert_eq!(found.is_none(), number == 18, "an image for one function only");
+    found
+}
+
+fn counts(image: &[u8], choices: &mut Choices, hands: &mut Hands) -> Option<(usize, usize)> {
+    let told = hands.call(da728x_read_counts, choices, [shown(image)], |[(image, len)]| {
+        // SAFETY: the pointer and length are a slice.
+        unsafe { ffi::da728x_read_counts(image, len).into() }
+    });
+    let counts = (told as usize / 256, told as usize % 256);
+    hands.tally.count(da728x_read_counts, if told < 256 { told } else { 0 });
+    (told >= 256).then(|| {
+        assert!((1..=15).contains(&counts.0) && (1..=16).contains(&counts.1) && image.len() == 100);
+        counts
+    })
+}
+
+fn point(choices: &mut Choices, hands: &mut Hands) {
+    let ramp = choices.random().near(&[0, 1, 2]);
+    let timebases = choices.random().near(&[0, 1, 2, 7, 8, 9]);
+    let amplitude = choices.random().near(&[0, 1, 14, 15, 16]);
+    let told = hands
+        .call(da728x_point, choices, [], |[]| ffi::da728x_point(ramp, timebases, amplitude).into());
+    let number = match (timebases, amplitude) {
+        (0 | 9.., _) => 1,
+        (_, 16..) => 2,
+        _ => 0,
+    };
+    assert_eq!(told >> 8, number, "point {timebases} {amplitude}");
+    assert!(number == 0 || told % 256 == 0);
+    hands.tally.count(da728x_point, told >> 8);
+}
+
+fn field(function: Function, choices: &mut Choices, hands: &mut Hands) {
+    let byte = choices.byte();
+    let (read, range): (extern "C" fn(u8) -> u8, _) = match function {
+        da728x_point_is_ramp => (ffi::da728x_point_is_ramp, 0..=1),
+        da728x_point_timebases => (ffi::da728x_point_timebases, 1..=8),
+        _ => (ffi::da728x_point_amplitude, 0..=15),
+    };
+    let told = hands.call(function, choices, [], |[]| read(byte).into());
+    assert!(range.contains(&told), "{} tells {told}", function.name());
+    hands.tally.count(function, 0);
+}
+
+/// How many bytes a function of registers has to tell: the addresses, or the fields, or those that are not read-only.
+fn whole(function: Function) -> usize {
+    let first = da728x_read_interrupts as usize;
+    let Some(at) = (function as usize).checked_sub(first) else {
+        return ADDRESSES.len();
+    };
+    let fields = GROUPS[at % 4].1.iter().flat_map(|(_, fields)| *fields);
+    fields.filter(|(_, _, replace)| at < 4 || replace.is_some()).count()
+}
+
+fn register(function: Function, choices: &mut Choices, hands: &mut Hands) {
+    let (byte, value) = (choices.byte(), choices.byte());
+    let out = out(choices, 48);
+    let told = hands.call(function, choices, [lent(&out)], |[(out, len)]| {
+        // SAFETY: the pointer and length are a slice.
+        let told = unsafe {
+            match function {
+                da728x_register_addresses => ffi::da728x_register_addresses(out, len),
+                da728x_read_interrupts => ffi::da728x_read_interrupts(byte, out, len),
+                da728x_read_actuator => ffi::da728x_read_actuator(byte, out, len),
+                da728x_read_control => ffi::da728x_read_control(byte, out, len),
+                da728x_read_trigger => ffi::da728x_read_trigger(byte, out, len),
+                da728x_replace_interrupts => ffi::da728x_replace_interrupts(byte, value, out, len),
+                da728x_replace_actuator => ffi::da728x_replace_actuator(byte, value, out, len),
+                da728x_replace_control => ffi::da728x_replace_control(byte, value, out, len),
+                da728x_replace_trigger => ffi::da728x_replace_trigger(byte, value, out, len),
+                _ => unreachable!("{} is of no register", function.name()),
+            }
+        };
+        told as u64
+    });
+    assert_eq!(told, whole(function).min(out.len()) as u64, "{}", function.name());
+    hands.assert_rest_stays(function, 0, told as usize);
+    hands.tally.count(function, 0);
+}
+
+/// A list that makes an image, one of calls near the limits, or any bytes.
+fn new_list(choices: &mut Choices) -> Vec<u8> {
+    match choices.below(12) {
+        0..3 => {
+            let len = choices.len();
+            choices.bytes(len)
+        }
+        3 if !choices.is_taped() && choices.chance(2) => {
+            let len = 4 * 65536 + choices.below(9);
+            choices.bytes(len)
+        }
+        3..6 => {
+            let len = choices.below(120);
+            let mut list = choices.bytes(len);
+            list.iter_mut().step_by(4).for_each(|code| *code %= 16);
+            list
+        }
+        6..9 => {
+            let random = choices.random();
+            let calls = (0..random.below(90)).map(|_| any_call(random)).collect();
+            let calls = with_noise(calls, random);
+            list(&calls, LAST, random)
+        }
+        _ => {
+            let random = choices.random();
+            let (_, generate) = random.pick(&KINDS);
+            let calls = with_noise(generate(random), random);
+            list(&calls, LAST, random)
+        }
+    }
+}
+
+/// Room for the answers of a list of calls: mostly for all of them.
+fn answers(calls: &[u8], choices: &mut Choices) -> Vec<u8> {
+    let len = choices.len_near(calls.len() / 4);
+    vec![choices.byte(); len]
+}
+
+fn out(choices: &mut Choices, usual: usize) -> Vec<u8> {
+    let len = choices.len_near(usual);
+    vec![choices.byte(); len]
+}
+
+/// Each whole record has its answer, a listed one, as far as they fit; the other bytes stay.
+fn check_answers(function: Function, calls: &[u8], hands: &mut Hands) {
+    let (_, after) = hands.slice(1);
+    let answers: Vec<u8> = after.iter().copied().take(calls.len() / 4).collect();
+    hands.assert_rest_stays(function, 1, answers.len());
+    for (record, answer) in calls.chunks_exact(4).zip(answers) {
+        hands.tally.count_call(record[0], function == da728x_assemble, answer);
+    }
+}
