@@ -3,10 +3,12 @@
 use super::choices::Choices;
 use super::functions::Function::{self, *};
 use super::hands::{Hands, lent, shown};
-use crate::generate::{any_call, list, with_noise};
+use crate::encoded;
+use crate::generate::{any_call, frame, good_point, list, with_noise};
 use crate::patterns::KINDS;
 use crate::raw::ffi;
 use crate::registers::{ADDRESSES, GROUPS};
+use yambelugo::Call;
 
 /// The last code of a builder call.
 const LAST: u8 = 14;
@@ -289,7 +291,7 @@ fn register(function: Function, choices: &mut Choices, hands: &mut Hands) {
     hands.tally.count(function, 0);
 }
 
-/// A list that makes an image, one of calls near the limits, or any bytes.
+/// A list that makes an image, one that fills a sequence and a snippet, one of calls near the limits, or any bytes.
 fn new_list(choices: &mut Choices) -> Vec<u8> {
     match choices.below(12) {
         0..3 => {
@@ -306,7 +308,15 @@ fn new_list(choices: &mut Choices) -> Vec<u8> {
             list.iter_mut().step_by(4).for_each(|code| *code %= 16);
             list
         }
-        6..9 => {
+        6 => {
+            let random = choices.random();
+            let mut calls = frame(random.within(1, 3), random);
+            calls.extend(vec![Call::AddFrame; random.within(30, 34)]);
+            calls.extend((0..random.within(14, 18)).map(|_| good_point(random)));
+            calls.extend([Call::AddSnippet, Call::AddSequence]);
+            encoded(&calls)
+        }
+        7..9 => {
             let random = choices.random();
             let calls = (0..random.below(90)).map(|_| any_call(random)).collect();
             let calls = with_noise(calls, random);

@@ -195,7 +195,8 @@ impl Sessions {
         if session.len() != SESSION {
             assert_eq!(told, 0);
         } else if let Some(begun) = self.sessions[at].begun {
-            assert_eq!(sent > 0, begun.state == State::Going);
+            let name = begun.function.name();
+            assert_eq!(sent > 0, begun.state == State::Going, "{name}: what is pending");
             assert!(sent == 0 || address == begun.address);
         }
         hands.tally.count(da728x_pending, if told == 0 { 20 } else { 0 });
