@@ -1,7 +1,7 @@
 //! The exported functions, with what the header lists for each.
 
 /// Counts where there is nothing to tell: no such point or frame, a session that has ended, no record, no result.
-pub const NOTHING: u8 = 20;
+pub const NOTHING: u64 = 20;
 
 /// Columns of a tally: done, the refusals 1 to 19, nothing to tell.
 pub const OUTCOMES: usize = 21;
@@ -13,7 +13,7 @@ macro_rules! functions {
         pub enum Function { $($name),* }
 
         /// Each function, its name, and every number that it can tell: 0 where it is done.
-        pub const FUNCTIONS: [(Function, &str, &[u8]); 43] =
+        pub const FUNCTIONS: [(Function, &str, &[u64]); 43] =
             [$((Function::$name, stringify!($name), &[$($number),*])),*];
     };
 }
@@ -69,7 +69,7 @@ impl Function {
         FUNCTIONS[self as usize].1
     }
 
-    pub fn listed(self) -> &'static [u8] {
+    pub fn listed(self) -> &'static [u64] {
         FUNCTIONS[self as usize].2
     }
 }
@@ -119,9 +119,8 @@ impl Tally {
     /// Counts what a function told; it has to be listed.
     pub fn count(&mut self, function: Function, told: u64) {
         let name = function.name();
-        let listed = function.listed().iter().find(|it| u64::from(**it) == told);
-        let told = listed.unwrap_or_else(|| panic!("{name} tells {told}, which is not listed"));
-        self.functions[function as usize][usize::from(*told)] += 1;
+        assert!(function.listed().contains(&told), "{name} tells {told}, which is not listed");
+        self.functions[function as usize][told as usize] += 1;
     }
 
     /// Counts what a builder call answered; it has to be listed.
@@ -144,7 +143,7 @@ impl Tally {
     pub fn assert_all_seen(&self) {
         for (function, name, listed) in FUNCTIONS {
             for told in listed {
-                let seen = self.functions[function as usize][usize::from(*told)];
+                let seen = self.functions[function as usize][*told as usize];
                 assert!(seen > 0, "{name}: {told} was not seen");
             }
         }
@@ -163,7 +162,7 @@ impl Tally {
             let outcomes = seen.iter().enumerate().filter(|(_, seen)| **seen > 0);
             let outcomes = outcomes.map(|(told, seen)| match told {
                 0 => format!("done {seen}"),
-                20 => format!("nothing {seen}"),
+                _ if told as u64 == NOTHING => format!("nothing {seen}"),
                 _ => format!("{told}: {seen}"),
             });
             outcomes.collect::<Vec<_>>().join(", ")

@@ -2,6 +2,7 @@
 
 use super::choices::Choices;
 use super::functions::Function::{self, *};
+use super::functions::NOTHING;
 use super::hands::{Hands, lent, shown};
 use crate::encoded;
 use crate::generate::{any_call, frame, good_point, list, with_noise};
@@ -165,8 +166,11 @@ impl Patterns {
         });
         let number = match told {
             0..256 => 0,
-            256 => 20,
-            _ => told.checked_div(256).filter(|_| told % 256 == 0).expect("no number"),
+            256 => NOTHING,
+            _ => {
+                assert_eq!(told % 256, 0, "{told} is told of a point");
+                told / 256
+            }
         };
         if let Some((snippets, _)) = found(&image, number, choices, hands) {
             assert!(number != 0 || snippet < snippets && point < 16);
@@ -190,7 +194,7 @@ impl Patterns {
         } else {
             assert_eq!(told << 16, 0);
         }
-        let number = if number == 1 { 20 } else { number.into() };
+        let number = if number == 1 { NOTHING } else { number.into() };
         if let Some((_, sequences)) = found(&image, number, choices, hands) {
             assert!(number != 0 || sequence < sequences && frame < 32);
             assert!(

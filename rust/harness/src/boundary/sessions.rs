@@ -2,6 +2,7 @@
 
 use super::choices::Choices;
 use super::functions::Function::{self, *};
+use super::functions::NOTHING;
 use super::hands::{Hands, lent, shown};
 use super::patterns::Patterns;
 use crate::raw::{BYTE, DONE, FAILED, SESSION, ffi};
@@ -199,7 +200,7 @@ impl Sessions {
             assert_eq!(sent > 0, begun.state == State::Going, "{name}: what is pending");
             assert!(sent == 0 || address == begun.address);
         }
-        hands.tally.count(da728x_pending, if told == 0 { 20 } else { 0 });
+        hands.tally.count(da728x_pending, if told == 0 { NOTHING } else { 0 });
         told as u32
     }
 
@@ -296,7 +297,7 @@ impl Sessions {
         } else {
             hands.assert_rest_stays(da728x_record, 1, 0);
         }
-        hands.tally.count(da728x_record, if told == 1 { 0 } else { 20 });
+        hands.tally.count(da728x_record, if told == 1 { 0 } else { NOTHING });
     }
 
     fn result(&mut self, at: usize, choices: &mut Choices, hands: &mut Hands) {
@@ -313,26 +314,26 @@ impl Sessions {
             assert_eq!(told != 0, begun.state == State::Completed);
             assert!(told == 0 || reads == begun.reads);
         }
-        hands.tally.count(da728x_result, if told == 0 { 20 } else { 0 });
+        hands.tally.count(da728x_result, if told == 0 { NOTHING } else { 0 });
     }
 
     /// Answers a session that was begun by what is pending, without a failure: it has to end in time.
     pub fn finish(&mut self, choices: &mut Choices, hands: &mut Hands) {
         let at = choices.below(self.sessions.len());
         let Some(begun) = self.sessions[at].begun else { return };
-        if begun.room > LONGEST && begun.reads > 0 {
+        if begun.state != State::Going || begun.reads > 0 && begun.room > LONGEST {
             return;
         }
-        for _ in 0..=begun.most() {
-            if self.sessions[at].begun.is_some_and(|it| it.state != State::Going) {
-                hands.tally.finished += 1;
-                return;
-            }
+        for _ in 0..begun.most() {
             let session = self.sessions[at].bytes.clone();
             let pending = self.pending(at, &session, choices, hands);
             let kind = if pending >> 16 == 1 { BYTE } else { DONE };
             let answer = Answer { pending, kind, byte: begun.revision, room: begun.room };
             self.tell(at, &session, answer, choices, hands);
+            if self.sessions[at].begun.is_some_and(|it| it.state == State::Completed) {
+                hands.tally.finished += 1;
+                return;
+            }
         }
         panic!("{} does not end", begun.function.name());
     }
