@@ -28,7 +28,7 @@ module _ {A : Type 0} where
   elem-some (x ∷ l) zero d h = refl
   elem-some (x ∷ l) (suc i) d h = elem-some l i d (omega arith)
 
-  elem-take : (l : List A) (k i : ℕ) → i < k → getElem? (take k l) i ≡ getElem? l i
+  pub elem-take : (l : List A) (k i : ℕ) → i < k → getElem? (take k l) i ≡ getElem? l i
   elem-take [] zero i h = absurd (omega arith)
   elem-take [] (suc k) i h = refl
   elem-take (x ∷ l) zero i h = absurd (omega arith)
@@ -41,14 +41,14 @@ module _ {A : Type 0} where
   elem-past (x ∷ l) (suc k) zero h = absurd (omega arith)
   elem-past (x ∷ l) (suc k) (suc i) h = elem-past l k i (omega arith)
 
-  elem-drop : (l : List A) (n i : ℕ) → getElem? (drop n l) i ≡ getElem? l (n + i)
+  pub elem-drop : (l : List A) (n i : ℕ) → getElem? (drop n l) i ≡ getElem? l (n + i)
   elem-drop l zero i = ap (getElem? l) (omega arith)
   elem-drop [] (suc n) i = refl
   elem-drop (x ∷ l) (suc n) i = elem-drop l n i ∙ sym (next i) where
     next : (i : ℕ) → getElem? (x ∷ l) (suc n + i) ≡ getElem? l (n + i)
     next i = let e : suc n + i ≡ suc (n + i) = omega arith in ap (getElem? (x ∷ l)) e
 
-  one-part : (l : List A) (from k j : ℕ) → getElem? (take k (drop from l)) j ≡ andThen (cond (ltb j k) (some (from + j)) none) (getElem? l)
+  pub one-part : (l : List A) (from k j : ℕ) → getElem? (take k (drop from l)) j ≡ andThen (cond (ltb j k) (some (from + j)) none) (getElem? l)
   one-part l from k j = go (decLe (suc j) k) where
     go : Dec (suc j ≤ k) → getElem? (take k (drop from l)) j ≡ andThen (cond (ltb j k) (some (from + j)) none) (getElem? l)
     go (yes h) = simp (lt-ltb j k h) (elem-take (drop from l) k j h ∙ elem-drop l from j)

@@ -29,7 +29,7 @@ inTurn step (x ∷ xs) o = andThen (step x o) (λ o′. inTurn step xs o′)
 abbrev putCut : List ℕ → Cut → Option Cut
 putCut x c = some (record { items = x ∷ c .items; left = c .left })
 
-drop-on : (image : List ℕ) (p e : ℕ) → p < e → drop (e - p) (drop (p + 1) image) ≡ drop (e + 1) image
+pub drop-on : (image : List ℕ) (p e : ℕ) → p < e → drop (e - p) (drop (p + 1) image) ≡ drop (e + 1) image
 drop-on image p e h =
     let k : p + 1 + (e - p) ≡ e + 1 = omega arith in drop-drop (e - p) (p + 1) image ∙ ap (λ (n : ℕ). drop n image) k
 

@@ -341,7 +341,7 @@ fn snippets_of(image: &[u8], s: usize, q: usize) -> Reading
 }
 
 // 1 to 15 snippets, 1 to 16 sequences.
-fn counts_fit(s: usize, q: usize) -> bool
+pub fn counts_fit(s: usize, q: usize) -> bool
     ensures { λ r. ⌜ r ≡ countsFit s q ⌝ }
 {
     if s < 1 {
