@@ -1,1 +1,4 @@
+pub mod Elements
+pub mod Fitting
+pub mod Standing
 pub mod Told

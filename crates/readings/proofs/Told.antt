@@ -1,56 +1,103 @@
--- The content of an image by what the reader told, and its elements.
+-- What the functions answer, by what is known of an image's content.
 -- Assumes nothing.
-use mathlib.Core.Path.{_≡_, refl, sym, ap, _∙_}
-use mathlib.Core.List.{List, [], _∷_, map}
+use mathlib.Core.Path.{_≡_, refl, sym, ap, _∙_, subst}
+use mathlib.Core.Bool.{true, false, _&&_}
+use mathlib.Core.List.{List, [], _∷_}
 use mathlib.Core.Option.{Option, none, some}
-use Prim.Native.Nat.{ℕ, zero, suc, _*_, _+_, _<_, min}
+use Prim.Native.Nat.{ℕ, zero, suc, _*_, _+_, _≤_, _<_}
 use native.Mathlib.Omega.{arith}
-use lib.ListN.{length, take, getElem?, length-map, length-take}
-use Rattle.errors.specs.declared.Answer.{Answer}
-use Rattle.errors.specs.declared.Answer.the-variants as Answer
-use Rattle.errors.specs.declared.Error.{Error}
-use Rattle.errors.specs.Number.{errorNumber}
-use Rattle.errors.specs.Told.{Told, gives, refuses}
+use lib.Dec.{leb}
+use lib.ListN.{length, getD, getElem?}
 use Rattle.snippet.proofs.Points.{byte-back}
-use Rattle.content.specs.Content.{Point, Content, byteOf}
-use Rattle.content.specs.ReadImage.{andThen, pointIn, pointsIn}
-use Rattle.reader.specs.declared.Reading.{Reading}
-use Rattle.reader.specs.Reading.{parts}
-use Rattle.reader.proofs.Told.{contentIn, toldBy, readingTold, imageTold}
-use Rattle.items.specs.Items.{element}
-use Rattle.readings.specs.Readings.{byteCode, Small, pointCode}
+use Rattle.frame.specs.declared.FrameBuilder.{FrameBuilder}
+use Rattle.content.specs.Content.{Point, Content}
+use Rattle.content.specs.ReadImage.{andThen, pointsIn, readSnippet, readFrames, readSequence, readImage}
+use Rattle.content.proofs.Codec.{some-inj, cond-some}
+use Rattle.items.specs.declared.FrameAt.{FrameAt}
+use Rattle.items.specs.Items.{element, frameTold}
+use Rattle.items.proofs.Placed.{elem-some, elem-out}
+use Rattle.readings.specs.InPlace.{present, itemAt, FrameOf}
+use Rattle.readings.specs.Readings.{countsWord, byteCode, Small, pointCode, pointIn, frameCode, frameIn}
+use Rattle.readings.proofs.Standing.{Known, known}
 
-some-told : (c : Content) (o : Option Content) → gives c ≡ imageTold o → o ≡ some c
-some-told c none e = let z : _≡_ {A = ℕ} 0 1 = cc in absurd (omega arith)
-some-told c (some d) e = cc
+false-true : {X : Type 0} → false ≡ true → X
+false-true e = let z : _≡_ {A = ℕ} 0 1 = cc in absurd (omega arith)
 
-none-told : (n : ℕ) (o : Option Content) → refuses n ≡ imageTold o → o ≡ none
-none-told n none e = refl
-none-told n (some d) e = let z : _≡_ {A = ℕ} 0 1 = cc in absurd (omega arith)
+is-none : (o : Option Content) → present o ≡ false → none ≡ o
+is-none none e = refl
+is-none (some c) e = false-true (sym e)
 
-module _ (r : Reading) (o : Option Content) (t : readingTold r ≡ imageTold o) where
-  pub done-content : r .answer ≡ Answer.Done → o ≡ some (contentIn r)
-  done-content e = some-told (contentIn r) o (sym (ap (λ (a : Answer). toldBy a r) e) ∙ t)
-
-  pub refused-none : (x : Error) → r .answer ≡ Answer.Refused x → o ≡ none
-  refused-none x e = none-told (errorNumber x) o (sym (ap (λ (a : Answer). toldBy a r) e) ∙ t)
-
--- the points of a snippet by their bytes
+-- the bytes of a snippet and its points
 elem-points : (bs : List ℕ) (j : ℕ) (o : Option ℕ) → getElem? bs j ≡ o → Small o → byteCode o ≡ pointCode (getElem? (pointsIn bs) j)
 elem-points [] j o e h = ap byteCode (sym e)
 elem-points (b ∷ bs) zero o e h = ap byteCode (sym e) ∙ sym (byte-back b (rw (← e) at h))
 elem-points (b ∷ bs) (suc j) o e h = elem-points bs j o e h
 
-pub element-points : (ls : List (List ℕ)) (i j : ℕ) (o : Option ℕ) → o ≡ element ls i j → Small o
-    → byteCode o ≡ pointCode (element (map pointsIn ls) i j)
-element-points [] i j o e h = ap byteCode e
-element-points (l ∷ ls) zero j o e h = elem-points l j o (sym e) h
-element-points (l ∷ ls) (suc i) j o e h = element-points ls i j o e h
+snippet-points : (bs : List ℕ) (ps : List Point) → readSnippet bs ≡ some ps → pointsIn bs ≡ ps
+unfolding readSnippet
+snippet-points bs ps e = some-inj (cond-some (leb 1 (length bs) && leb (length bs) 16) (some (pointsIn bs)) e .1)
 
-parts-length : {A : Type 0} (es : List ℕ) (from : ℕ) (l : List A) → length (parts from es l) ≡ length es
-parts-length [] from l = refl
-parts-length (e ∷ es) from l = ap suc (parts-length es e l)
+sequence-frames : (bs : List ℕ) (fs : List FrameBuilder) → readSequence bs ≡ some fs → readFrames 32 bs ≡ some fs
+unfolding readSequence
+sequence-frames bs fs e = cond-some (leb 1 (length bs)) (readFrames 32 bs) e .1
 
--- the counts of lists whose ends stand in an array
-pub parts-count : {A : Type 0} (n most : ℕ) (ends : List ℕ) (l : List A) → length ends ≡ most → length (parts 0 (take n ends) l) ≡ min n most
-parts-count n most ends l h = parts-length (take n ends) 0 l ∙ length-take n ends ∙ ap (min n) h
+no-element : {A : Type 0} (ls : List (List A)) (i j : ℕ) → length ls ≤ i → none ≡ element ls i j
+no-element ls i j h = sym (ap (λ o. andThen o (λ l. getElem? l j)) (elem-out ls i h))
+
+an-element : {A : Type 0} (ls : List (List A)) (i j : ℕ) (h : i < length ls) → element ls i j ≡ getElem? (getD ls i []) j
+an-element ls i j h = ap (λ o. andThen o (λ l. getElem? l j)) (elem-some ls i [] h)
+
+module _ (image : List ℕ) where
+  pub counts-none : present (readImage image) ≡ false → 18 ≡ countsWord (readImage image)
+  counts-none t = ap countsWord (is-none (readImage image) t)
+
+  pub point-none : (i j : ℕ) → present (readImage image) ≡ false → 4608 ≡ pointIn (readImage image) i j
+  point-none i j t = ap (λ (o : Option Content). pointIn o i j) (is-none (readImage image) t)
+
+  pub frame-none : (i j : ℕ) → present (readImage image) ≡ false → 5066549580791808 ≡ frameIn (readImage image) i j
+  frame-none i j t = ap (λ (o : Option Content). frameIn o i j) (is-none (readImage image) t)
+
+  module _ (t : present (readImage image) ≡ true) where
+    -- what holds of any content that is known holds of what is read
+    of-content : (P : Option Content → Type 0) → ((c : Content) → Known image c → P (some c)) → P (readImage image)
+    of-content P f = go (readImage image) refl t where
+      go : (o : Option Content) → readImage image ≡ o → present o ≡ true → P o
+      go none e t = false-true t
+      go (some c) e t = f c (known image c e)
+
+    pub counts-told : (s q : ℕ) → s ≡ getD image 0 0 → q ≡ getD image 1 0 → s * 256 + q ≡ countsWord (readImage image)
+    counts-told s q e f =
+        of-content (λ (o : Option Content). s * 256 + q ≡ countsWord o)
+        (λ c k. λ i. (e ∙ sym (k .snippets)) i * 256 + (f ∙ sym (k .sequences)) i)
+
+    module _ (i j : ℕ) where
+      pub point-past : (s : ℕ) → s ≡ getD image 0 0 → s ≤ i → 256 ≡ pointIn (readImage image) i j
+      point-past s e h =
+          of-content (λ (o : Option Content). 256 ≡ pointIn o i j)
+          (λ c k. ap pointCode (no-element (c .snippets) i j (omega (arith, k .snippets))))
+
+      pub point-there : (s r : ℕ) → s ≡ getD image 0 0 → i < s → r ≡ byteCode (getElem? (itemAt image i) j) → Small (getElem? (itemAt image i) j)
+          → r ≡ pointIn (readImage image) i j
+      point-there s r e h d w =
+          of-content (λ (o : Option Content). r ≡ pointIn o i j)
+          (λ c k.
+          let g : i < length (c .snippets) = omega (arith, k .snippets) in
+          let p : readSnippet (itemAt image i) ≡ some (getD (c .snippets) i []) = sym (k .snippet i (omega arith)) ∙ elem-some (c .snippets) i [] g in
+          d ∙ elem-points (itemAt image i) j _ refl w
+          ∙ ap (λ (l : List Point). pointCode (getElem? l j)) (snippet-points (itemAt image i) _ p)
+          ∙ ap pointCode (sym (an-element (c .snippets) i j g)))
+
+      pub frame-past : (q : ℕ) → q ≡ getD image 1 0 → q ≤ i → 281474976710656 ≡ frameIn (readImage image) i j
+      frame-past q e h =
+          of-content (λ (o : Option Content). 281474976710656 ≡ frameIn o i j)
+          (λ c k. ap frameCode (no-element (c .sequences) i j (omega (arith, k .sequences))))
+
+      pub frame-there : (s q : ℕ) (r : FrameAt) → s ≡ getD image 0 0 → q ≡ getD image 1 0 → i < q → FrameOf image (s + i) j r
+          → frameCode (frameTold r) ≡ frameIn (readImage image) i j
+      frame-there s q r e f h w =
+          of-content (λ (o : Option Content). frameCode (frameTold r) ≡ frameIn o i j)
+          (λ c k.
+          let g : i < length (c .sequences) = omega (arith, k .sequences) in
+          let v : FrameOf image (getD image 0 0 + i) j r = subst (λ (n : ℕ). FrameOf image (n + i) j r) e w in
+          let p : readSequence (itemAt image (getD image 0 0 + i)) ≡ some (getD (c .sequences) i []) = sym (k .sequence i (omega arith)) ∙ elem-some (c .sequences) i [] g in
+          ap frameCode (v (k .within i (omega arith)) (getD (c .sequences) i []) (sequence-frames (itemAt image (getD image 0 0 + i)) _ p) ∙ sym (an-element (c .sequences) i j g)))

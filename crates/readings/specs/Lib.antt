@@ -1,2 +1,3 @@
 -- The definitions that the contracts of `readings` cite.
+pub mod InPlace
 pub mod Readings

@@ -1,81 +1,270 @@
 // What an image is read back to, as numbers for C (added; no Rust file; document 01, 'The hundred bytes'): the counts, and the points and
-// frames one by one.
+// frames one by one. The lent bytes are read where they stand; no lists are made.
 // Proved: each is that of the content that the reader's contract speaks of, for any bytes and any indexes; how it is one number is
-// specs/Readings.antt.
+// specs/Readings.antt. The private functions answer specs/InPlace.antt.
 ghost use mathlib.Core.Path.{_≡_};
-ghost use Prim.Native.Nat.{min};
-ghost use Rattle.content.specs.ReadImage.{readImage};
-ghost use Rattle.items.specs.Items.{frameTold, pointTold};
+ghost use Prim.Native.Nat.{_≤_, _<_};
+ghost use lib.ListN.{length, drop, getD, getElem?};
+ghost use Rattle.content.specs.ReadImage.{readImage, readFrames, allZero};
+ghost use Rattle.items.specs.Items.{frameTold};
+ghost use Rattle.readings.specs.InPlace.{present, itemFits, lastIn, indexTold, itemsFit, beforeItem, itemAt, NthFrame, FrameOf};
 ghost use Rattle.readings.specs.Readings.{countsWord, byteCode, Small, pointIn, loopByte, frequencyWord, frameWord, frameCode, frameIn};
-use errors::Answer;
 use frame::FrameBuilder;
+use frame::FrameRead;
 use frame::Frequency;
 use frame::LoopCount;
 use items::FrameAt;
-use items::PointAt;
 
 // 256 times the number of snippets and the number of sequences, or 18 for what is no image.
 pub fn counts(image: &[u8]) -> u16
     ensures { λ r. ⌜ r ≡ countsWord (readImage (now (image .entry))) ⌝ }
 {
-    let r = reader::read(image);
-    let a = r.answer;
-    match a {
-        Answer::Done => {
-            let p = r.snippets;
-            let q = r.sequences;
-            (shown(p.count, 15) as u16) * 256 + (shown(q.count, 16) as u16)
-        }
-        Answer::Refused(_) => 18,
+    if is_image(image) {
+        let s = byte(image, 0);
+        let q = byte(image, 1);
+        return (s * 256 + q) as u16;
     }
+    18
 }
 
 // The byte of the j-th point of the i-th snippet, or 256, or 18 * 256 for what is no image.
 pub fn point(image: &[u8], i: usize, j: usize) -> u16
     ensures { λ r. ⌜ r ≡ pointIn (readImage (now (image .entry))) i j ⌝ }
 {
-    let r = reader::read(image);
-    let a = r.answer;
-    match a {
-        Answer::Done => {
-            let p = r.snippets;
-            point_code(items::point_at(p, i, j))
+    if is_image(image) {
+        let s = byte(image, 0);
+        if s <= i {
+            return 256;
         }
-        Answer::Refused(_) => 4608,
+        return byte_of(image, i, j);
     }
+    4608
 }
 
 // The fields of the j-th frame of the i-th sequence, or 2 to the power of 48, or 18 times that for what is no image.
 pub fn frame(image: &[u8], i: usize, j: usize) -> u64
     ensures { λ r. ⌜ r ≡ frameIn (readImage (now (image .entry))) i j ⌝ }
 {
-    let r = reader::read(image);
-    let a = r.answer;
-    match a {
-        Answer::Done => {
-            let q = r.sequences;
-            frame_code(items::frame_at(q, i, j))
+    if is_image(image) {
+        let s = byte(image, 0);
+        let q = byte(image, 1);
+        if q <= i {
+            return 281474976710656;
         }
-        Answer::Refused(_) => 5066549580791808,
+        return frame_code(frame_of(image, s + i, j));
     }
+    5066549580791808
 }
 
-// How many of the most are in use.
-fn shown(count: u8, most: u8) -> u8
-    ensures { λ r. ⌜ r ≡ min count most ⌝ }
+// ---- whether bytes are an image
+
+fn is_image(image: &[u8]) -> bool
+    ensures { λ r. ⌜ r ≡ present (readImage (now (image .entry))) ⌝ }
 {
-    if count < most { count } else { most }
+    if image.len() == 100 {
+        let s = byte(image, 0);
+        let q = byte(image, 1);
+        if reader::counts_fit(s, q) {
+            return items_fit(image, s, q);
+        }
+        return false;
+    }
+    false
 }
 
-fn point_code(p: PointAt) -> u16
-    ensures { λ r. ⌜ r ≡ byteCode (pointTold p) ⌝ }
-    ensures { λ _. ⌜ Small (pointTold p) ⌝ }
+// The snippets, then the sequences, and all bytes after the last are zero.
+fn items_fit(image: &[u8], s: usize, q: usize) -> bool
+    requires { ⌜ (length (now image) ≡ 100) × (s ≤ 15) × (q ≤ 16) ⌝ }
+    ensures { λ r. ⌜ r ≡ itemsFit (now (image .entry)) s q ⌝ }
 {
-    match p {
-        PointAt::Point(x) => x.as_byte() as u16,
-        PointAt::Absent => 256,
+    let at = 2 + s;
+    let to = at + q;
+    let last = items_end(image, &image[2..at], 1 + s + q, true);
+    if last < 1 {
+        return false;
     }
+    let end = items_end(image, &image[at..to], last, false);
+    if end < 1 {
+        return false;
+    }
+    zero_from(image, end + 1)
 }
+
+// The index of the last byte of the items that end at these indexes of the image, 0 where one does not fit; the byte before the first
+// stands at `first`.
+fn items_end(image: &[u8], ends: &[u8], first: usize, snippets: bool) -> usize
+    requires { ⌜ (0 < first) × (first < 256) ⌝ }
+    ensures { λ r. ⌜ indexTold r ≡ lastIn snippets (now (image .entry)) first (now (ends .entry)) ⌝ }
+    ensures { λ r. ⌜ r < 256 ⌝ }
+{
+    let mut last = first;
+    let mut i = 0usize;
+    while i < ends.len() {
+        let end = wide(ends[i]);
+        if end <= last {
+            return 0;
+        }
+        if image.len() <= end {
+            return 0;
+        }
+        let a = last + 1;
+        let b = end + 1;
+        if item_fits(&image[a..b], snippets) {
+            last = end;
+            i += 1;
+        } else {
+            return 0;
+        }
+    }
+    last
+}
+
+fn item_fits(bytes: &[u8], snippet: bool) -> bool
+    requires { ⌜ length (now bytes) < 256 ⌝ }
+    ensures { λ r. ⌜ r ≡ itemFits snippet (now (bytes .entry)) ⌝ }
+{
+    if bytes.len() < 1 {
+        return false;
+    }
+    if snippet {
+        return bytes.len() <= 16;
+    }
+    frames_fit(bytes)
+}
+
+// At most 32 frames, up to the end of the bytes.
+fn frames_fit(bytes: &[u8]) -> bool
+    requires { ⌜ length (now bytes) < 256 ⌝ }
+    ensures { λ r. ⌜ r ≡ present (readFrames 32 (now (bytes .entry))) ⌝ }
+{
+    let mut at = 0usize;
+    let mut k = 0usize;
+    while at < bytes.len() {
+        if 32 <= k {
+            return false;
+        }
+        let r = FrameBuilder::read(bytes, at);
+        match r {
+            FrameRead::Frame(_, len) => {
+                at += len as usize;
+                k += 1;
+            }
+            FrameRead::Refused(_) => {
+                return false;
+            }
+        }
+    }
+    true
+}
+
+fn zero_from(image: &[u8], at: usize) -> bool
+    ensures { λ r. ⌜ r ≡ allZero (drop at (now (image .entry))) ⌝ }
+{
+    let mut i = at;
+    while i < image.len() {
+        if 0 < image[i] {
+            return false;
+        }
+        i += 1;
+    }
+    true
+}
+
+// ---- an image's items, snippets and sequences counted together
+
+// The j-th byte of the k-th item, or 256.
+fn byte_of(image: &[u8], k: usize, j: usize) -> u16
+    requires { ⌜ k < 512 ⌝ }
+    ensures { λ r. ⌜ r ≡ byteCode (getElem? (itemAt (now (image .entry)) k) j) ⌝ }
+    ensures { λ _. ⌜ Small (getElem? (itemAt (now (image .entry)) k) j) ⌝ }
+{
+    let last = item_before(image, k);
+    let end = byte(image, 2 + k);
+    if end <= last {
+        return 256;
+    }
+    if end - last <= j {
+        return 256;
+    }
+    let at = last + 1 + j;
+    if image.len() <= at {
+        return 256;
+    }
+    byte(image, at) as u16
+}
+
+// The j-th frame of the k-th item.
+fn frame_of(image: &[u8], k: usize, j: usize) -> FrameAt
+    requires { ⌜ k < 512 ⌝ }
+    ensures { λ r. ⌜ FrameOf (now (image .entry)) k j r ⌝ }
+{
+    let last = item_before(image, k);
+    let end = byte(image, 2 + k);
+    if end <= last {
+        return FrameAt::Absent;
+    }
+    if image.len() <= end {
+        return FrameAt::Absent;
+    }
+    let a = last + 1;
+    let b = end + 1;
+    nth_frame(&image[a..b], j)
+}
+
+// The index of the byte before the k-th item.
+fn item_before(image: &[u8], k: usize) -> usize
+    requires { ⌜ k < 512 ⌝ }
+    ensures { λ r. ⌜ r ≡ beforeItem (now (image .entry)) k ⌝ }
+{
+    if k < 1 {
+        return 1 + byte(image, 0) + byte(image, 1);
+    }
+    byte(image, 1 + k)
+}
+
+fn nth_frame(bytes: &[u8], j: usize) -> FrameAt
+    requires { ⌜ length (now bytes) < 256 ⌝ }
+    ensures { λ r. ⌜ NthFrame (now (bytes .entry)) j r ⌝ }
+{
+    let mut at = 0usize;
+    let mut left = j;
+    while at < bytes.len() {
+        let r = FrameBuilder::read(bytes, at);
+        match r {
+            FrameRead::Frame(frame, len) => {
+                if left < 1 {
+                    return FrameAt::Frame(frame);
+                }
+                at += len as usize;
+                left -= 1;
+            }
+            FrameRead::Refused(_) => {
+                return FrameAt::Absent;
+            }
+        }
+    }
+    FrameAt::Absent
+}
+
+// The byte at an index, 0 past the end.
+fn byte(image: &[u8], at: usize) -> usize
+    ensures { λ r. ⌜ r ≡ getD (now (image .entry)) at 0 ⌝ }
+    ensures { λ r. ⌜ r < 256 ⌝ }
+{
+    if image.len() <= at {
+        return 0;
+    }
+    wide(image[at])
+}
+
+fn wide(x: u8) -> usize
+    ensures { λ r. ⌜ r ≡ x ⌝ }
+    ensures { λ r. ⌜ r < 256 ⌝ }
+{
+    x as usize
+}
+
+// ---- a frame as one number
 
 fn loop_byte(k: LoopCount) -> u8
     ensures { λ r. ⌜ r ≡ loopByte k ⌝ }

@@ -1,33 +1,41 @@
--- By the content that the reader told. Assumes nothing.
+-- By what is known of an image's content. Assumes nothing.
 use borrow.Author.Needs.{needs}
-use mathlib.Core.Path.{_≡_, refl, ap, sym, _∙_}
+use mathlib.Core.Path.{sym, _∙_}
 use native.Mathlib.Omega.{arith}
 use denote.Ref.{now}
-use mathlib.Core.Option.{Option}
-use Rattle.content.specs.Content.{Content}
-use Rattle.content.specs.ReadImage.{readImage}
-use Rattle.reader.proofs.Whole.{bytes-of, told}
-use Rattle.readings.specs.Readings.{countsWord, pointIn, frameIn, frameCode, pointCode}
-use Rattle.readings.proofs.Told.{done-content, refused-none, element-points, parts-count}
+use Rattle.readings.proofs.Told.{frame-past, frame-there, frame-none}
 use Rattle.readings.proofs.frame.Statement.{statement}
 use Rattle.readings.proofs.frame.Tie as tie
 
 returns : tie.Need-returns
 returns c =
-    let a = c .before .before .before .before .before .before .before .args in
-    let r = c .before .before .before .before .before .read in
-    let t = told (now (a .image)) (bytes-of (now (a .image)) (λ i. omega (arith, c .before .before .before .before .before .before .shared-slice-known .given i))) (r .result) (r .ensures) in
-    c .frame-code .ensures ∙ ap frameCode (c .before .frame-at .ensures)
-    ∙ ap (λ (o : Option Content). frameIn o (a .i) (a .j)) (sym (done-content (r .result) (readImage (now (a .image))) t (c .before .before .before .enum-told .given .1)))
+    let a = c .before .before .before .before .before .before .args in
+    let q = c .before .byte2 in
+    frame-past (now (a .image)) (sym (c .before .before .before .before .is-image .ensures) ∙ c .before .before .before .if1 .taken) (a .i) (a .j) (q .result) (q .ensures .0) (c .if2 .taken)
+
+frame-of-requires : tie.Need-frame-of-requires
+frame-of-requires c κs = omega (arith, c .if2 .left, c .before .before .byte .ensures .1, c .before .byte2 .ensures .1)
 
 returns-2 : tie.Need-returns-2
 returns-2 c =
-    let a = c .before .before .before .before .args in
-    let r = c .before .before .read in
-    let t = told (now (a .image)) (bytes-of (now (a .image)) (λ i. omega (arith, c .before .before .before .shared-slice-known .given i))) (r .result) (r .ensures) in
-    ap (λ (o : Option Content). frameIn o (a .i) (a .j)) (sym (refused-none (r .result) (readImage (now (a .image))) t _ (c .enum-told2 .given .1)))
+    let a = c .before .before .before .before .before .before .before .before .args in
+    let s = c .before .before .before .before .byte in
+    let q = c .before .before .before .byte2 in
+    c .frame-code .ensures ∙ frame-there (now (a .image)) (sym (c .before .before .before .before .before .before .is-image .ensures) ∙ c .before .before .before .before .before .if1 .taken) (a .i) (a .j) (s .result) (q .result) (c .before .frame-of .result) (s .ensures .0) (q .ensures .0) (c .before .before .if2 .left) (c .before .frame-of .ensures)
+
+returns-3 : tie.Need-returns-3
+returns-3 c = let a = c .before .before .before .args in frame-none (now (a .image)) (a .i) (a .j) (sym (c .before .is-image .ensures) ∙ c .if1 .left)
 
 pub frame-spec : {M : Type 1} → statement M
 frame-spec =
     tie.close
-    (tie.spec (λ c κs. search needs) (λ c. search needs) (λ c κs. search needs) (λ c κs. search needs) (λ c. search needs) returns returns-2)
+    (tie.spec
+    (λ c κs. search needs)
+    (λ c κs. search needs)
+    (λ c κs. search needs)
+    returns
+    (λ c. search needs)
+    frame-of-requires
+    (λ c κs. search needs)
+    returns-2
+    returns-3)
