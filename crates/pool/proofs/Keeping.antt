@@ -135,10 +135,10 @@ module _ (most n : ℕ) (l x : List ℕ) (f : n ≡ getD l 0 0) where
   room h a at l′ i j k = (
     sym (lt-ltb (getD l 0 0) most (omega arith)),
     λ items g e.
-    let c = count most items l e in
-    let d : length items < most = omega arith in
-    pushed most items x d l l′ n at e f (j ∙ ap (λ (o : ℕ). 1 + most + o) (sum-is most items l e n f a i)) k
-    ∙ ap (λ (t : Bool). kept most (cond t (items ++ (x ∷ [])) items)) (sym (lt-ltb (length items) most d)),
+        let c = count most items l e in
+        let d : length items < most = omega arith in
+        pushed most items x d l l′ n at e f (j ∙ ap (λ (o : ℕ). 1 + most + o) (sum-is most items l e n f a i)) k
+        ∙ ap (λ (t : Bool). kept most (cond t (items ++ (x ∷ [])) items)) (sym (lt-ltb (length items) most d)),
   )
 
 -- ---- the image
@@ -175,7 +175,7 @@ module _ (ls ks xs ys : List ℕ) (fit : length ls + length ks + length xs + len
       ∙ drop-at (zeros (length all)) (zeros (98 - n)) (length all) (length-replicate (length all) 0) in
       i
       ∙ ap (λ (o : List ℕ). over o (2 + s + q + length xs) ys)
-        (h ∙ ap (λ (o : List ℕ). over o (2 + s + q) xs) (g ∙ ap (λ (o : List ℕ). over o (2 + s) r) f ∙ over-more start p r 2 (2 + s) (omega arith) (omega arith)) ∙ over-more start (p ++ r) xs 2 (2 + s + q) (omega arith) (omega arith))
+      (h ∙ ap (λ (o : List ℕ). over o (2 + s + q) xs) (g ∙ ap (λ (o : List ℕ). over o (2 + s) r) f ∙ over-more start p r 2 (2 + s) (omega arith) (omega arith)) ∙ over-more start (p ++ r) xs 2 (2 + s + q) (omega arith) (omega arith))
       ∙ over-more start (p ++ r ++ xs) ys 2 (2 + s + q + length xs) (omega arith) (omega arith)
       ∙ ap (λ (o : List ℕ). s ∷ q ∷ (all ++ o)) t
       ∙ ap (λ (o : List ℕ). s ∷ q ∷ (o ++ xs ++ ys ++ zeros (98 - n))) (ap (λ (o : ℕ). p ++ ends o ks) e ∙ sym (ends-append ls ks (1 + s + q)))

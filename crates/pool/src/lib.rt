@@ -56,12 +56,7 @@ pub fn image(snippets: &[u8], sequences: &[u8], buffer: &mut [u8]) -> u8
 }
 
 // The lengths and the bytes of snippets and sequences as an image, in which they fit.
-fn laid(
-    snippet_lens: &[u8],
-    snippets: &[u8],
-    sequence_lens: &[u8],
-    sequences: &[u8],
-) -> [u8; 100]
+fn laid(snippet_lens: &[u8], snippets: &[u8], sequence_lens: &[u8], sequences: &[u8]) -> [u8; 100]
     requires { ⌜ (length (now «snippet_lens») + length (now «sequence_lens») + length (now snippets) + length (now sequences) ≤ 98) × (total (now «snippet_lens») ≡ length (now snippets)) × (total (now «sequence_lens») ≡ length (now sequences)) ⌝ }
     ensures { λ r. ⌜ r ≡ length (now («snippet_lens» .entry)) ∷ length (now («sequence_lens» .entry)) ∷ ends (1 + length (now («snippet_lens» .entry)) + length (now («sequence_lens» .entry))) (now («snippet_lens» .entry) ++ now («sequence_lens» .entry)) ++ now (snippets .entry) ++ now (sequences .entry) ++ replicate (98 - (length (now («snippet_lens» .entry)) + length (now («sequence_lens» .entry)) + length (now (snippets .entry)) + length (now (sequences .entry)))) 0 ⌝ }
 {
