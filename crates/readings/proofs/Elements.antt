@@ -20,7 +20,7 @@ use Rattle.reader.proofs.Loops.{item-part}
 use Rattle.reader.proofs.Running.{took, refused}
 use Rattle.items.specs.declared.FrameAt.{FrameAt}
 use Rattle.items.specs.declared.FrameAt.the-variants as FrameAt
-use Rattle.items.proofs.Placed.{elem-some, elem-out, one-part}
+use Rattle.items.proofs.Placed.{elem-some, elem-none, one-part}
 use Rattle.readings.specs.InPlace.{beforeItem, itemAt, NthFrame, FrameOf}
 use Rattle.readings.specs.Readings.{byteCode, Small}
 
@@ -57,7 +57,7 @@ module _ (image : List ℕ) (k j last end : ℕ) (e : last ≡ beforeItem image 
     byte-in = byte-is ∙ simp (lt-ltb j (end - last) g)
 
     pub byte-past : length image ≤ last + 1 + j → Byte 256
-    byte-past h = no-byte (byte-in ∙ elem-out image (last + 1 + j) h)
+    byte-past h = no-byte (byte-in ∙ elem-none image (last + 1 + j) h)
 
     pub byte-there : last + 1 + j < length image → (b : ℕ) → b ≡ getD image (last + 1 + j) 0 → b < 256 → Byte b
     byte-there h b d s =

@@ -9,9 +9,10 @@ use native.Mathlib.Omega.{arith}
 use borrow.Author.Tests.{lt-ltb, le-ltb, le-leb, lt-leb, eq-eqb, ne-eqb}
 use lib.Dec.{ltb, leb, eqb}
 use lib.ListN.{length, take, drop, getD, drop-of-length-le}
+use Rattle.laws.specs.Bytes.{Bytes}
+use Rattle.errors.specs.Told.{gives, refuses}
 use Rattle.errors.specs.declared.Answer.{Answer}
 use Rattle.errors.specs.declared.Answer.the-variants as Answer
-use Rattle.errors.specs.Told.{Told, gives, refuses}
 use Rattle.frame.specs.declared.FrameBuilder.{FrameBuilder}
 use Rattle.frame.specs.Read.{Parsed, readFrame, taken}
 use Rattle.content.specs.Content.{Content}
@@ -19,7 +20,7 @@ use Rattle.content.specs.ReadImage.{andThen, readFrames, allZero, countsFit, re
 use Rattle.reader.specs.declared.Points.{Points}
 use Rattle.reader.specs.declared.Frames.{Frames}
 use Rattle.reader.specs.declared.Reading.{Reading}
-use Rattle.reader.specs.Reading.{noPoints, noFrames, toldBy, imageTold}
+use Rattle.reader.specs.Reading.{noPoints, noFrames, readingOf}
 use Rattle.reader.specs.Flat.{pushFrame, pushPoints, endSnippet, endSequence}
 use Rattle.reader.specs.Walk.{runFrames, snippetStep, sequenceStep, Walked, item, walk, walkSnippets, walkSequences, noReading, sequencesThen, afterSnippets, snippetsThen, afterCounts, scanned}
 use Rattle.reader.proofs.Loops.{drop-one}
@@ -86,17 +87,9 @@ abbrev done : Answer → Bool
 done Answer.Done = true
 done (Answer.Refused e) = false
 
-abbrev given : Told Content → Bool
-given (gives c) = true
-given (refuses n) = false
-
-done-given : (a : Answer) (r : Reading) → given (toldBy a r) ≡ done a
-done-given Answer.Done r = refl
-done-given (Answer.Refused e) r = refl
-
-present-given : (o : Option Content) → present o ≡ given (imageTold o)
-present-given none = refl
-present-given (some c) = refl
+reading-done : (o : Option Content) → present o ≡ done (readingOf o .answer)
+reading-done none = refl
+reading-done (some c) = refl
 
 finished-done : (t : Bool) (s : Points) (q : Frames) → done ((cond t (record { answer = Answer.Done; snippets = s; sequences = q }) noReading) .answer) ≡ t
 finished-done true s q = refl
@@ -121,13 +114,13 @@ counts-done image s q =
     snippets-done image s q (walkSnippets image (1 + s + q) es noPoints)
     ∙ ap (sequencesFit image (2 + s) q) (walk-last snippetStep true image snippet-found es (1 + s + q) noPoints)
 
-module _ (image : List ℕ) where
+module _ (image : List ℕ) (small : Bytes image) where
   abbrev fits : Bool → Bool → Bool
   fits t u = cond t (cond u (itemsFit image (getD image 0 0) (getD image 1 0)) false) false
 
   image-fits : present (readImage image) ≡ fits (eqb (length image) 100) (countsFit (getD image 0 0) (getD image 1 0))
   image-fits =
-      present-given (readImage image) ∙ ap given (sym (whole image .0)) ∙ done-given (scanned image .answer) (scanned image)
+      reading-done (readImage image) ∙ ap (λ (r : Reading). done (r .answer)) (sym (whole image small .1))
       ∙ go (eqb (length image) 100) (countsFit (getD image 0 0) (getD image 1 0))
     where
       go : (t u : Bool) → done ((cond t (cond u (afterCounts image (getD image 0 0) (getD image 1 0)) noReading) noReading) .answer) ≡ fits t u

@@ -1,7 +1,7 @@
 -- Where the items of an image stand, and what of them was read.
 -- Assumes nothing.
 use mathlib.Core.Path.{_≡_, refl, sym, ap, _∙_, subst}
-use mathlib.Core.Bool.{_&&_}
+use mathlib.Core.Bool.{_&&_, and-eq-true-iff}
 use mathlib.Core.List.{List, [], _∷_}
 use mathlib.Core.Option.{Option, some}
 use Prim.Native.Nat.{ℕ, zero, suc, _+_, _-_, _≤_, _<_}
@@ -12,10 +12,10 @@ use lib.ListN.{length, take, drop, getD, getElem?, length-take, length-drop}
 use lib.Seq.{getD-take, length-take-le}
 use Rattle.content.specs.Content.{Content}
 use Rattle.content.specs.ReadImage.{andThen, every, readSnippet, readSequence, Cut, cut, allZero, Items, countsFit, itemsFrom, readItems, contentFrom, readImage}
-use Rattle.content.proofs.Codec.{none-some, some-inj, cond-some, both-true, then-some}
+use Rattle.content.proofs.Codec.{none-some, some-inj, cond-some, then-some}
 use Rattle.reader.specs.Walk.{item}
 use Rattle.reader.proofs.Cuts.{drop-on, was-cut}
-use Rattle.reader.proofs.Found.{counts-true}
+use Rattle.content.proofs.Items.{counts-sound}
 use Rattle.items.specs.Places.{startIn}
 use Rattle.items.proofs.Placed.{elem-take, elem-drop}
 use Rattle.readings.specs.InPlace.{beforeItem, itemAt}
@@ -58,7 +58,7 @@ one-cut : (p e : ℕ) (es image : List ℕ) (c : Cut) → cut p (e ∷ es) (drop
 one-cut p e es image c h =
     let l : List ℕ = drop (p + 1) image in
     let (t, h₁) = cond-some (ltb p e && leb (e - p) (length l)) _ h in
-    let (t₁, t₂) = both-true (ltb p e) (leb (e - p) (length l)) t in
+    let (t₁, t₂) = and-eq-true-iff (ltb p e) (leb (e - p) (length l)) .0 t in
     let u : p < e = ltb-true p e t₁ in
     let v : e - p ≤ length l = leb-true (e - p) (length l) t₂ in
     let (d, h₂, h₃) = then-some (cut e es (drop (e - p) l)) _ h₁ in
@@ -155,14 +155,14 @@ items-known : (s q : ℕ) (l : List ℕ) (r : Items) (x : Content) → readItems
 unfolding readItems
 items-known s q l r x e f =
     let (t, e₁) = cond-some (eqb (length l) 98 && countsFit s q) _ e in
-    let (u, v) = both-true (eqb (length l) 98) (countsFit s q) t in
+    let (u, v) = and-eq-true-iff (eqb (length l) 98) (countsFit s q) .0 t in
     let (c, e₂, e₃) = then-some (cut (1 + s + q) (take (s + q) l) (drop (s + q) l)) (itemsFrom s) e₁ in
     let (z, e₄) = cond-some (allZero (c .left)) _ e₃ in
     let d = some-inj e₄ in
     let (a, f₁, f₂) = then-some (every readSnippet (r .snippets)) _ f in
     let (b, f₃, f₄) = then-some (every readSequence (r .sequences)) _ f₂ in
     let n = eqb-true (length l) 98 u in
-    let k = counts-true s q v in
+    let k = counts-sound s q v in
     subst (λ (y : Content). Known (s ∷ q ∷ l) y) (some-inj f₄)
     (content-known s q l (omega arith) c e₂ (record { snippets = a; sequences = b })
     (ap (λ (y : Items). every readSnippet (y .snippets)) d ∙ f₁)

@@ -15,7 +15,7 @@ use Rattle.content.specs.ReadImage.{andThen, pointsIn, readSnippet, readFrames,
 use Rattle.content.proofs.Codec.{some-inj, cond-some}
 use Rattle.items.specs.declared.FrameAt.{FrameAt}
 use Rattle.items.specs.Items.{element, frameTold}
-use Rattle.items.proofs.Placed.{elem-some, elem-out}
+use Rattle.items.proofs.Placed.{elem-some, elem-none}
 use Rattle.readings.specs.InPlace.{present, itemAt, FrameOf}
 use Rattle.readings.specs.Readings.{countsWord, byteCode, Small, pointCode, pointIn, frameCode, frameIn}
 use Rattle.readings.proofs.Standing.{Known, known}
@@ -42,7 +42,7 @@ unfolding readSequence
 sequence-frames bs fs e = cond-some (leb 1 (length bs)) (readFrames 32 bs) e .1
 
 no-element : {A : Type 0} (ls : List (List A)) (i j : ℕ) → length ls ≤ i → none ≡ element ls i j
-no-element ls i j h = sym (ap (λ o. andThen o (λ l. getElem? l j)) (elem-out ls i h))
+no-element ls i j h = sym (ap (λ o. andThen o (λ l. getElem? l j)) (elem-none ls i h))
 
 an-element : {A : Type 0} (ls : List (List A)) (i j : ℕ) (h : i < length ls) → element ls i j ≡ getElem? (getD ls i []) j
 an-element ls i j h = ap (λ o. andThen o (λ l. getElem? l j)) (elem-some ls i [] h)
