@@ -16,7 +16,7 @@ const NEVER: u8 = 255;
 
 pub fn drive(memory: WaveformMemory, chip: &mut [u8], session: &mut [u8]) {
     show::text(
-        b"\n4. The driver on a simulated chip, a DA7280 at 4A: its count, and each exchange\n",
+        b"\n4. The driver on a simulated DA7280 at address 4A: count, exchange, register, bytes\n",
     );
     show::text(b"\nnew\n");
     example_chip::reset(chip);

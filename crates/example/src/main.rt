@@ -6,13 +6,13 @@ mod drive;
 use memory::WaveformMemory;
 
 fn main() {
-    show::text(b"1. Two patterns, by the builders: each call in order, and what is refused\n");
+    show::text(b"1. Two patterns, by the builders: every call in order\n");
     let ahead = example_patterns::shallow_ahead();
     let turn = example_patterns::turn_now();
-    show::text(b"\n2. Their images, in hexadecimal: what goes over the air and into the chip\n");
+    show::text(b"\n2. Their images, a hundred bytes each, in hexadecimal\n");
     image(b"\nshallow ahead:", ahead);
     image(b"\nturn now:", turn);
-    show::text(b"\n3. The images read back\n");
+    show::text(b"\n3. The same images, read back\n");
     read_back(b"\nshallow ahead\n", ahead);
     read_back(b"\nturn now\n", turn);
     damaged(turn);

@@ -1,4 +1,4 @@
-// Where an image's parts stand, and the lists that the reader gives back.
+// Where the parts of an image stand, and the lists that the reader gives back, printed. Proved: every function returns.
 ghost use Prim.Native.Nat.{_<_};
 use errors::Answer;
 use frame::FrameBuilder;

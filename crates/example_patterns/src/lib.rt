@@ -1,4 +1,5 @@
-// The two patterns. Each builder call is printed as it is made, with its refusal if it has one.
+// The two patterns of the program `example`. Each builder call is printed as it is made, with its refusal if it has one.
+// Proved: every function returns.
 use errors::Answer;
 use frame::Frame;
 use frame::FrameBuilder;

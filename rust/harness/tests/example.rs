@@ -56,6 +56,26 @@ fn printed_image(name: &str) -> Vec<u8> {
     image
 }
 
+/// What is said of an image's parts is what its counts and end pointers say.
+#[test]
+fn parts_are_those_of_the_images() {
+    for name in PATTERNS {
+        let image = printed_image(name);
+        let data = 2 + image[0] + image[1];
+        let (points, frames) = (image[1 + usize::from(image[0])], image[usize::from(data) - 1]);
+        let parts = [
+            ("counts", 0, 1),
+            ("end pointers", 2, data - 1),
+            ("snippets", data, points),
+            ("sequences", points + 1, frames),
+        ];
+        let parts = parts.map(|(part, from, to)| format!("{part} {from:02X} to {to:02X}"));
+        let wanted = format!("{name}: {}, then zeros", parts.join(", "));
+        assert!(part(2).contains(&wanted), "{wanted}");
+        assert!(image[usize::from(frames) + 1..].iter().all(|byte| *byte == 0), "{name:?}");
+    }
+}
+
 /// What stands at the place of a text among four.
 fn choice<T: Copy>(texts: [&str; 4], values: [T; 4], text: &str) -> T {
     let place = texts.iter().position(|it| *it == text);
