@@ -172,11 +172,7 @@ impl Run {
 }
 
 /// The builders after the items of a pattern: a snippet's line by one function, a frame's by another.
-fn run(
-    lines: &[String],
-    snippet: impl Fn(&mut Run, &str),
-    frame: impl Fn(&mut Run, &str),
-) -> Run {
+fn run(lines: &[String], snippet: impl Fn(&mut Run, &str), frame: impl Fn(&mut Run, &str)) -> Run {
     let mut run = Run::default();
     let mut within = false;
     for line in lines {
