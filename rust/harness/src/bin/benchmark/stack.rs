@@ -44,3 +44,19 @@ fn depth(mut call: &mut dyn FnMut()) -> usize {
 extern "C" fn trampoline(call: &mut &mut dyn FnMut()) {
     call();
 }
+
+#[cfg(test)]
+mod tests {
+    use super::*;
+
+    /// 4 KB for building and reading, 1 KB for what drives the chip, each with the caller's buffers.
+    #[test]
+    fn stack_stays_within_its_bounds() {
+        let depths = depths(&Inputs::new(400));
+        assert_eq!(depths.len(), WORKS.len());
+        for (name, ours, _) in depths {
+            let bound = if name == "images" || name.starts_with("reading") { 4096 } else { 1024 };
+            assert!((64..=bound).contains(&ours), "{name}: {ours} bytes");
+        }
+    }
+}
