@@ -19,6 +19,9 @@ use harness::raw::ffi;
 const TIMED: usize = 20_000;
 const COUNTED: usize = 1_000;
 
+/// Above each pair of costs.
+const HEADS: &str = "     Rust      this  ratio";
+
 /// The best of this many runs is the time.
 const RUNS: usize = 9;
 
@@ -49,8 +52,8 @@ extern "Rust" fn measured(side: Side, inputs: &Inputs) -> Done {
 fn compare() {
     let inputs = Inputs::new(TIMED);
     let small = Inputs::new(COUNTED);
-    println!("a unit of                        Rust     this    ratio        Rust      this   ratio");
-    println!("                                instructions                ns");
+    println!("{:29} {:^26} {:^26}", "", "instructions", "nanoseconds");
+    println!("{:29} {HEADS} {HEADS}", "one (unit) of");
     for (number, work) in WORKS.iter().enumerate() {
         let ours = work_of(number, "ours", &inputs, &small);
         let theirs = work.theirs.map(|_| work_of(number, "theirs", &inputs, &small));
@@ -58,19 +61,22 @@ fn compare() {
             assert_eq!(ours.done, theirs.done, "{}: both sides did the same", work.name);
         }
         let name = format!("{} ({})", work.name, work.unit);
-        let pair = |pick: fn(&Cost) -> Option<f64>| columns(theirs.as_ref().and_then(pick), pick(&ours));
+        let pair =
+            |pick: fn(&Cost) -> Option<f64>| columns(theirs.as_ref().and_then(pick), pick(&ours));
         println!("{name:29} {} {}", pair(|it| it.instructions), pair(|it| Some(it.nanoseconds)));
     }
-    println!();
+    println!("\n{:29} {:>9} {:>9}", "bytes of stack", "Rust", "this");
     for (name, ours, theirs) in stack::depths(&small) {
-        println!("stack, {name:22} Rust {theirs:6} bytes, this {ours:6} bytes");
+        let theirs = theirs.map_or("-".into(), |it| it.to_string());
+        println!("{name:29} {theirs:>9} {ours:>9}");
     }
 }
 
 /// Both numbers and their ratio.
 fn columns(theirs: Option<f64>, ours: Option<f64>) -> String {
     let shown = |it: Option<f64>| it.map_or("-".into(), |it| format!("{it:.1}"));
-    let ratio = theirs.zip(ours).map_or("-".into(), |(theirs, ours)| format!("{:.2}", ours / theirs));
+    let ratio =
+        theirs.zip(ours).map_or("-".into(), |(theirs, ours)| format!("{:.2}", ours / theirs));
     format!("{:>9} {:>9} {ratio:>6}", shown(theirs), shown(ours))
 }
 

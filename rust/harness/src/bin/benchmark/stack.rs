@@ -7,13 +7,14 @@ const SIZE: usize = 1 << 16;
 
 const FRESH: u8 = 0x5C;
 
-/// The most stack that any case of these works uses, by the library and by the published Rust.
-pub fn depths(inputs: &Inputs) -> Vec<(&'static str, usize, usize)> {
+/// The most stack that any case of each work uses, the work's own buffers included: by the library,
+/// and by the published Rust.
+pub fn depths(inputs: &Inputs) -> Vec<(&'static str, usize, Option<usize>)> {
     WORKS
         .iter()
         .map(|work| {
             let of = |side: Side| depth(&mut || assert_ne!(side(inputs).count, 0));
-            (work.name, of(work.ours), work.theirs.map_or(0, of))
+            (work.name, of(work.ours), work.theirs.map(of))
         })
         .collect()
 }

@@ -6,12 +6,12 @@ use da728x::waveform::WaveformMemory;
 use embedded_hal_async::i2c::{ErrorKind, ErrorType, I2c};
 use harness::bus::{MOST, at_once};
 use harness::driver::{record_bytes, revision};
+use harness::encoded;
 use harness::oracle::{Builders, number};
 use harness::patterns::KINDS;
 use harness::random::Random;
 use harness::raw::{BYTE, DONE, SESSION};
 use harness::settings::{Settings, published_variant};
-use harness::encoded;
 use std::hint::black_box;
 use yambelugo::{Call, IMAGE, RECORD, Variant};
 
@@ -89,9 +89,19 @@ pub const WORKS: [Work; 8] = [
     Work { name: "images", unit: "image", theirs: Some(their_images), ours: our_images },
     Work { name: "reading", unit: "image", theirs: None, ours: our_readings },
     Work { name: "reading every item", unit: "image", theirs: None, ours: our_items },
-    Work { name: "refused settings", unit: "refusal", theirs: Some(their_refusals), ours: our_refusals },
+    Work {
+        name: "refused settings",
+        unit: "refusal",
+        theirs: Some(their_refusals),
+        ours: our_refusals,
+    },
     Work { name: "configure, plan", unit: "plan", theirs: Some(their_plans), ours: our_plans },
-    Work { name: "configure", unit: "exchange", theirs: Some(their_configures), ours: our_configures },
+    Work {
+        name: "configure",
+        unit: "exchange",
+        theirs: Some(their_configures),
+        ours: our_configures,
+    },
     Work { name: "upload, plan", unit: "plan", theirs: None, ours: our_upload_plans },
     Work { name: "upload", unit: "exchange", theirs: Some(their_uploads), ours: our_uploads },
 ];
@@ -229,7 +239,12 @@ impl I2c for &mut Bus {
         Ok(())
     }
 
-    async fn write_read(&mut self, address: u8, sent: &[u8], read: &mut [u8]) -> Result<(), ErrorKind> {
+    async fn write_read(
+        &mut self,
+        address: u8,
+        sent: &[u8],
+        read: &mut [u8],
+    ) -> Result<(), ErrorKind> {
         read[0] = self.exchange(address, black_box(sent));
         Ok(())
     }
@@ -274,7 +289,9 @@ fn our_start(settings: &Case, session: &mut [u8; SESSION]) -> u8 {
     let record = record_bytes(ADDRESS, VARIANT, None);
     let (at, len) = (settings.bytes.as_ptr(), settings.bytes.len());
     // SAFETY: each pointer and length is an array, and none overlaps another.
-    unsafe { ffi::da728x_configure(record.as_ptr(), RECORD, at, len, session.as_mut_ptr(), SESSION) }
+    unsafe {
+        ffi::da728x_configure(record.as_ptr(), RECORD, at, len, session.as_mut_ptr(), SESSION)
+    }
 }
 
 fn our_plans(inputs: &Inputs) -> Done {
@@ -291,7 +308,8 @@ fn run(bus: &mut Bus, session: &mut [u8; SESSION]) {
     let mut bytes = [0; MOST];
     loop {
         // SAFETY: each pointer and length is an array, and none overlaps another.
-        let next = unsafe { ffi::da728x_pending(session.as_ptr(), SESSION, bytes.as_mut_ptr(), MOST) };
+        let next =
+            unsafe { ffi::da728x_pending(session.as_ptr(), SESSION, bytes.as_mut_ptr(), MOST) };
         if next == 0 {
             return;
         }
