@@ -112,6 +112,11 @@ impl Outcome {
         let answer = Err((number, None));
         Self { answer, made: 0, log: Vec::new(), lent: markers(room) }
     }
+
+    /// The lent buffer.
+    pub fn buffer(&self) -> &[u8] {
+        &self.lent[GUARD..self.lent.len() - GUARD]
+    }
 }
 
 /// How many outcomes had which number; 0 counts those that succeeded.
@@ -186,14 +191,18 @@ fn run(
     (Outcome { answer, made, log: wire.log, lent }, record)
 }
 
-/// The published driver on a bus that runs scripts.
-struct Published {
+/// The published driver on a bus that runs scripts, with what it has stored.
+pub struct Published {
     driver: da728x::DA728x<Bus>,
     wire: Rc<RefCell<Wire>>,
+    pub address: u8,
+    pub variant: Variant,
+    pub stored: Option<Settings>,
 }
 
 impl Published {
-    fn new(address: u8, variant: Variant, script: &Script) -> (Outcome, Option<Self>) {
+    /// What `new` came to on this script, and the driver that it made.
+    pub fn new(address: u8, variant: Variant, script: &Script) -> (Outcome, Option<Self>) {
         let wire = Rc::new(RefCell::new(Wire::new(script)));
         let bus = Bus(wire.clone());
         let made = at_once(da728x::DA728x::new(bus, address, published_variant(variant)));
@@ -203,7 +212,44 @@ impl Published {
         };
         let log = std::mem::take(&mut wire.borrow_mut().log);
         let outcome = Outcome { answer, made: log.len(), log, lent: markers(5) };
-        (outcome, driver.map(|driver| Self { driver, wire }))
+        (outcome, driver.map(|driver| Self { driver, wire, address, variant, stored: None }))
+    }
+
+    /// What an operation comes to on this script, as document 01 has it: by the published driver
+    /// unless it lies outside the comparison.
+    pub fn outcome(&mut self, operation: &Operation, script: &Script) -> Outcome {
+        let outcome = match self.outside(operation) {
+            Some(number) => Outcome::refused(number, operation.room()),
+            None => followed(operation, self.run(operation, script)),
+        };
+        if let (Operation::Configure(settings), Ok(_)) = (operation, &outcome.answer) {
+            self.stored = Some(*settings);
+        }
+        outcome
+    }
+
+    /// The number that is told where the published driver is not run on the operation.
+    fn outside(&self, operation: &Operation) -> Option<u8> {
+        match operation {
+            Operation::Configure(settings) => {
+                let number = settings.outside()?;
+                Some(self.checked(&settings.inside()).unwrap_or(number))
+            }
+            Operation::SetCustomDriveWaveform(_) => {
+                let custom = DrivingMode::CUSTOM_WAVEFORM;
+                self.stored.filter(|it| it.device.driving_mode == custom).map(|_| 14)
+            }
+            Operation::UploadWaveformMemory(image, _) => (image.len() > IMAGE).then_some(8),
+            _ => None,
+        }
+    }
+
+    /// What the published checks of `configure` refuse these settings with.
+    fn checked(&self, settings: &Settings) -> Option<u8> {
+        let script = Script::reading(&[revision(self.variant)]);
+        let (_, other) = Self::new(self.address, self.variant, &script);
+        let outcome = other.unwrap().run(&Operation::Configure(*settings), &script);
+        outcome.answer.err().map(|(number, _)| number)
     }
 
     fn run(&mut self, operation: &Operation, script: &Script) -> Outcome {
@@ -309,9 +355,6 @@ pub fn record_bytes(address: u8, variant: Variant, stored: Option<&Settings>) ->
 
 /// A driver on each side, with the same settings stored.
 pub struct Pair {
-    address: u8,
-    variant: Variant,
-    stored: Option<Settings>,
     record: DA728x,
     published: Published,
 }
@@ -323,8 +366,7 @@ impl Pair {
         let (ours, record) = run(None, Ok(DA728x::new(address, variant)), &script);
         let (theirs, published) = Published::new(address, variant, &script);
         assert_eq!(ours, theirs);
-        let (record, published) = (record.unwrap(), published.unwrap());
-        Self { address, variant, stored: None, record, published }
+        Self { record: record.unwrap(), published: published.unwrap() }
     }
 
     /// New drivers with these settings stored.
@@ -339,46 +381,17 @@ impl Pair {
     /// Compares an operation on this script, all that it leaves, and the record in force afterwards; its outcome.
     pub fn compare(&mut self, operation: &Operation, script: &Script) -> Outcome {
         let (ours, record) = run(Some(operation), operation.start(&self.record), script);
-        let theirs = match self.outside(operation) {
-            Some(number) => Outcome::refused(number, operation.room()),
-            None => followed(operation, self.published.run(operation, script)),
-        };
-        let (variant, stored) = (self.variant, &self.stored);
-        assert_eq!(ours, theirs, "{operation:?} on {script:02X?}, {variant:?}, stored {stored:?}");
+        let before = self.published.stored;
+        let theirs = self.published.outcome(operation, script);
+        let Published { address, variant, stored, .. } = &self.published;
+        assert_eq!(ours, theirs, "{operation:?} on {script:02X?}, {variant:?}, stored {before:?}");
 
         if let Some(record) = record {
             self.record = record;
-            if let Operation::Configure(settings) = operation {
-                self.stored = Some(*settings);
-            }
         }
-        let wanted = record_bytes(self.address, self.variant, self.stored.as_ref());
+        let wanted = record_bytes(*address, *variant, stored.as_ref());
         assert_eq!(*self.record.as_bytes(), wanted, "the record after {operation:?}");
         ours
-    }
-
-    /// The number that is told where the published driver is not run on the operation.
-    fn outside(&self, operation: &Operation) -> Option<u8> {
-        match operation {
-            Operation::Configure(settings) => {
-                let number = settings.outside()?;
-                Some(self.checked(&settings.inside()).unwrap_or(number))
-            }
-            Operation::SetCustomDriveWaveform(_) => {
-                let custom = DrivingMode::CUSTOM_WAVEFORM;
-                self.stored.filter(|it| it.device.driving_mode == custom).map(|_| 14)
-            }
-            Operation::UploadWaveformMemory(image, _) => (image.len() > IMAGE).then_some(8),
-            _ => None,
-        }
-    }
-
-    /// What the published checks of `configure` refuse these settings with.
-    fn checked(&self, settings: &Settings) -> Option<u8> {
-        let script = Script::reading(&[revision(self.variant)]);
-        let (_, other) = Published::new(self.address, self.variant, &script);
-        let outcome = other.unwrap().run(&Operation::Configure(*settings), &script);
-        outcome.answer.err().map(|(number, _)| number)
     }
 }
 
