@@ -10,7 +10,7 @@ use std::env;
 use std::hint::black_box;
 use std::process::Command;
 use std::time::Instant;
-use works::{Done, Inputs, Side, WORKS, Work};
+use works::{Done, Goal, Inputs, Side, WORKS, Work};
 
 /// The C functions, without the wrapper's checks.
 use harness::raw::ffi;
@@ -53,7 +53,8 @@ fn compare() {
     let inputs = Inputs::new(TIMED);
     let small = Inputs::new(COUNTED);
     println!("{:29} {:^26} {:^26}", "", "instructions", "nanoseconds");
-    println!("{:29} {HEADS} {HEADS}", "one (unit) of");
+    println!("{:29} {HEADS} {HEADS}  goal", "what one (unit) costs");
+    let mut building = None;
     for (number, work) in WORKS.iter().enumerate() {
         let ours = work_of(number, "ours", &inputs, &small);
         let theirs = work.theirs.map(|_| work_of(number, "theirs", &inputs, &small));
@@ -63,12 +64,31 @@ fn compare() {
         let name = format!("{} ({})", work.name, work.unit);
         let pair =
             |pick: fn(&Cost) -> Option<f64>| columns(theirs.as_ref().and_then(pick), pick(&ours));
-        println!("{name:29} {} {}", pair(|it| it.instructions), pair(|it| Some(it.nanoseconds)));
+        let costs = [pair(|it| it.instructions), pair(|it| Some(it.nanoseconds))].join(" ");
+        let theirs = theirs.as_ref().and_then(|it| it.instructions);
+        building = building.or(ours.instructions);
+        let judged = judged(work.goal, ours.instructions, theirs, building);
+        println!("{name:29} {costs}  {judged}");
     }
     println!("\n{:29} {:>9} {:>9}", "bytes of stack", "Rust", "this");
     for (name, ours, theirs) in stack::depths(&small) {
         let theirs = theirs.map_or("-".into(), |it| it.to_string());
         println!("{name:29} {theirs:>9} {ours:>9}");
+    }
+}
+
+/// The goal in words, and whether it is met.
+fn judged(goal: Goal, ours: Option<f64>, theirs: Option<f64>, building: Option<f64>) -> String {
+    let (words, bound) = match goal {
+        Goal::OfTheRust(times) => (format!("{times} of the Rust"), theirs.map(|it| it * times)),
+        Goal::OfBuilding(times) => (format!("{times} of building"), building.map(|it| it * times)),
+        Goal::AtMost(bound) => (format!("{bound} instructions"), Some(bound)),
+        Goal::Free => return String::new(),
+    };
+    match ours.zip(bound) {
+        Some((ours, bound)) if ours <= bound => words + ": met",
+        Some(_) => words + ": MISSED",
+        None => words,
     }
 }
 

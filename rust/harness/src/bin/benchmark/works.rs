@@ -77,33 +77,83 @@ impl Done {
 
 pub type Side = fn(&Inputs) -> Done;
 
+/// What a work may cost, in instructions.
+#[derive(Clone, Copy)]
+pub enum Goal {
+    /// So many times the Rust's.
+    OfTheRust(f64),
+    /// So many times building an image.
+    OfBuilding(f64),
+    AtMost(f64),
+    Free,
+}
+
 /// A piece of work, with the published Rust's side where it has one.
 pub struct Work {
     pub name: &'static str,
     pub unit: &'static str,
     pub theirs: Option<Side>,
     pub ours: Side,
+    pub goal: Goal,
 }
 
 pub const WORKS: [Work; 8] = [
-    Work { name: "images", unit: "image", theirs: Some(their_images), ours: our_images },
-    Work { name: "reading", unit: "image", theirs: None, ours: our_readings },
-    Work { name: "reading every item", unit: "image", theirs: None, ours: our_items },
+    Work {
+        name: "images",
+        unit: "image",
+        theirs: Some(their_images),
+        ours: our_images,
+        goal: Goal::OfTheRust(1.2),
+    },
+    Work {
+        name: "reading",
+        unit: "image",
+        theirs: None,
+        ours: our_readings,
+        goal: Goal::OfBuilding(2.0),
+    },
+    Work {
+        name: "reading every item",
+        unit: "image",
+        theirs: None,
+        ours: our_items,
+        goal: Goal::Free,
+    },
     Work {
         name: "refused settings",
         unit: "refusal",
         theirs: Some(their_refusals),
         ours: our_refusals,
+        goal: Goal::Free,
     },
-    Work { name: "configure, plan", unit: "plan", theirs: Some(their_plans), ours: our_plans },
+    Work {
+        name: "configure, plan",
+        unit: "plan",
+        theirs: Some(their_plans),
+        ours: our_plans,
+        goal: Goal::OfTheRust(1.5),
+    },
     Work {
         name: "configure",
         unit: "exchange",
         theirs: Some(their_configures),
         ours: our_configures,
+        goal: Goal::AtMost(300.0),
     },
-    Work { name: "upload, plan", unit: "plan", theirs: None, ours: our_upload_plans },
-    Work { name: "upload", unit: "exchange", theirs: Some(their_uploads), ours: our_uploads },
+    Work {
+        name: "upload, plan",
+        unit: "plan",
+        theirs: None,
+        ours: our_upload_plans,
+        goal: Goal::Free,
+    },
+    Work {
+        name: "upload",
+        unit: "exchange",
+        theirs: Some(their_uploads),
+        ours: our_uploads,
+        goal: Goal::AtMost(300.0),
+    },
 ];
 
 fn their_images(inputs: &Inputs) -> Done {
