@@ -22,9 +22,9 @@ use Rattle.calls.specs.declared.Builders.{Builders}
 use Rattle.memory.specs.Image.{imageBytes}
 use Rattle.memory.specs.Memory.{newMemory, snippetItems, sequenceItems, noMemory, memoryOf, imageNumber, builtMemory}
 use Rattle.memory.specs.declared.WaveformMemoryBuilder.{WaveformMemoryBuilder}
-use Rattle.pool.specs.Kept as pool
-use Rattle.pool.specs.Kept.{kept, Pushed}
-use Rattle.pool.proofs.Keeping.{count}
+use Rattle.assemble.specs.Kept as pool
+use Rattle.assemble.specs.Kept.{kept, Pushed}
+use Rattle.assemble.proofs.Keeping.{count}
 use Rattle.pattern.specs.Calls.{withBuiltSnippet, withBuiltSequence}
 use Rattle.assemble.specs.Holding.{Keeps, KeepsSnippets, KeepsSequences, KeepsMemory, StepsSnippets, StepsSequences, StepsMemory}
 use Rattle.assemble.specs.Assembled.{withItem, imageOut}

@@ -1,4 +1,6 @@
 pub mod Assembly
 pub mod Holding
+pub mod Keeping
+pub mod Lists
 pub mod Running
 pub mod Turns

@@ -1,4 +1,4 @@
--- Bytes that keep what a memory's builder holds (crate pool), which the private functions work on instead of the builder.
+-- Bytes that keep what a memory's builder holds (Kept.antt), which the private functions work on instead of the builder.
 use Prim.Native.Nat.{ℕ, _≤_}
 use mathlib.Core.Path.{_≡_}
 use mathlib.Core.List.{List, map}
@@ -7,7 +7,7 @@ use Rattle.snippet.specs.Snippet.{snippetBytes}
 use Rattle.sequence.specs.Sequence.{sequenceBytes}
 use Rattle.memory.specs.declared.WaveformMemoryBuilder.{WaveformMemoryBuilder}
 use Rattle.errors.specs.Told.{Step}
-use Rattle.pool.specs.Kept.{kept}
+use Rattle.assemble.specs.Kept.{kept}
 
 -- the bytes l keep the first n items of an array
 pub record Keeps {A : Type 0} (most : ℕ) (bytes : A → List ℕ) (array : List A) (n : ℕ) (l : List ℕ) : Type 0 where

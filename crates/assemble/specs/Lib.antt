@@ -2,3 +2,4 @@
 pub mod Assembled
 pub mod Grouped
 pub mod Holding
+pub mod Kept

@@ -1,8 +1,10 @@
 // A list of builder calls, run to an image (added; no Rust file): the form in which whole patterns cross the boundary.
 // Document 01, 'The hundred bytes': each call gets what the last handed back; a refused call adds nothing.
 // Proved: `assemble` answers every call by its number, and builds what specs/Assembled.antt says, for any bytes and any buffers; it is
-// what the grouped calls build (proofs/Assembly.antt), so demand 3 speaks of it. The memory's items are kept in bytes (crate pool) and
+// what the grouped calls build (proofs/Assembly.antt), so demand 3 speaks of it. The memory's items are kept in bytes (src/pool.rt) and
 // not in its builder, which is large. Left out: the acceleration flag, which changes nothing.
+mod pool;
+
 ghost use mathlib.Core.Path.{_≡_};
 ghost use lib.ListN.{length, replicate};
 ghost use Rattle.laws.specs.Copied.{copied};

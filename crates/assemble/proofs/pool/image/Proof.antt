@@ -1,9 +1,9 @@
 -- Each answer by the tests that led to it; the image is what was laid out. Assumes nothing.
 use borrow.Author.Needs.{needs}
 use denote.Ref.{now}
-use Rattle.pool.proofs.Keeping.{no-snippets, no-sequences, too-large, built}
-use Rattle.pool.proofs.image.Statement.{statement}
-use Rattle.pool.proofs.image.Tie as tie
+use Rattle.assemble.proofs.Keeping.{no-snippets, no-sequences, too-large, built}
+use Rattle.assemble.proofs.pool.image.Statement.{statement}
+use Rattle.assemble.proofs.pool.image.Tie as tie
 
 returns : tie.Need-returns
 returns c =

@@ -8,10 +8,10 @@ ghost use Prim.Native.Nat.{_+_, _-_, _≤_, _<_};
 ghost use lib.Dec.{ltb};
 ghost use lib.ListN.{length, take, drop, getD, replicate};
 ghost use Rattle.laws.specs.Copied.{copied, over};
-ghost use Rattle.pool.specs.Kept.{total, ends, Pushed, Built};
+ghost use Rattle.assemble.specs.Kept.{total, ends, Pushed, Built};
 
 // Puts an item behind the others, as far as its bytes have room; false where there is no room for its length.
-pub fn push(list: &mut [u8], most: usize, bytes: &[u8]) -> bool
+pub(crate) fn push(list: &mut [u8], most: usize, bytes: &[u8]) -> bool
     requires { ⌜ (length (now list) ≡ 101 + most) × (most ≤ 16) × (length (now bytes) < 256) ⌝ }
     ensures { λ r. ⌜ r ≡ ltb (getD (now (list .entry)) 0 0) most ⌝ }
     ensures { λ _. ⌜ Pushed most (now (bytes .entry)) (now (list .entry)) (now (list .exit)) ⌝ }
@@ -28,7 +28,7 @@ pub fn push(list: &mut [u8], most: usize, bytes: &[u8]) -> bool
 }
 
 // Tests no snippets, no sequences, then the size; the image of what is kept goes to the front of the buffer.
-pub fn image(snippets: &[u8], sequences: &[u8], buffer: &mut [u8]) -> u8
+pub(crate) fn image(snippets: &[u8], sequences: &[u8], buffer: &mut [u8]) -> u8
     requires { ⌜ (length (now snippets) ≡ 116) × (length (now sequences) ≡ 117) × (getD (now snippets) 0 0 ≤ 15) × (getD (now sequences) 0 0 ≤ 16) ⌝ }
     ensures { λ r. ⌜ Built (now (snippets .entry)) (now (sequences .entry)) (now (buffer .entry)) r (now (buffer .exit)) ⌝ }
 {

@@ -14,8 +14,8 @@ use Rattle.laws.specs.Copied.{copied, over}
 use Rattle.memory.specs.Image.{joined, endPointers, imageSize, imageBytes}
 use Rattle.memory.specs.Memory.{imageNumber}
 use Rattle.memory.proofs.Images.{joined-length}
-use Rattle.pool.specs.Kept.{kept, total, ends, Pushed, Built}
-use Rattle.pool.proofs.Lists.{total-lengths, ends-pointers, ends-append, ends-length, joined-append, copied-more, over-more}
+use Rattle.assemble.specs.Kept.{kept, total, ends, Pushed, Built}
+use Rattle.assemble.proofs.Lists.{total-lengths, ends-pointers, ends-append, ends-length, joined-append, copied-more, over-more}
 
 abbrev zeros : ℕ → List ℕ
 zeros n = replicate n 0

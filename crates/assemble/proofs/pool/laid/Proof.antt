@@ -2,9 +2,9 @@
 use borrow.Author.Needs.{needs}
 use native.Mathlib.Omega.{arith}
 use denote.Ref.{now}
-use Rattle.pool.proofs.Keeping.{laid-over}
-use Rattle.pool.proofs.laid.Statement.{statement}
-use Rattle.pool.proofs.laid.Tie as tie
+use Rattle.assemble.proofs.Keeping.{laid-over}
+use Rattle.assemble.proofs.pool.laid.Statement.{statement}
+use Rattle.assemble.proofs.pool.laid.Tie as tie
 
 returns : tie.Need-returns
 returns c =

@@ -1,9 +1,9 @@
 -- By the law on copying into a lent part; past the end nothing is copied. Assumes nothing.
 use borrow.Author.Needs.{needs}
 use denote.Ref.{now}
-use Rattle.pool.proofs.Lists.{placed-out, put-placed}
-use Rattle.pool.proofs.place.Statement.{statement}
-use Rattle.pool.proofs.place.Tie as tie
+use Rattle.assemble.proofs.Lists.{placed-out, put-placed}
+use Rattle.assemble.proofs.pool.place.Statement.{statement}
+use Rattle.assemble.proofs.pool.place.Tie as tie
 
 returns : tie.Need-returns
 returns c =

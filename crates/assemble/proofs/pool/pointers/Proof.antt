@@ -8,10 +8,10 @@ use native.Mathlib.Omega.{arith}
 use denote.Ref.{now}
 use lib.ListN.{length, drop, set, length-set}
 use lib.Seq.{sets, sets-eq}
-use Rattle.pool.specs.Kept.{total, ends}
-use Rattle.pool.proofs.Lists.{total-next, total-done, ends-next, ends-done, ends-length}
-use Rattle.pool.proofs.pointers.Statement.{statement}
-use Rattle.pool.proofs.pointers.Tie as tie
+use Rattle.assemble.specs.Kept.{total, ends}
+use Rattle.assemble.proofs.Lists.{total-next, total-done, ends-next, ends-done, ends-length}
+use Rattle.assemble.proofs.pool.pointers.Statement.{statement}
+use Rattle.assemble.proofs.pool.pointers.Tie as tie
 
 abbrev Inv-loop : tie.InvT-loop
 Inv-loop out₀ at lens before last₀ i₀ out last i =

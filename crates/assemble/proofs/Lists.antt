@@ -13,7 +13,7 @@ use borrow.Rule.Slice.PartMut.{midOf, postOf, putMid}
 use borrow.Rule.Slice.PartAt.{part-to-end}
 use Rattle.laws.specs.Copied.{copied, over}
 use Rattle.memory.specs.Image.{joined, endPointers}
-use Rattle.pool.specs.Kept.{total, ends}
+use Rattle.assemble.specs.Kept.{total, ends}
 
 -- ---- one turn
 

@@ -4,9 +4,9 @@ use mathlib.Core.Path.{refl}
 use native.Mathlib.Omega.{arith}
 use denote.Ref.{now}
 use lib.ListN.{length-set}
-use Rattle.pool.proofs.Keeping.{full, room}
-use Rattle.pool.proofs.push.Statement.{statement}
-use Rattle.pool.proofs.push.Tie as tie
+use Rattle.assemble.proofs.Keeping.{full, room}
+use Rattle.assemble.proofs.pool.push.Statement.{statement}
+use Rattle.assemble.proofs.pool.push.Tie as tie
 
 returns : tie.Need-returns
 returns c =

@@ -5,9 +5,9 @@ use native.Mathlib.Omega.{arith}
 use denote.Ref.{now}
 use lib.ListN.{length}
 use Rattle.laws.proofs.Copies.{copied-over}
-use Rattle.pool.proofs.Lists.{put-placed}
-use Rattle.pool.proofs.put.Statement.{statement}
-use Rattle.pool.proofs.put.Tie as tie
+use Rattle.assemble.proofs.Lists.{put-placed}
+use Rattle.assemble.proofs.pool.put.Statement.{statement}
+use Rattle.assemble.proofs.pool.put.Tie as tie
 
 returns : tie.Need-returns
 returns c =
