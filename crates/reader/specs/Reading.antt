@@ -43,6 +43,11 @@ laidPoints ls = record { items = filled 96 0 (joined ls); len = length (joined l
 abbrev pub laidFrames : List (List FrameBuilder) → Frames
 laidFrames ls = record { items = filled 96 silentFrame (joined ls); len = length (joined ls); ends = filled 16 0 (endPointers 0 ls); count = length ls }
 
+-- 18 for what is no image
+abbrev pub readNumber : Option Content → ℕ
+readNumber none = 18
+readNumber (some c) = 0
+
 -- the lists of a content; what is refused holds none
 abbrev pub readingOf : Option Content → Reading
 readingOf none = record { answer = Answer.Refused Error.NotAnImage; snippets = laidPoints []; sequences = laidFrames [] }

@@ -1,5 +1,5 @@
--- The reader step by step, as the code goes. proofs/Whole.antt: it is `readImage`. Document 01 leaves the bytes behind the lists free;
--- `scanned` names them.
+-- The reader step by step, as the code goes: what the private functions' contracts cite. proofs/Whole.antt: it is `readImage`, laid out
+-- as `readingOf` says.
 use Prim.Native.Nat.{ℕ, zero, suc, _+_, _-_}
 use mathlib.Core.Bool.{true, false, cond, _&&_}
 use mathlib.Core.List.{List, [], _∷_}

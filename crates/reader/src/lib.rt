@@ -6,8 +6,9 @@
 ghost use mathlib.Core.Path.{_≡_};
 ghost use Prim.Native.Nat.{_+_, _≤_, _<_};
 ghost use lib.ListN.{length};
+ghost use Rattle.errors.specs.Number.{answerNumber};
 ghost use Rattle.content.specs.ReadImage.{readImage, countsFit, allZero};
-ghost use Rattle.reader.specs.Reading.{readingOf, noPoints, noFrames};
+ghost use Rattle.reader.specs.Reading.{readNumber, readingOf, noPoints, noFrames};
 ghost use Rattle.reader.specs.Flat.{pushPoints, endSnippet, endSequence};
 ghost use Rattle.reader.specs.Walk.{runFrames, framesLost, framesRead, noSnippets, snippetsRead, walkSnippets, noSequences, sequencesRead, walkSequences, noReading, finished, afterSnippets, afterCounts, scanned};
 use errors::Answer;
@@ -372,6 +373,7 @@ fn scan(image: &[u8]) -> Reading
 
 // The lists whose image the bytes are, or NotAnImage. What no list shows, the bytes behind the lists, is as in a new array.
 pub fn read(image: &[u8]) -> Reading
+    ensures { λ r. ⌜ answerNumber (r .answer) ≡ readNumber (readImage (now (image .entry))) ⌝ }
     ensures { λ r. ⌜ r ≡ readingOf (readImage (now (image .entry))) ⌝ }
 {
     scan(image)
