@@ -128,6 +128,9 @@ size_t da728x_current_len(const uint8_t *calls, size_t calls_len,
 
 /* ---- images ----------------------------------------------------------- */
 
+/* How many bytes an image has. */
+#define DA728X_IMAGE 100
+
 /* Runs the calls, also on a memory under construction that begins as
  * WaveformMemoryBuilder::new(false), and builds the image. 0, and its hundred
  * bytes are copied into the front of image, as many as fit; the other bytes of

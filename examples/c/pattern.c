@@ -8,7 +8,6 @@
 #include <string.h>
 
 #define ADDRESS 0x4A
-#define IMAGE 100
 
 /* Registers that are looked at. */
 #define CHIP_REV 0x00
@@ -59,7 +58,7 @@ struct chip {
 /* The waveform memory takes a byte only while bit 7 of MEM_CTL2 is set. */
 static void store(struct chip *chip, unsigned at, uint8_t byte)
 {
-    if (at >= SNP_MEM_0 && at < SNP_MEM_0 + IMAGE && chip->registers[MEM_CTL2] < 0x80) return;
+    if (at >= SNP_MEM_0 && at < SNP_MEM_0 + DA728X_IMAGE && chip->registers[MEM_CTL2] < 0x80) return;
     chip->registers[at % 256] = byte;
 }
 
@@ -147,44 +146,44 @@ static const uint8_t calls[] = {
 };
 
 /* Counts, pointers to the last byte of each item, snippets, sequences; zeros follow. */
-static const uint8_t wanted_image[IMAGE] = {
+static const uint8_t wanted_image[DA728X_IMAGE] = {
     2,    2,    7,    9, 10, 14, 0xAA, 0x00, 0x1F, 0x90,
     0x01, 0x32, 0x96, 0x2C,
 };
 
-static void build(uint8_t image[IMAGE])
+static void build(uint8_t image[DA728X_IMAGE])
 {
     uint8_t answers[sizeof calls / 4], wanted[sizeof calls / 4] = {0, 0, 1};
     memset(answers, 0xFF, sizeof answers);
     expect("da728x_assemble",
-           da728x_assemble(calls, sizeof calls, answers, sizeof answers, image, IMAGE), 0);
+           da728x_assemble(calls, sizeof calls, answers, sizeof answers, image, DA728X_IMAGE), 0);
     expect_bytes("the answers", answers, wanted, sizeof answers);
-    expect_bytes("the image", image, wanted_image, IMAGE);
+    expect_bytes("the image", image, wanted_image, DA728X_IMAGE);
     printf("built: %u calls, of which call 2 is refused with %u\n", (unsigned)sizeof answers,
            answers[2]);
 }
 
-static void read_back(const uint8_t image[IMAGE])
+static void read_back(const uint8_t image[DA728X_IMAGE])
 {
-    uint16_t counts = da728x_read_counts(image, IMAGE);
-    uint16_t point = da728x_read_point(image, IMAGE, 1, 0);
-    uint64_t frame = da728x_read_frame(image, IMAGE, 1, 0);
-    uint8_t damaged[IMAGE];
+    uint16_t counts = da728x_read_counts(image, DA728X_IMAGE);
+    uint16_t point = da728x_read_point(image, DA728X_IMAGE, 1, 0);
+    uint64_t frame = da728x_read_frame(image, DA728X_IMAGE, 1, 0);
+    uint8_t damaged[DA728X_IMAGE];
     expect("the counts", counts, 0x0202);
     expect("a point", point, 0x1F);
     expect("a point's length", da728x_point_timebases((uint8_t)point), 2);
     expect("a point's amplitude", da728x_point_amplitude((uint8_t)point), 15);
-    expect("a third point", da728x_read_point(image, IMAGE, 1, 2), 256);
+    expect("a third point", da728x_read_point(image, DA728X_IMAGE, 1, 2), 256);
     expect("a frame", frame, (uint64_t)300 << 32 | 0x02020102);
-    expect("a frame without loop count and frequency", da728x_read_frame(image, IMAGE, 0, 0),
+    expect("a frame without loop count and frequency", da728x_read_frame(image, DA728X_IMAGE, 0, 0),
            (uint64_t)0xFFFF << 32 | 0xFF000001);
-    expect("a third frame", da728x_read_frame(image, IMAGE, 1, 2), (uint64_t)1 << 48);
+    expect("a third frame", da728x_read_frame(image, DA728X_IMAGE, 1, 2), (uint64_t)1 << 48);
     printf("read back: %u snippets, %u sequences; sequence 1 begins with snippet %u at %u Hz\n",
            (unsigned)counts >> 8, counts & 255u, (unsigned)(frame & 255), (unsigned)(frame >> 32));
 
-    memcpy(damaged, image, IMAGE);
-    damaged[IMAGE - 1] = 1;
-    expect("a damaged image", da728x_read_counts(damaged, IMAGE), 18);
+    memcpy(damaged, image, DA728X_IMAGE);
+    damaged[DA728X_IMAGE - 1] = 1;
+    expect("a damaged image", da728x_read_counts(damaged, DA728X_IMAGE), 18);
 }
 
 /* ---- the chip ----------------------------------------------------------- */
@@ -247,14 +246,14 @@ static void configure(struct chip *chip)
     expect("TRIM4", chip->registers[TRIM4], 2);
 }
 
-static uint8_t begin_upload(const uint8_t image[IMAGE])
+static uint8_t begin_upload(const uint8_t image[DA728X_IMAGE])
 {
-    return da728x_upload_waveform_memory(record, sizeof record, image, IMAGE, 1, session,
+    return da728x_upload_waveform_memory(record, sizeof record, image, DA728X_IMAGE, 1, session,
                                          sizeof session);
 }
 
 /* The bus loses the third exchange: the chip then has 32 bytes of the image and is unlocked. */
-static void upload(struct chip *chip, const uint8_t image[IMAGE])
+static void upload(struct chip *chip, const uint8_t image[DA728X_IMAGE])
 {
     struct end end;
     chip->transfers = 0;
@@ -271,22 +270,22 @@ static void upload(struct chip *chip, const uint8_t image[IMAGE])
 
     chip->fails_at = 0;
     run_whole(chip, "upload", begin_upload(image), 6);
-    expect_bytes("the chip's memory", chip->registers + SNP_MEM_0, image, IMAGE);
+    expect_bytes("the chip's memory", chip->registers + SNP_MEM_0, image, DA728X_IMAGE);
     expect("locked", chip->registers[MEM_CTL2], 0);
 }
 
 /* What the chip itself says that its memory holds. */
-static void verify(struct chip *chip, const uint8_t image[IMAGE])
+static void verify(struct chip *chip, const uint8_t image[DA728X_IMAGE])
 {
-    uint8_t memory[IMAGE] = {0};
+    uint8_t memory[DA728X_IMAGE] = {0};
     struct end end;
-    expect("starting to read", da728x_read_waveform_memory(record, sizeof record, IMAGE,
+    expect("starting to read", da728x_read_waveform_memory(record, sizeof record, DA728X_IMAGE,
                                                            sizeof memory, session,
                                                            sizeof session), 0);
     end = run(chip, memory, sizeof memory);
     expect("reading memory", end.refusal, 0);
-    expect("bytes read", da728x_result(session, sizeof session) >> 24 & 255, IMAGE);
-    expect_bytes("the memory read", memory, image, IMAGE);
+    expect("bytes read", da728x_result(session, sizeof session) >> 24 & 255, DA728X_IMAGE);
+    expect_bytes("the memory read", memory, image, DA728X_IMAGE);
     printf("read memory: %u exchanges, the image\n", end.made);
 }
 
@@ -303,9 +302,9 @@ static void play(struct chip *chip)
 
 int main(void)
 {
-    static uint8_t image[IMAGE];
+    static uint8_t image[DA728X_IMAGE];
     static struct chip chip;
-    memset(chip.registers + SNP_MEM_0, 0xFF, IMAGE);
+    memset(chip.registers + SNP_MEM_0, 0xFF, DA728X_IMAGE);
     chip.registers[CHIP_REV] = 0xBA;
 
     build(image);

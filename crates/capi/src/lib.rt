@@ -1,6 +1,6 @@
 // The functions exported for C, on numbers and byte slices; include/da728x.h declares and explains each. Document 01, 'Rust forms without
 // a counterpart': "The harness in Rust calls functions exported for C on numbers and byte slices". They reach snippet.rs, frame.rs,
-// sequence.rs, memory.rs and registers.rs; those of lib.rs are in `capi_driver`.
+// sequence.rs, registers.rs and, by `assemble`, what memory.rs builds; those of lib.rs are in `capi_driver`.
 // Proved: every one is total, on any bytes and any lengths, and its contract equates the answer and every lent byte with a definition
 // (specs/, and those of the crates it calls). Left out: the functions without an export of their own, which docs/DIFFERENCES.md lists.
 ghost use mathlib.Core.Path.{_≡_};

@@ -155,6 +155,7 @@ fn sizes_and_kinds() {
         .collect();
     let settings = Settings::plain(OperationMode::INACTIVE, DrivingMode::WIDEBAND).encode();
     let used = [
+        ("IMAGE", yambelugo::IMAGE),
         ("SESSION", raw::SESSION),
         ("RECORD", yambelugo::RECORD),
         ("SETTINGS", settings.len()),
@@ -164,7 +165,7 @@ fn sizes_and_kinds() {
     ];
     assert_eq!(defined, used);
     assert_eq!(size_of::<yambelugo::Session>(), raw::SESSION);
-    compared("sizes and kinds", defined.len(), 6);
+    compared("sizes and kinds", defined.len(), 7);
 }
 
 /// A function's name, the types of its arguments and the type of its answer, in Rust's words.
