@@ -6,11 +6,15 @@ mod drive;
 use memory::WaveformMemory;
 
 fn main() {
-    show::text(b"1. Two patterns, by the builders: every call in order. A ramp or step has a length in timebases and an\n");
+    show::text(
+        b"1. Two patterns, by the builders: every call in order. A ramp or step has a length in timebases and an\n",
+    );
     show::text(b"   amplitude to reach; loop count 0 plays a frame once\n");
     let ahead = example_patterns::shallow_ahead();
     let turn = example_patterns::turn_now();
-    show::text(b"\n2. Their images, a hundred bytes each, in hexadecimal; an end pointer is the index of an item's last byte\n");
+    show::text(
+        b"\n2. Their images, a hundred bytes each, in hexadecimal; an end pointer is the index of an item's last byte\n",
+    );
     image(b"\nshallow ahead:", ahead);
     image(b"\nturn now:", turn);
     show::text(b"\n3. The same images, read back\n");
