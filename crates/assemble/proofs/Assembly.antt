@@ -11,7 +11,7 @@ use native.Mathlib.Omega.{arith}
 use native.Mathlib.Nat.{mod-eq-of-lt}
 use borrow.Author.Tests.{lt-ltb, le-ltb}
 use Rattle.laws.specs.Bytes.{All, Bytes}
-use Rattle.errors.specs.Told.{Told, gives, refuses, Step, accepted}
+use Rattle.errors.specs.Told.{Told, gives, refuses, Handed, accepted}
 use Rattle.snippet.specs.declared.SnippetBuilder.{SnippetBuilder}
 use Rattle.snippet.specs.Snippet.{pointOf, newSnippet, withPoint, builtSnippet}
 use Rattle.frame.specs.declared.FrameBuilder.{FrameBuilder}
@@ -27,20 +27,20 @@ use Rattle.calls.specs.Calls.{callAt, codes}
 use Rattle.frame.specs.Read.{gainAt, timebaseAt}
 use Rattle.memory.specs.declared.WaveformMemoryBuilder.{WaveformMemoryBuilder}
 use Rattle.memory.specs.Memory.{newMemory, builtMemory}
-use Rattle.pattern.specs.Calls.{ran, SnippetCall, snippetStep, addedPoint, snippetFrom, FrameCall, frameStep, Begin, new, silence, begun, FrameCalls, frameRan, frameFrom, withMadeFrame, sequenceStep, sequenceFrom, MemoryCall, memoryStep, addedItem, memoryFrom, builtFrom, withBuiltSnippet, withBuiltSequence}
+use Rattle.pattern.specs.Calls.{ran, SnippetCall, snippetStep, addedPoint, snippetFrom, FrameCall, frameStep, Begin, new, silence, begunBy, FrameCalls, frameRan, frameFrom, withMadeFrame, sequenceStep, sequenceFrom, MemoryCall, memoryStep, addedItem, memoryFrom, builtFrom, withBuiltSnippet, withBuiltSequence}
 use Rattle.pattern.specs.Calls as pattern
 use Rattle.assemble.specs.Assembled.{PatternCall, small, addSnippet, addSequence, State, called, after, patternCallAt, patternCallsIn, first, assembled}
 use Rattle.assemble.specs.Grouped.{Groups, grouped, groupedAll, noGroups, begunAnew, memoryCalls}
 
 -- one call more
-ran-more : {B K X : Type 0} (step : B → K → Step B) (adds : K → X) (b : B) (ks : List K) (k : K) → ran step adds b (ks ++ (k ∷ [])) ≡ step (ran step adds b ks) k .builder
+ran-more : {B K X : Type 0} (step : B → K → Handed B) (adds : K → X) (b : B) (ks : List K) (k : K) → ran step adds b (ks ++ (k ∷ [])) ≡ step (ran step adds b ks) k .builder
 ran-more step adds b [] k = refl
 ran-more step adds b (j ∷ ks) k = ran-more step adds (step b j .builder) ks k
 
 -- the frame under construction: what was begun, and then called
 pub record FrameSame (f : FrameBuilder) (m : FrameCalls) : Type 0 where
   pub start : FrameBuilder
-  pub begins : begun (m .begin) ≡ gives start
+  pub begins : begunBy (m .begin) ≡ gives start
   pub runs : f ≡ frameRan start (m .calls)
 
 pub record Mirrors (s : State) (g : Groups) : Type 0 where

@@ -11,7 +11,7 @@ use lib.Dec.{ltb, leb}
 use lib.ListN.{length, set, take, replicate, getD, length-set, length-map, length-take}
 use lib.Seq.{take-suc-set}
 use Rattle.laws.specs.Copied.{copied}
-use Rattle.errors.specs.Told.{Step, Built, accepted, refused}
+use Rattle.errors.specs.Told.{Handed, Built, accepted, refused}
 use Rattle.snippet.specs.declared.Snippet.{Snippet}
 use Rattle.snippet.specs.declared.SnippetBuilder.{SnippetBuilder}
 use Rattle.snippet.specs.Snippet.{snippetBytes, builtSnippet}
@@ -65,7 +65,7 @@ module _ {A : Type 0} (most : ℕ) (f : A → List ℕ) (array : List A) (n : �
 module _ {M A : Type 0} (most full : ℕ) (f : A → List ℕ) (array : M → List A) (num : M → ℕ) (add : M → A → M)
     (sets : (m : M) (a : A) → array (add m a) ≡ set (array m) (num m) a) (counts : (m : M) (a : A) → num (add m a) ≡ num m + 1) where
   -- the item a is added, unless it was refused with the number k or there is no room
-  abbrev step : ℕ → A → M → Step M
+  abbrev step : ℕ → A → M → Handed M
   step k a m = cond (ltb 0 k) (refused k m) (cond (leb most (num m)) (refused full m) (accepted (add m a)))
 
   abbrev Holds : M → List ℕ → Type 0

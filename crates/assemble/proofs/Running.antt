@@ -7,7 +7,7 @@ use lib.ListN.{length, drop, getD, set}
 use lib.Seq.{sets}
 use Rattle.laws.specs.Copied.{copied}
 use Rattle.laws.proofs.Answers.{sets-copied}
-use Rattle.errors.specs.Told.{Step}
+use Rattle.errors.specs.Told.{Handed}
 use Rattle.calls.specs.declared.Call.{Call}
 use Rattle.calls.specs.declared.Builders.{Builders}
 use Rattle.calls.specs.Calls as calls
@@ -43,7 +43,7 @@ module _ {bytes k₀ k ls qs : List ℕ} {b : Builders} {at i : ℕ} (r : Runnin
         }
 
     -- a call on the other builders
-    pub small-turn : (call : Call) (t : Step Builders) (ls′ qs′ : List ℕ) (b′ : Builders) → kind ≤ 0 → call ≡ callAt (getD bytes at 0) (getD bytes (at + 1) 0) (getD bytes (at + 2) 0)
+    pub small-turn : (call : Call) (t : Handed Builders) (ls′ qs′ : List ℕ) (b′ : Builders) → kind ≤ 0 → call ≡ callAt (getD bytes at 0) (getD bytes (at + 1) 0) (getD bytes (at + 2) 0)
         → t ≡ calls.called b call → n ≡ t .number → ls′ ≡ ls → qs′ ≡ qs → b′ ≡ t .builder → Running bytes k₀ k′ ls′ qs′ b′ (at + 4) (i + 1)
     small-turn call t ls′ qs′ b′ g ec et en es eq eb =
         let m = r .memory in

@@ -10,7 +10,7 @@ use lib.ListN.{length, set, drop, getD}
 use lib.Seq.{sets}
 use borrow.Author.Tests.{lt-ltb, le-ltb}
 use Rattle.laws.specs.Copied.{copied}
-use Rattle.errors.specs.Told.{Step, Built}
+use Rattle.errors.specs.Told.{Handed, Built}
 use Rattle.memory.specs.declared.WaveformMemory.{WaveformMemory}
 use Rattle.calls.specs.declared.Builders.{Builders}
 use Rattle.calls.specs.Calls as calls
@@ -45,7 +45,7 @@ item-call s code a b k e h = go (eqb code 13) (eqb code 14) (let z : 0 < kindAt 
   go false false z = absurd (omega arith)
 
 -- one turn: the call at an index comes to r, and the builders after it are b and m
-module _ (l : List ℕ) (at : ℕ) (h : at + 4 ≤ length l) (s : State) (r : Step State)
+module _ (l : List ℕ) (at : ℕ) (h : at + 4 ≤ length l) (s : State) (r : Handed State)
     (f : called s (patternCallAt (getD l at 0) (getD l (at + 1) 0) (getD l (at + 2) 0)) ≡ r)
     (b : Builders) (m : WaveformMemoryBuilder) (eb : b ≡ r .builder .builders) (em : m ≡ r .builder .memory) where
   now-state : r .builder ≡ record { builders = b; memory = m }
@@ -55,7 +55,7 @@ module _ (l : List ℕ) (at : ℕ) (h : at + 4 ≤ length l) (s : State) (r : St
   unfolding after
   turn-after =
       ap (after s) (calls-next l at h)
-      ∙ ap (λ (x : Step State). after (x .builder) (patternCallsIn (drop (at + 4) l))) f
+      ∙ ap (λ (x : Handed State). after (x .builder) (patternCallsIn (drop (at + 4) l))) f
       ∙ ap (λ (x : State). after x (patternCallsIn (drop (at + 4) l))) now-state
 
   pub turn-numbers : (n : ℕ) (k k′ : List ℕ) (i : ℕ) → n ≡ r .number → k′ ≡ set k i n
@@ -65,7 +65,7 @@ module _ (l : List ℕ) (at : ℕ) (h : at + 4 ≤ length l) (s : State) (r : St
       let e : i + 1 ≡ suc i = omega arith in
       let ks = patternCallsIn (drop (at + 4) l) in
       ap (λ (js : List PatternCall). sets k i (numbers s js)) (calls-next l at h)
-      ∙ ap (λ (x : Step State). sets (set k i (x .number)) (suc i) (numbers (x .builder) ks)) f
+      ∙ ap (λ (x : Handed State). sets (set k i (x .number)) (suc i) (numbers (x .builder) ks)) f
       ∙ ap (λ (x : ℕ). sets (set k i x) (suc i) (numbers (r .builder) ks)) (sym g)
       ∙ ap (λ (x : List ℕ). sets x (suc i) (numbers (r .builder) ks)) (sym q)
       ∙ ap (λ (x : State). sets k′ (suc i) (numbers x ks)) now-state

@@ -4,7 +4,7 @@ use mathlib.Core.Bool.{false, cond}
 use mathlib.Core.List.{List, [], _∷_}
 use lib.Dec.{ltb, eqb}
 use Rattle.laws.specs.Copied.{copied}
-use Rattle.errors.specs.Told.{Step, Built}
+use Rattle.errors.specs.Told.{Handed, Built}
 use Rattle.snippet.specs.Snippet.{builtSnippet}
 use Rattle.sequence.specs.Sequence.{builtSequence}
 use Rattle.calls.specs.declared.Call.{Call}
@@ -27,14 +27,14 @@ pub record State : Type 0 where
   pub builders : Builders
   pub memory : WaveformMemoryBuilder
 
-abbrev pub onBuilders : State → Step Builders → Step State
+abbrev pub onBuilders : State → Handed Builders → Handed State
 onBuilders s r = record { number = r .number; builder = record { builders = r .builder; memory = s .memory } }
 
-abbrev pub onMemory : State → Step WaveformMemoryBuilder → Step State
+abbrev pub onMemory : State → Handed WaveformMemoryBuilder → Handed State
 onMemory s r = record { number = r .number; builder = record { builders = s .builders; memory = r .builder } }
 
 -- a call's number, and the builders after it
-abbrev pub called : State → PatternCall → Step State
+abbrev pub called : State → PatternCall → Handed State
 called s (small k) = onBuilders s (calls.called (s .builders) k)
 called s addSnippet = onMemory s (withBuiltSnippet (s .memory) (builtSnippet (s .builders .snippet)))
 called s addSequence = onMemory s (withBuiltSequence (s .memory) (builtSequence (s .builders .sequence)))
@@ -61,7 +61,7 @@ abbrev pub kindAt : ℕ → ℕ
 kindAt code = cond (eqb code 13) 1 (cond (eqb code 14) 2 0)
 
 -- the snippet (kind 1) or the sequence (kind 2) under construction, built and added
-abbrev pub withItem : WaveformMemoryBuilder → Builders → ℕ → Step WaveformMemoryBuilder
+abbrev pub withItem : WaveformMemoryBuilder → Builders → ℕ → Handed WaveformMemoryBuilder
 withItem m b kind = cond (ltb kind 2) (withBuiltSnippet m (builtSnippet (b .snippet))) (withBuiltSequence m (builtSequence (b .sequence)))
 
 -- ---- the image

@@ -6,7 +6,7 @@ use lib.ListN.{length, take}
 use Rattle.snippet.specs.Snippet.{snippetBytes}
 use Rattle.sequence.specs.Sequence.{sequenceBytes}
 use Rattle.memory.specs.declared.WaveformMemoryBuilder.{WaveformMemoryBuilder}
-use Rattle.errors.specs.Told.{Step}
+use Rattle.errors.specs.Told.{Handed}
 use Rattle.assemble.specs.Kept.{kept}
 
 -- the bytes l keep the first n items of an array
@@ -25,11 +25,11 @@ abbrev pub KeepsMemory : WaveformMemoryBuilder → List ℕ → List ℕ → Typ
 KeepsMemory m l k = KeepsSnippets m l × KeepsSequences m k
 
 -- a step of the builder, told by its number n, with the bytes before and after it
-abbrev pub StepsSnippets : (WaveformMemoryBuilder → Step WaveformMemoryBuilder) → List ℕ → ℕ → List ℕ → Type 0
+abbrev pub StepsSnippets : (WaveformMemoryBuilder → Handed WaveformMemoryBuilder) → List ℕ → ℕ → List ℕ → Type 0
 StepsSnippets step l n l′ = (m : WaveformMemoryBuilder) → KeepsSnippets m l → (n ≡ step m .number) × KeepsSnippets (step m .builder) l′
 
-abbrev pub StepsSequences : (WaveformMemoryBuilder → Step WaveformMemoryBuilder) → List ℕ → ℕ → List ℕ → Type 0
+abbrev pub StepsSequences : (WaveformMemoryBuilder → Handed WaveformMemoryBuilder) → List ℕ → ℕ → List ℕ → Type 0
 StepsSequences step l n l′ = (m : WaveformMemoryBuilder) → KeepsSequences m l → (n ≡ step m .number) × KeepsSequences (step m .builder) l′
 
-abbrev pub StepsMemory : (WaveformMemoryBuilder → Step WaveformMemoryBuilder) → List ℕ → List ℕ → ℕ → List ℕ → List ℕ → Type 0
+abbrev pub StepsMemory : (WaveformMemoryBuilder → Handed WaveformMemoryBuilder) → List ℕ → List ℕ → ℕ → List ℕ → List ℕ → Type 0
 StepsMemory step l k n l′ k′ = (m : WaveformMemoryBuilder) → KeepsMemory m l k → (n ≡ step m .number) × KeepsMemory (step m .builder) l′ k′

@@ -6,7 +6,7 @@ use Prim.Native.Nat.{ℕ, zero, suc, _+_, _-_, _≤_, _<_}
 use native.Mathlib.Omega.{arith}
 use lib.ListN.{length, set, drop, getD}
 use lib.Seq.{sets}
-use Rattle.errors.specs.Told.{Step}
+use Rattle.errors.specs.Told.{Handed}
 use Rattle.calls.specs.declared.Call.{Call}
 use Rattle.calls.specs.declared.Builders.{Builders}
 use Rattle.calls.specs.declared.Stepped.{Stepped}
@@ -57,7 +57,7 @@ module _ (l : List ℕ) (at : ℕ) (h : at + 4 ≤ length l) (b : Builders) (k :
   pub turn-after : after b (callsIn (drop at l)) ≡ after (r .builders) (callsIn (drop (at + 4) l))
   unfolding after
   turn-after =
-      ap (after b) now-called ∙ ap (λ (s : Step Builders). after (s .builder) (callsIn (drop (at + 4) l))) (sym f)
+      ap (after b) now-called ∙ ap (λ (s : Handed Builders). after (s .builder) (callsIn (drop (at + 4) l))) (sym f)
 
   pub turn-numbers : (n : ℕ) (m m′ : List ℕ) (i : ℕ) → n ≡ steppedTold r .number → m′ ≡ set m i n
       → sets m i (numbers b (callsIn (drop at l))) ≡ sets m′ (i + 1) (numbers (r .builders) (callsIn (drop (at + 4) l)))
@@ -65,7 +65,7 @@ module _ (l : List ℕ) (at : ℕ) (h : at + 4 ≤ length l) (b : Builders) (k :
   turn-numbers n m m′ i g q =
       let s : i + 1 ≡ suc i = omega arith in
       ap (λ (ks : List Call). sets m i (numbers b ks)) now-called
-      ∙ ap (λ (x : Step Builders). sets (set m i (x .number)) (suc i) (numbers (x .builder) (callsIn (drop (at + 4) l)))) (sym f)
+      ∙ ap (λ (x : Handed Builders). sets (set m i (x .number)) (suc i) (numbers (x .builder) (callsIn (drop (at + 4) l)))) (sym f)
       ∙ ap (λ (x : ℕ). sets (set m i x) (suc i) (numbers (r .builders) (callsIn (drop (at + 4) l)))) (sym g)
       ∙ ap (λ (x : List ℕ). sets x (suc i) (numbers (r .builders) (callsIn (drop (at + 4) l)))) (sym q)
       ∙ ap (λ (j : ℕ). sets m′ j (numbers (r .builders) (callsIn (drop (at + 4) l)))) (sym s)

@@ -4,7 +4,7 @@ use mathlib.Core.Bool.{true, false}
 use mathlib.Core.List.{List, [], _∷_}
 use lib.ListN.{getD}
 use Rattle.errors.specs.Number.{answerNumber}
-use Rattle.errors.specs.Told.{Told, gives, refuses, Step, accepted, refused}
+use Rattle.errors.specs.Told.{Told, gives, refuses, Handed, accepted, refused}
 use Rattle.snippet.specs.declared.SnippetBuilder.{SnippetBuilder}
 use Rattle.snippet.specs.Point.{point}
 use Rattle.snippet.specs.Snippet.{pointOf, newSnippet, withPoint, withMade}
@@ -22,22 +22,22 @@ use Rattle.calls.specs.declared.Stepped.{Stepped}
 -- ---- one call
 
 -- a call on one of the three builders leaves the other two
-abbrev pub onSnippet : Builders → Step SnippetBuilder → Step Builders
+abbrev pub onSnippet : Builders → Handed SnippetBuilder → Handed Builders
 onSnippet b s = record { number = s .number; builder = record { snippet = s .builder; frame = b .frame; sequence = b .sequence } }
 
-abbrev pub onFrame : Builders → Step FrameBuilder → Step Builders
+abbrev pub onFrame : Builders → Handed FrameBuilder → Handed Builders
 onFrame b s = record { number = s .number; builder = record { snippet = b .snippet; frame = s .builder; sequence = b .sequence } }
 
-abbrev pub onSequence : Builders → Step SequenceBuilder → Step Builders
+abbrev pub onSequence : Builders → Handed SequenceBuilder → Handed Builders
 onSequence b s = record { number = s .number; builder = record { snippet = b .snippet; frame = b .frame; sequence = s .builder } }
 
 -- a frame begun anew, or the one before if that is refused
-abbrev pub begun : Builders → Told FrameBuilder → Step Builders
+abbrev pub begun : Builders → Told FrameBuilder → Handed Builders
 begun b (gives f) = onFrame b (accepted f)
 begun b (refuses n) = refused n b
 
 -- the call's number, and the builders after it
-abbrev pub called : Builders → Call → Step Builders
+abbrev pub called : Builders → Call → Handed Builders
 called b Call.SnippetNew = onSnippet b (accepted newSnippet)
 called b (Call.Ramp t a) = onSnippet b (withMade (b .snippet) (point true t a))
 called b (Call.Step t a) = onSnippet b (withMade (b .snippet) (point false t a))
@@ -52,7 +52,7 @@ called b Call.SequenceNew = onSequence b (accepted newSequence)
 called b Call.AddFrame = onSequence b (withFrame (b .sequence) (builtFrame (b .frame)))
 called b Call.Nothing = accepted b
 
-abbrev pub steppedTold : Stepped → Step Builders
+abbrev pub steppedTold : Stepped → Handed Builders
 steppedTold r = record { number = answerNumber (r .answer); builder = r .builders }
 
 -- ---- a list of calls

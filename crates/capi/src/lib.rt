@@ -15,7 +15,7 @@ ghost use Rattle.sequence.specs.Sequence.{sequenceBytes};
 ghost use Rattle.laws.specs.Copied.{copied};
 ghost use Rattle.assemble.specs.Assembled.{first, numbers, patternCallsIn, assembled, imageOut};
 ghost use Rattle.content.specs.ReadImage.{readImage};
-ghost use Rattle.readings.specs.Readings.{countsWord, pointIn, frameIn};
+ghost use Rattle.readings.specs.Readings.{countsWord, pointAnswer, frameAnswer};
 ghost use Rattle.field.specs.Field.{codeOf};
 ghost use Rattle.field.specs.Layout.{readings, replacements};
 ghost use Rattle.registers.specs.Addresses.{addresses};
@@ -154,14 +154,14 @@ pub extern "C" fn da728x_read_counts(image: &[u8]) -> u16
 
 #[no_mangle]
 pub extern "C" fn da728x_read_point(image: &[u8], i: usize, j: usize) -> u16
-    ensures { λ r. ⌜ r ≡ pointIn (readImage (now (image .entry))) i j ⌝ }
+    ensures { λ r. ⌜ r ≡ pointAnswer (readImage (now (image .entry))) i j ⌝ }
 {
     readings::point(image, i, j)
 }
 
 #[no_mangle]
 pub extern "C" fn da728x_read_frame(image: &[u8], i: usize, j: usize) -> u64
-    ensures { λ r. ⌜ r ≡ frameIn (readImage (now (image .entry))) i j ⌝ }
+    ensures { λ r. ⌜ r ≡ frameAnswer (readImage (now (image .entry))) i j ⌝ }
 {
     readings::frame(image, i, j)
 }

@@ -5,7 +5,7 @@ use mathlib.Core.Bool.{Bool, cond}
 use mathlib.Core.List.{List, _++_}
 use lib.ListN.{length, replicate}
 use borrow.Author.Tests.{le-ltb}
-use Rattle.errors.specs.Told.{Step}
+use Rattle.errors.specs.Told.{Handed}
 use Rattle.laws.specs.Copied.{copied}
 use Rattle.memory.specs.declared.WaveformMemory.{WaveformMemory}
 use Rattle.memory.specs.declared.LoadedMemory.{LoadedMemory}
@@ -21,7 +21,7 @@ pub upload-loaded : (r s : DA728x) (image «data» : List ℕ) (m : LoadedMemory
 unfolding uploadOf
 upload-loaded r s image «data» m lockAfter e h f g =
     ap (λ (x : DA728x). uploadWaveformMemory x (m .memory) lockAfter) e
-    ∙ ap (λ (x : Step WaveformMemory). uploadWaveformMemory s (x .builder) lockAfter)
+    ∙ ap (λ (x : Handed WaveformMemory). uploadWaveformMemory s (x .builder) lockAfter)
     (g ∙ ap (λ (l : List ℕ). loaded l (length image) 0 0) (f ∙ loaded-image image h))
     ∙ ap (λ (b : Bool). cond b (refuses 8) (uploadWaveformMemory s (loaded (image ++ replicate (100 - length image) 0) (length image) 0 0 .builder) lockAfter))
     (sym (le-ltb 100 (length image) h))

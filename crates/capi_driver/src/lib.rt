@@ -9,7 +9,7 @@ ghost use lib.ListN.{length, take};
 ghost use Rattle.laws.specs.Copied.{copied};
 ghost use Rattle.field.specs.Field.{codeOf};
 ghost use Rattle.config.specs.Codes.{variantAt};
-ghost use Rattle.memory.specs.Timebase.{timebaseAt};
+ghost use Rattle.memory.specs.Timebase.{memoryTimebaseAt};
 ghost use Rattle.da728x.specs.Record.{recordAt, actuatorConfigAt, deviceConfigAt};
 ghost use Rattle.exchange.specs.Turn.{pendingOf, toldOf, turnTold, stateAfter, bufferAfter};
 ghost use Rattle.driver.specs.Operations as spec;
@@ -90,8 +90,8 @@ pub extern "C" fn da728x_set_override_value(record: &[u8], value: i8, session: &
 
 #[no_mangle]
 pub extern "C" fn da728x_set_timebase(record: &[u8], timebase: u8, session: &mut [u8]) -> u8
-    ensures { λ r. ⌜ r ≡ spec.startNumber (spec.setTimebase (recordAt (now («record» .entry))) (timebaseAt timebase)) ⌝ }
-    ensures { λ _. ⌜ now (session .exit) ≡ spec.startedIn (now (session .entry)) (spec.setTimebase (recordAt (now («record» .entry))) (timebaseAt timebase)) ⌝ }
+    ensures { λ r. ⌜ r ≡ spec.startNumber (spec.setTimebase (recordAt (now («record» .entry))) (memoryTimebaseAt timebase)) ⌝ }
+    ensures { λ _. ⌜ now (session .exit) ≡ spec.startedIn (now (session .entry)) (spec.setTimebase (recordAt (now («record» .entry))) (memoryTimebaseAt timebase)) ⌝ }
 {
     driver::set_timebase(
         DA728x::from_bytes(record),

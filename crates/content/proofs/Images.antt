@@ -13,7 +13,7 @@ use Rattle.frame.specs.declared.FrameBuilder.{FrameBuilder}
 use Rattle.frame.specs.Agreement.{canon}
 use Rattle.memory.specs.Image.{joined, endPointers, imageSize, imageBytes}
 use Rattle.content.specs.Content.{Point, Content, pointBytes, framesBytes, imageOf, SnippetAdmitted, SequenceAdmitted, Admitted, Same}
-use Rattle.content.specs.ReadImage.{andThen, every, readSnippet, readSequence, Items, readItems, contentFrom, readImage}
+use Rattle.content.specs.ReadImage.{andThen, every, readSnippet, readSequence, Items, readItems, contentIn, readImage}
 use Rattle.content.proofs.Codec.{Codec, every-codec, refuses, same, write-canon, good-canon, then-some, some-inj, map-id, all-append, all-left, all-right, all-map}
 use Rattle.content.proofs.Points.{snippet-codec, snippet-long}
 use Rattle.content.proofs.Sequences.{sequence-codec, sequence-long}
@@ -110,7 +110,7 @@ whole l r s q g w gs gq =
 image-sound : (l : List ℕ) (c : Content) → Bytes l → readImage l ≡ some c → Admitted c × (imageOf c ≡ l)
 unfolding readImage
 image-sound l c h e =
-    let (r, e₁, e₂) = then-some (readItems l) contentFrom e in
+    let (r, e₁, e₂) = then-some (readItems l) contentIn e in
     let (s, e₃, e₄) = then-some (every readSnippet (r .snippets)) _ e₂ in
     let (q, e₅, e₆) = then-some (every readSequence (r .sequences)) _ e₄ in
     let g = items-sound l r e₁ in

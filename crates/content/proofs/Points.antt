@@ -58,7 +58,7 @@ snippet-sound bs ps h e =
     let (u, v) = and-eq-true-iff (leb 1 (length bs)) (leb (length bs) 16) .0 t in
     let n = points-length bs in
     subst (λ (l : List Point). SnippetAdmitted l × (pointBytes l ≡ bs)) (some-inj e₁) (
-      record { some = omega (arith, leb-true 1 (length bs) u); few = omega (arith, leb-true (length bs) 16 v); each = points-good bs },
+      record { nonempty = omega (arith, leb-true 1 (length bs) u); few = omega (arith, leb-true (length bs) 16 v); each = points-good bs },
       points-there bs h,
     )
 
@@ -66,11 +66,11 @@ snippet-complete : (ps : List Point) → SnippetAdmitted ps → readSnippet (poi
 unfolding readSnippet
 snippet-complete ps g =
     let n = length-map ps byteOf in
-    cond-on _ _ (and-eq-true-iff _ _ .1 (le-leb 1 (length (pointBytes ps)) (omega (arith, g .some)), le-leb (length (pointBytes ps)) 16 (omega (arith, g .few))))
+    cond-on _ _ (and-eq-true-iff _ _ .1 (le-leb 1 (length (pointBytes ps)) (omega (arith, g .nonempty)), le-leb (length (pointBytes ps)) 16 (omega (arith, g .few))))
     ∙ ap some (points-back ps (g .each))
 
 pub snippet-codec : Codec Bytes readSnippet pointBytes SnippetAdmitted (λ ps. ps)
 snippet-codec = record { sound = snippet-sound; complete = snippet-complete; fit = λ ps g. points-bytes ps (g .each) }
 
 pub snippet-long : (ps : List Point) → SnippetAdmitted ps → 1 ≤ length (pointBytes ps)
-snippet-long ps g = omega (arith, length-map ps byteOf, g .some)
+snippet-long ps g = omega (arith, length-map ps byteOf, g .nonempty)

@@ -24,7 +24,7 @@ module _ {A B : Type 0} (R : A → A → Type 0) (f : A → B) where
   equal-both h (x ∷ xs) (y ∷ ys) e = (h x y (cc), equal-both h xs ys (cc))
 
 points-equal : (p q : Point) → PointsSame p q → p ≡ q
-points-equal p q s = λ i. record { ramp = s .kind i; timebases = s .length i; amplitude = s .strength i }
+points-equal p q s = λ i. record { ramp = s .kind i; timebases = s .lengths i; amplitude = s .strength i }
 
 equal-points : (p q : Point) → p ≡ q → PointsSame p q
 equal-points p q e =

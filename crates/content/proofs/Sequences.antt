@@ -67,15 +67,15 @@ unfolding readSequence
 sequence-sound bs fs h e =
     let (t, e₁) = cond-some (leb 1 (length bs)) _ e in
     let s = frames-sound 32 bs fs h e₁ in
-    (record { some = short fs (rw (s .2) (leb-true 1 (length bs) t)); few = s .0; each = s .1 }, s .2)
+    (record { nonempty = short fs (rw (s .2) (leb-true 1 (length bs) t)); few = s .0; each = s .1 }, s .2)
 
 sequence-complete : (fs : List FrameBuilder) → SequenceAdmitted fs → readSequence (framesBytes fs) ≡ some (map canon fs)
 unfolding readSequence
 sequence-complete fs g =
-    cond-on _ _ (le-leb 1 (length (framesBytes fs)) (long fs (g .some))) ∙ frames-complete 32 fs (g .few) (g .each)
+    cond-on _ _ (le-leb 1 (length (framesBytes fs)) (long fs (g .nonempty))) ∙ frames-complete 32 fs (g .few) (g .each)
 
 pub sequence-codec : Codec Bytes readSequence framesBytes SequenceAdmitted (map canon)
 sequence-codec = record { sound = sequence-sound; complete = sequence-complete; fit = λ fs g. frames-fit fs }
 
 pub sequence-long : (fs : List FrameBuilder) → SequenceAdmitted fs → 1 ≤ length (framesBytes fs)
-sequence-long fs g = long fs (g .some)
+sequence-long fs g = long fs (g .nonempty)

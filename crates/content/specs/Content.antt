@@ -42,13 +42,13 @@ imageOf c = imageBytes (map pointBytes (c .snippets)) (map framesBytes (c .seque
 
 -- "1..16 points, ramp or step, length 1..8, amplitude 0..15"
 pub record SnippetAdmitted (ps : List Point) : Type 0 where
-  pub some : 1 ≤ length ps
+  pub nonempty : 1 ≤ length ps
   pub few : length ps ≤ 16
   pub each : All (λ (p : Point). PointAdmitted (p .timebases) (p .amplitude)) ps
 
 -- "1..32 frames"
 pub record SequenceAdmitted (fs : List FrameBuilder) : Type 0 where
-  pub some : 1 ≤ length fs
+  pub nonempty : 1 ≤ length fs
   pub few : length fs ≤ 32
   pub each : All FrameAdmitted fs
 

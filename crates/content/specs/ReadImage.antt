@@ -84,10 +84,10 @@ readItems (s ∷ q ∷ l) =
 
 -- ---- the whole
 
-abbrev pub contentFrom : Items → Option Content
-contentFrom r =
+abbrev pub contentIn : Items → Option Content
+contentIn r =
     andThen (every readSnippet (r .snippets)) (λ s.
     andThen (every readSequence (r .sequences)) (λ q. some (record { snippets = s; sequences = q })))
 
 unfoldable pub readImage : List ℕ → Option Content
-readImage l = andThen (readItems l) contentFrom
+readImage l = andThen (readItems l) contentIn

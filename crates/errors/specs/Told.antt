@@ -8,15 +8,15 @@ pub data Told (A : Type 0) : Type 0 where
   refuses : ℕ → Told A
 
 -- a builder's call: 0 or the number of its refusal, and the builder that it hands back
-pub record Step (B : Type 0) : Type 0 where
+pub record Handed (B : Type 0) : Type 0 where
   pub number : ℕ
   pub builder : B
 
-abbrev pub accepted : {B : Type 0} → B → Step B
+abbrev pub accepted : {B : Type 0} → B → Handed B
 accepted b = record { number = 0; builder = b }
 
 -- a refusal hands the builder back as it came in
-abbrev pub refused : {B : Type 0} → ℕ → B → Step B
+abbrev pub refused : {B : Type 0} → ℕ → B → Handed B
 refused n b = record { number = n; builder = b }
 
 -- building: 0 or the number of its refusal, the item, and the builder as it came in

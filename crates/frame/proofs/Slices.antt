@@ -10,7 +10,7 @@ use lib.ListN.{length, drop, getD, length-drop, drop-of-length-le}
 use lib.Seq.{drop-cons}
 use Rattle.errors.specs.Told.{Told, gives, refuses}
 use Rattle.frame.specs.declared.FrameBuilder.{FrameBuilder}
-use Rattle.frame.specs.Read.{oneByte, twoBytes, threeBytes, Parsed, parsed, readSecond, readFrame, Taken, taken, firstFrame, secondAt}
+use Rattle.frame.specs.Read.{oneByte, twoBytes, threeBytes, Parsed, parsed, readSecond, readFrame, Taken, takenFrom, firstFrame, secondAt}
 
 -- a frame of n bytes, the first of a list
 abbrev pub got : FrameBuilder → ℕ → Told Taken
@@ -26,7 +26,7 @@ module _ (l : List ℕ) (at : ℕ) where
       let s : suc i ≡ i + 1 = omega arith in
       drop-cons l i 0 h ∙ ap (λ (k : ℕ). getD l i 0 ∷ drop k l) s ∙ ap (λ (y : ℕ). y ∷ drop (i + 1) l) (sym e)
 
-  taken-of : (f : FrameBuilder) (n k : ℕ) → at + k ≤ length l → n ≡ k → got f n ≡ taken (length (drop at l)) (parsed f (drop (at + k) l))
+  taken-of : (f : FrameBuilder) (n k : ℕ) → at + k ≤ length l → n ≡ k → got f n ≡ takenFrom (length (drop at l)) (parsed f (drop (at + k) l))
   taken-of f n k h e =
       let d : n ≡ length (drop at l) - length (drop (at + k) l) = simp length-drop (omega arith) in ap (got f) d
 
@@ -39,7 +39,7 @@ module _ (l : List ℕ) (at : ℕ) where
     top-set t = simp (first, le-ltb a 128 t)
 
     one-read : a < 128 → readFrame (drop at l) ≡ parsed (oneByte a) (drop (at + 1) l) → got (oneByte a) 1 ≡ firstFrame (drop at l)
-    one-read t e = taken-of (oneByte a) 1 1 (omega arith) refl ∙ ap (taken (length (drop at l))) (sym e)
+    one-read t e = taken-of (oneByte a) 1 1 (omega arith) refl ∙ ap (takenFrom (length (drop at l))) (sym e)
 
     pub one-left : a < 128 → length l - at < 2 → got (oneByte a) 1 ≡ firstFrame (drop at l)
     unfolding readFrame
@@ -64,7 +64,7 @@ module _ (l : List ℕ) (at : ℕ) where
       unfolding readFrame
       second-then t u =
           let e : readFrame (a ∷ b ∷ drop (at + 2) l) ≡ readSecond a b (drop (at + 2) l) = simp (lt-ltb a 128 t, le-ltb b 128 u) in
-          ap (taken (length (drop at l))) (sym (ap readFrame two ∙ e))
+          ap (takenFrom (length (drop at l))) (sym (ap readFrame two ∙ e))
 
   -- a second byte b with its bit 7 set was read
   module _ (a b : ℕ) (k : at + 2 ≤ length l) where
@@ -82,4 +82,4 @@ module _ (l : List ℕ) (at : ℕ) where
         let s : at + 2 + 1 ≡ at + 3 = omega arith in
         let r : drop (at + 2) l ≡ c ∷ drop (at + 3) l = one-more (at + 2) c (omega arith) e ∙ ap (λ (i : ℕ). c ∷ drop i l) s in
         let f : readSecond a b (drop (at + 2) l) ≡ parsed (threeBytes a b c) (drop (at + 3) l) = simp (le-ltb (b / 4 % 2) 1 p, r) in
-        taken-of (threeBytes a b c) 3 3 n refl ∙ ap (taken (length (drop at l))) (sym f)
+        taken-of (threeBytes a b c) 3 3 n refl ∙ ap (takenFrom (length (drop at l))) (sym f)

@@ -4,7 +4,7 @@ use Prim.Native.Nat.{ℕ}
 use mathlib.Core.Bool.{cond}
 use lib.Dec.{ltb}
 use Rattle.errors.specs.Number.{errorNumber, answerNumber}
-use Rattle.errors.specs.Told.{Told, gives, refuses, Step, accepted, refused}
+use Rattle.errors.specs.Told.{Told, gives, refuses, Handed, accepted, refused}
 use Rattle.frame.specs.declared.Gain.{Gain}
 use Rattle.frame.specs.declared.Gain.the-variants.{Full}
 use Rattle.frame.specs.declared.Timebase.{Timebase}
@@ -60,7 +60,7 @@ withTimebase b t =
     }
 
 -- 4 for a count above 15
-abbrev pub withLoopCount : FrameBuilder → ℕ → Step FrameBuilder
+abbrev pub withLoopCount : FrameBuilder → ℕ → Handed FrameBuilder
 withLoopCount b k =
     cond (ltb 15 k) (refused 4 b)
     (accepted
@@ -73,7 +73,7 @@ withLoopCount b k =
     }))
 
 -- 5 for a frequency above 511
-abbrev pub withFrequency : FrameBuilder → ℕ → Step FrameBuilder
+abbrev pub withFrequency : FrameBuilder → ℕ → Handed FrameBuilder
 withFrequency b f =
     cond (ltb 511 f) (refused 5 b)
     (accepted
@@ -85,5 +85,5 @@ withFrequency b f =
       frequency = Frequency.Given f;
     }))
 
-abbrev pub setTold : SetFrame → Step FrameBuilder
+abbrev pub setTold : SetFrame → Handed FrameBuilder
 setTold r = record { number = answerNumber (r .answer); builder = r .builder }

@@ -99,17 +99,17 @@ pub record Taken : Type 0 where
   pub frame : FrameBuilder
   pub len : ℕ
 
-abbrev pub taken : ℕ → Option Parsed → Told Taken
-taken n none = refuses 18
-taken n (some p) = gives (record { frame = p .frame; len = n - length (p .rest) })
+abbrev pub takenFrom : ℕ → Option Parsed → Told Taken
+takenFrom n none = refuses 18
+takenFrom n (some p) = gives (record { frame = p .frame; len = n - length (p .rest) })
 
 -- the first frame of the bytes, or 18
 abbrev pub firstFrame : List ℕ → Told Taken
-firstFrame l = taken (length l) (readFrame l)
+firstFrame l = takenFrom (length l) (readFrame l)
 
 -- the same where a first byte a and a second byte b, its bit 7 set, stand at an index
 abbrev pub secondAt : List ℕ → ℕ → ℕ → ℕ → Told Taken
-secondAt l at a b = taken (length (drop at l)) (readSecond a b (drop (at + 2) l))
+secondAt l at a b = takenFrom (length (drop at l)) (readSecond a b (drop (at + 2) l))
 
 abbrev pub readTold : FrameRead → Told Taken
 readTold (FrameRead.Frame f n) = gives (record { frame = f; len = n })

@@ -21,14 +21,14 @@ element ls i j = andThen (getElem? ls i) (λ l. getElem? l j)
 abbrev pub pointAt : Points → ℕ → ℕ → Option ℕ
 pointAt p i j = element (parts 0 (take (p .count) (p .ends)) (p .items)) i j
 
-abbrev pub pointTold : PointAt → Option ℕ
-pointTold (PointAt.Point p) = some (p .byte)
-pointTold PointAt.Absent = none
+abbrev pub pointAtTold : PointAt → Option ℕ
+pointAtTold (PointAt.Point p) = some (p .byte)
+pointAtTold PointAt.Absent = none
 
 -- a frame of a sequence
 abbrev pub frameAt : Frames → ℕ → ℕ → Option FrameBuilder
 frameAt f i j = element (sequencesIn f) i j
 
-abbrev pub frameTold : FrameAt → Option FrameBuilder
-frameTold (FrameAt.Frame f) = some f
-frameTold FrameAt.Absent = none
+abbrev pub frameAtTold : FrameAt → Option FrameBuilder
+frameAtTold (FrameAt.Frame f) = some f
+frameAtTold FrameAt.Absent = none

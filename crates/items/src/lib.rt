@@ -4,7 +4,7 @@
 ghost use mathlib.Core.Path.{_≡_};
 ghost use Prim.Native.Nat.{_<_};
 ghost use lib.ListN.{take, length};
-ghost use Rattle.items.specs.Items.{pointAt, pointTold, frameAt, frameTold};
+ghost use Rattle.items.specs.Items.{pointAt, pointAtTold, frameAt, frameAtTold};
 ghost use Rattle.items.specs.Places.{startIn, placeIn, placeTold};
 use frame::FrameBuilder;
 use reader::Frames;
@@ -29,7 +29,7 @@ enum Place {
 
 // The j-th point of the i-th snippet, both counted from 0.
 pub fn point_at(points: Points, i: usize, j: usize) -> PointAt
-    ensures { λ r. ⌜ pointTold r ≡ pointAt points i j ⌝ }
+    ensures { λ r. ⌜ pointAtTold r ≡ pointAt points i j ⌝ }
 {
     let ends = points.ends;
     match find(&ends, points.count as usize, i, j) {
@@ -45,7 +45,7 @@ pub fn point_at(points: Points, i: usize, j: usize) -> PointAt
 
 // The j-th frame of the i-th sequence, both counted from 0.
 pub fn frame_at(frames: Frames, i: usize, j: usize) -> FrameAt
-    ensures { λ r. ⌜ frameTold r ≡ frameAt frames i j ⌝ }
+    ensures { λ r. ⌜ frameAtTold r ≡ frameAt frames i j ⌝ }
 {
     let ends = frames.ends;
     match find(&ends, frames.count as usize, i, j) {

@@ -3,7 +3,7 @@
 // Document 01, 'Points, frames, sequences': "copies as much as fits and leaves the buffer's other bytes".
 // Proved: `copy_into` leaves what specs/Copied.antt says, for any buffer and any bytes, and answers how many were copied.
 ghost use mathlib.Core.Path.{_≡_};
-ghost use Prim.Native.Nat.{min};
+ghost use Prim.Native.Nat.{min, _<_};
 ghost use lib.ListN.{length};
 ghost use Rattle.laws.specs.Copied.{copied};
 
@@ -26,4 +26,12 @@ pub fn copy_into(buffer: &mut [u8], bytes: &[u8]) -> usize
         i += 1;
     }
     n
+}
+
+// A byte as a length or an index.
+pub fn wide(x: u8) -> usize
+    ensures { λ r. ⌜ r ≡ x ⌝ }
+    ensures { λ r. ⌜ r < 256 ⌝ }
+{
+    x as usize
 }

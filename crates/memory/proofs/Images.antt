@@ -10,7 +10,7 @@ use lib.Seq.{set-append-seam}
 use Rattle.laws.specs.Copied.{over}
 use Rattle.laws.proofs.Copies.{over-at}
 use Rattle.memory.specs.Image.{joined, endPointers, imageSize, imageBytes}
-use Rattle.memory.specs.Laid.{withItem, laid}
+use Rattle.memory.specs.Laid.{withLaid, laid}
 
 abbrev zeros : ℕ → List ℕ
 zeros n = replicate n 0
@@ -21,7 +21,7 @@ underWay p n d m = p ++ (zeros n ++ (d ++ zeros m))
 
 -- one item more
 laid-one : (p d x : List ℕ) (n m pointer at : ℕ) → pointer ≡ length p → at ≡ length p + suc n + length d → length x ≤ m
-    → withItem (underWay p (suc n) d m) pointer at x ≡ underWay (p ++ ((at + length x - 1) ∷ [])) n (d ++ x) (m - length x)
+    → withLaid (underWay p (suc n) d m) pointer at x ≡ underWay (p ++ ((at + length x - 1) ∷ [])) n (d ++ x) (m - length x)
 laid-one p d x n m pointer at f e h =
     let v : ℕ = at + length x - 1 in
     let a : List ℕ = p ++ (v ∷ (zeros n ++ d)) in
@@ -57,7 +57,7 @@ laid-append [] ys image pointer at = simp add-zero
 laid-append (x ∷ xs) ys image pointer at =
     let p : suc pointer + length xs ≡ pointer + suc (length xs) = omega arith in
     let q : at + length x + length (joined xs) ≡ at + length (x ++ joined xs) = omega (arith, length-append x (joined xs)) in
-    laid-append xs ys (withItem image pointer at x) (suc pointer) (at + length x) ∙ simp (p, q)
+    laid-append xs ys (withLaid image pointer at x) (suc pointer) (at + length x) ∙ simp (p, q)
 
 -- put into zeros behind their numbers
 pub laid-image : (ss qs : List (List ℕ)) → imageSize ss qs ≤ 100

@@ -9,7 +9,7 @@ use native.Mathlib.Omega.{arith}
 use lib.ListN.{length, take, drop, getD, length-append, length-take, length-drop, length-set, length-map, drop-of-length-le, List·getD-map}
 use lib.Seq.{drop-cons, getD-take}
 use Rattle.memory.specs.Image.{joined}
-use Rattle.memory.specs.Laid.{withItem, laid}
+use Rattle.memory.specs.Laid.{withLaid, laid}
 
 -- as many items as are asked for
 pub took : {A : Type 0} (f : A → List ℕ) (l : List A) (n m : ℕ) → length l ≡ m → n ≤ m → length (map f (take n l)) ≡ n
@@ -63,7 +63,7 @@ pub record Putting (image₀ : List ℕ) (pointer at : ℕ) (items : List (List 
   pub whole : laid image₀ pointer at items ≡ laid image (pointer + i) next (drop i items)
 
 -- an item that fits leaves the image's length
-pub length-with : (image : List ℕ) (pointer at : ℕ) (xs : List ℕ) → at + length xs ≤ length image → length (withItem image pointer at xs) ≡ length image
+pub length-with : (image : List ℕ) (pointer at : ℕ) (xs : List ℕ) → at + length xs ≤ length image → length (withLaid image pointer at xs) ≡ length image
 length-with image pointer at xs h = simp (length-append, length-take, length-drop, length-set) (omega arith)
 
 pub putting-none : (image : List ℕ) (pointer at : ℕ) (items : List (List ℕ)) (n : ℕ) → length image ≡ 100 → Putting image pointer at items n image at 0
@@ -90,7 +90,7 @@ module _ {A : Type 0} (f : A → List ℕ) (l : List A) (n m : ℕ) (e : length 
     pub putting-fits : next + length bytes ≤ 100
     putting-fits = omega (arith, joined-next (map f (take n l)) i bytes next-bytes, s .rest)
 
-    pub putting-more : {image′ : List ℕ} {next′ : ℕ} → next′ ≡ next + length bytes → image′ ≡ withItem image (pointer + i) next bytes
+    pub putting-more : {image′ : List ℕ} {next′ : ℕ} → next′ ≡ next + length bytes → image′ ≡ withLaid image (pointer + i) next bytes
         → Putting image₀ pointer at (map f (take n l)) n image′ next′ (i + 1)
     unfolding laid
     putting-more {image′} {next′} p q =

@@ -6,10 +6,10 @@ use lib.ListN.{length, set}
 use Rattle.laws.specs.Copied.{over}
 
 -- an item's end pointer at one index, and its bytes from another on
-abbrev pub withItem : List ℕ → ℕ → ℕ → List ℕ → List ℕ
-withItem image pointer at bytes = over (set image pointer (at + length bytes - 1)) at bytes
+abbrev pub withLaid : List ℕ → ℕ → ℕ → List ℕ → List ℕ
+withLaid image pointer at bytes = over (set image pointer (at + length bytes - 1)) at bytes
 
 -- the items in turn
 unfoldable pub laid : List ℕ → ℕ → ℕ → List (List ℕ) → List ℕ
 laid image pointer at [] = image
-laid image pointer at (x ∷ xs) = laid (withItem image pointer at x) (suc pointer) (at + length x) xs
+laid image pointer at (x ∷ xs) = laid (withLaid image pointer at x) (suc pointer) (at + length x) xs

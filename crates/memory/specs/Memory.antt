@@ -6,7 +6,7 @@ use mathlib.Core.List.{List, map}
 use lib.Dec.{ltb, leb}
 use lib.ListN.{length, take, set, replicate}
 use Rattle.errors.specs.Number.{answerNumber}
-use Rattle.errors.specs.Told.{Step, accepted, refused, Built}
+use Rattle.errors.specs.Told.{Handed, accepted, refused, Built}
 use Rattle.snippet.specs.declared.Snippet.{Snippet}
 use Rattle.snippet.specs.Snippet.{noSnippet, snippetBytes}
 use Rattle.sequence.specs.declared.Sequence.{Sequence}
@@ -39,7 +39,7 @@ newMemory acceleration =
     }
 
 -- a snippet more behind the others, or 6 for a 16th
-abbrev pub withSnippet : WaveformMemoryBuilder → Snippet → Step WaveformMemoryBuilder
+abbrev pub withSnippet : WaveformMemoryBuilder → Snippet → Handed WaveformMemoryBuilder
 withSnippet b s =
     cond (leb 15 (b .«num_snippets»)) (refused 6 b)
     (accepted
@@ -52,7 +52,7 @@ withSnippet b s =
     }))
 
 -- a sequence more behind the others, or 7 for a 17th
-abbrev pub withSequence : WaveformMemoryBuilder → Sequence → Step WaveformMemoryBuilder
+abbrev pub withSequence : WaveformMemoryBuilder → Sequence → Handed WaveformMemoryBuilder
 withSequence b s =
     cond (leb 16 (b .«num_sequences»)) (refused 7 b)
     (accepted
@@ -64,7 +64,7 @@ withSequence b s =
       «acceleration_enabled» = b .«acceleration_enabled»;
     }))
 
-abbrev pub addedTold : AddedItem → Step WaveformMemoryBuilder
+abbrev pub addedTold : AddedItem → Handed WaveformMemoryBuilder
 addedTold r = record { number = answerNumber (r .answer); builder = r .builder }
 
 -- ---- building
@@ -104,10 +104,10 @@ builtTold r = record { number = answerNumber (r .answer); item = r .memory; buil
 -- ---- an image that was stored
 
 -- `from_bytes`: the four values, or 8 for a length above 100
-abbrev pub loaded : List ℕ → ℕ → ℕ → ℕ → Step WaveformMemory
+abbrev pub loaded : List ℕ → ℕ → ℕ → ℕ → Handed WaveformMemory
 loaded bytes n snippets sequences =
     cond (ltb 100 n) (refused 8 noMemory)
     (accepted (record { «data» = bytes; len = n; «num_snippets» = snippets; «num_sequences» = sequences }))
 
-abbrev pub loadedTold : LoadedMemory → Step WaveformMemory
+abbrev pub loadedTold : LoadedMemory → Handed WaveformMemory
 loadedTold r = record { number = answerNumber (r .answer); builder = r .memory }

@@ -10,5 +10,5 @@ abbrev pub timebaseBit : WaveformMemoryTimebase → ℕ
 timebaseBit «TIMEBASE_544_2176_4352_8704» = 0
 timebaseBit «TIMEBASE_136_544_2176_4352» = 1
 
-abbrev pub timebaseAt : ℕ → WaveformMemoryTimebase
-timebaseAt code = getD («TIMEBASE_544_2176_4352_8704» ∷ []) code «TIMEBASE_136_544_2176_4352»
+abbrev pub memoryTimebaseAt : ℕ → WaveformMemoryTimebase
+memoryTimebaseAt code = getD («TIMEBASE_544_2176_4352_8704» ∷ []) code «TIMEBASE_136_544_2176_4352»

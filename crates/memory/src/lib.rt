@@ -10,9 +10,9 @@ ghost use lib.ListN.{length, take};
 ghost use Rattle.snippet.specs.Snippet.{snippetBytes};
 ghost use Rattle.sequence.specs.Sequence.{sequenceBytes};
 ghost use Rattle.memory.specs.Image.{joined, imageBytes};
-ghost use Rattle.memory.specs.Laid.{withItem, laid};
+ghost use Rattle.memory.specs.Laid.{withLaid, laid};
 ghost use Rattle.memory.specs.Memory.{snippetItems, sequenceItems, newMemory, withSnippet, withSequence, addedTold, builtMemory, builtTold, noMemory, loaded, loadedTold};
-ghost use Rattle.memory.specs.Timebase.{timebaseBit, timebaseAt};
+ghost use Rattle.memory.specs.Timebase.{timebaseBit, memoryTimebaseAt};
 use errors::Answer;
 use errors::Error;
 use sequence::Sequence;
@@ -138,7 +138,7 @@ impl WaveformMemoryTimebase {
     }
 
     pub fn from_code(code: u8) -> WaveformMemoryTimebase
-        ensures { λ r. ⌜ r ≡ timebaseAt code ⌝ }
+        ensures { λ r. ⌜ r ≡ memoryTimebaseAt code ⌝ }
     {
         match code {
             0 => WaveformMemoryTimebase::TIMEBASE_544_2176_4352_8704,
@@ -400,7 +400,7 @@ fn put_sequences(
 fn put(image: &mut [u8], pointer: usize, at: usize, bytes: &[u8]) -> usize
     requires { ⌜ (length (now image) ≡ 100) × (pointer < at) × (at + length (now bytes) ≤ 100) ⌝ }
     ensures { λ r. ⌜ r ≡ at + length (now (bytes .entry)) ⌝ }
-    ensures { λ _. ⌜ now (image .exit) ≡ withItem (now (image .entry)) pointer at (now (bytes .entry)) ⌝ }
+    ensures { λ _. ⌜ now (image .exit) ≡ withLaid (now (image .entry)) pointer at (now (bytes .entry)) ⌝ }
 {
     let next = at + bytes.len();
     image[pointer] = (next - 1) as u8;

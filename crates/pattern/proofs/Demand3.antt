@@ -25,7 +25,7 @@ demand3 =
           let s = same-image (content p) (content q) (v .0) (w .0) in
           (λ h. s .0 (v .1 ∙ h ∙ sym (w .1)), λ h. sym (v .1) ∙ s .1 h ∙ w .1);
       returned = λ l h c e. image-codec .sound l c h e;
-      refused = λ l h. refuses-image l h;
+      refusal = λ l h. refuses-image l h;
       readBack = λ p e.
           let w = image-from (p .acceleration) (p .calls) e in
           (canonical (content p), ap readImage (sym (w .1)) ∙ image-codec .complete (content p) (w .0), read-same (content p) (w .0));

@@ -4,7 +4,7 @@ use mathlib.Core.Path.{_≡_, refl, ap, _∙_}
 use mathlib.Core.Bool.{Bool, true, false, cond}
 use mathlib.Core.List.{List, [], _∷_}
 use lib.Dec.{ltb, leb}
-use Rattle.errors.specs.Told.{Step}
+use Rattle.errors.specs.Told.{Handed}
 use Rattle.snippet.specs.Snippet.{builtSnippet}
 use Rattle.sequence.specs.Sequence.{builtSequence}
 use Rattle.memory.specs.declared.WaveformMemoryBuilder.{WaveformMemoryBuilder}
@@ -21,10 +21,10 @@ flagged a b =
       «acceleration_enabled» = a;
     }
 
-abbrev stepFlagged : Bool → Step WaveformMemoryBuilder → Step WaveformMemoryBuilder
+abbrev stepFlagged : Bool → Handed WaveformMemoryBuilder → Handed WaveformMemoryBuilder
 stepFlagged a s = record { number = s .number; builder = flagged a (s .builder) }
 
-through : (a t : Bool) (x y x′ y′ : Step WaveformMemoryBuilder) → x′ ≡ stepFlagged a x → y′ ≡ stepFlagged a y
+through : (a t : Bool) (x y x′ y′ : Handed WaveformMemoryBuilder) → x′ ≡ stepFlagged a x → y′ ≡ stepFlagged a y
     → cond t x′ y′ ≡ stepFlagged a (cond t x y)
 through a true x y x′ y′ e f = e
 through a false x y x′ y′ e f = f
@@ -39,7 +39,7 @@ ran-flag : (a : Bool) (b : WaveformMemoryBuilder) (ks : List MemoryCall)
     → ran memoryStep addedItem (flagged a b) ks ≡ flagged a (ran memoryStep addedItem b ks)
 ran-flag a b [] = refl
 ran-flag a b (k ∷ ks) =
-    ap (λ (s : Step WaveformMemoryBuilder). ran memoryStep addedItem (s .builder) ks) (step-flag a b k)
+    ap (λ (s : Handed WaveformMemoryBuilder). ran memoryStep addedItem (s .builder) ks) (step-flag a b k)
     ∙ ran-flag a (memoryStep b k .builder) ks
 
 pub same-number : (a : Bool) (ks : List MemoryCall) → builtFrom a ks .number ≡ builtFrom false ks .number

@@ -20,7 +20,7 @@ use Rattle.frame.specs.declared.FrameBuilder.{FrameBuilder}
 use Rattle.frame.specs.Agreement.{FrameAdmitted, LoopAdmitted, FrequencyAdmitted}
 use Rattle.frame.specs.Builder.{plainFrame, silentFrame, newFrame, withLoopCount, withFrequency}
 use Rattle.frame.specs.Frame.{firstByte, secondByte, thirdByte, hasSecond, bytesOf, frameBytes, builtFrame}
-use Rattle.pattern.specs.Calls.{FrameCall, gain, timebase, loopCount, frequencyHz, frameStep, Begin, new, silence, begun, FrameCalls, frameRan, numberOf, lastGain, lastTimebase, lastLoop, lastFrequency, frameFrom}
+use Rattle.pattern.specs.Calls.{FrameCall, gain, timebase, loopCount, frequencyHz, frameStep, Begin, new, silence, begunBy, FrameCalls, frameRan, numberOf, lastGain, lastTimebase, lastLoop, lastFrequency, frameFrom}
 
 -- ---- a built frame shows the bytes of its fields
 
@@ -109,6 +109,6 @@ begun-new n ks = some (decLe 1 n) where
   some (yes h) = few h (decLe n 15)
   some (no h) = let h′ : n < 1 = omega arith in simp (lt-ltb n 1 h′) (omega arith)
 
-pub frame-outcome : (b : Begin) (ks : List FrameCall) → FrameOutcome (record { begin = b; calls = ks }) (begun b)
+pub frame-outcome : (b : Begin) (ks : List FrameCall) → FrameOutcome (record { begin = b; calls = ks }) (begunBy b)
 frame-outcome (new n) ks = begun-new n ks
 frame-outcome silence ks = begun-plain silence ks (omega arith)

@@ -10,7 +10,7 @@ use native.Mathlib.Omega.{arith}
 use borrow.Author.Tests.{lt-ltb, le-ltb, le-leb, lt-leb}
 use lib.ListN.{length, take, length-map}
 use Rattle.laws.specs.Bytes.{All}
-use Rattle.errors.specs.Told.{Step, Built}
+use Rattle.errors.specs.Told.{Handed, Built}
 use Rattle.snippet.specs.declared.PwlPoint.{PwlPoint}
 use Rattle.snippet.specs.declared.Snippet.{Snippet}
 use Rattle.snippet.specs.declared.SnippetBuilder.{SnippetBuilder}
@@ -74,7 +74,7 @@ holds-of b is ss qs e f s q gs gq =
 
 -- ---- one call
 
-abbrev Added : List Item → Step WaveformMemoryBuilder → Item → Type 0
+abbrev Added : List Item → Handed WaveformMemoryBuilder → Item → Type 0
 Added is s i = Outcome (s .number) (Holds (s .builder) (is ++ (i ∷ []))) (Holds (s .builder) is)
 
 map-take : {A B : Type 0} (f : A → B) (n : ℕ) (l : List A) → take n (map f l) ≡ map f (take n l)
@@ -95,7 +95,7 @@ with-snippet b is s ps h k = some (decLe 1 (s .len)) where
         holds-of _ _ _ _ (snippets-append is (points ps ∷ [])) (sequences-append is (points ps ∷ []) ∙ append-nil (sequencesOf is))
             (shows-more 15 snippetBytes pointBytes (b .snippets) (b .«num_snippets») (snippetsOf is) (record { points = s .points; len = s .len }) ps (h .snippets) q′ (map-take code.byteOf (s .len) (s .points) ∙ k .shows .shown))
             (h .sequences)
-            (all-append SnippetAdmitted (snippetsOf is) (ps ∷ []) (h .snippet) (record { some = omega (arith, k .shows .counted); few = omega (arith, k .shows .counted, k .shows .room); each = k .good }, tt))
+            (all-append SnippetAdmitted (snippetsOf is) (ps ∷ []) (h .snippet) (record { nonempty = omega (arith, k .shows .counted); few = omega (arith, k .shows .counted, k .shows .room); each = k .good }, tt))
             (h .sequence),
       ))
 
@@ -117,7 +117,7 @@ with-sequence b is s fs h k = some (decLe 1 (s .len)) where
             (h .snippets)
             (shows-more 16 sequenceBytes framesBytes (b .sequences) (b .«num_sequences») (sequencesOf is) (record { «data» = s .«data»; len = s .len }) fs (h .sequences) q′ (k .shown))
             (h .snippet)
-            (all-append SequenceAdmitted (sequencesOf is) (fs ∷ []) (h .sequence) (record { some = short fs (omega (arith, k .counted)); few = k .few; each = k .good }, tt)),
+            (all-append SequenceAdmitted (sequencesOf is) (fs ∷ []) (h .sequence) (record { nonempty = short fs (omega (arith, k .counted)); few = k .few; each = k .good }, tt)),
       ))
 
   some : Dec (1 ≤ s .len) → Added is (withBuiltSequence b (builtSequence s)) (frames fs)

@@ -12,14 +12,14 @@ use borrow.Author.Tests.{lt-ltb, le-ltb}
 use lib.Dec.{ltb}
 use lib.ListN.{length, set, take, length-set, length-append}
 use lib.Seq.{take-suc-set}
-use Rattle.errors.specs.Told.{Step}
+use Rattle.errors.specs.Told.{Handed}
 use Rattle.pattern.specs.Calls.{ran, held}
 
 -- n is the call's number: accepted, and then one thing holds, or refused, and then another
 abbrev pub Outcome : ℕ → Type 0 → Type 0 → Type 0
 Outcome n new old = ((n ≡ 0) × new) ⊎ ((0 < n) × old)
 
-module _ {B K X : Type 0} (step : B → K → Step B) (adds : K → X) (P : B → List X → Type 0)
+module _ {B K X : Type 0} (step : B → K → Handed B) (adds : K → X) (P : B → List X → Type 0)
     (one : (b : B) (xs : List X) (k : K) → P b xs → Outcome (step b k .number) (P (step b k .builder) (xs ++ (adds k ∷ []))) (P (step b k .builder) xs)) where
   -- what holds of a builder and what it held before holds after a list of calls
   pub all-calls : (ks : List K) (b : B) (xs : List X) → P b xs → P (ran step adds b ks) (xs ++ held step adds b ks)

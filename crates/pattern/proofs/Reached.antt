@@ -10,7 +10,7 @@ use borrow.Author.Tests.{lt-ltb, le-ltb, le-leb, lt-leb}
 use lib.Dec.{ltb}
 use lib.ListN.{length, length-append, length-map}
 use Rattle.laws.specs.Bytes.{All}
-use Rattle.errors.specs.Told.{Told, gives, Step}
+use Rattle.errors.specs.Told.{Told, gives, Handed}
 use Rattle.snippet.specs.declared.SnippetBuilder.{SnippetBuilder}
 use Rattle.snippet.specs.Point.{PointAdmitted}
 use Rattle.snippet.specs.Point as made
@@ -35,7 +35,7 @@ use Rattle.content.specs.Content.{Point, Content, pointBytes, framesBytes, Snip
 use Rattle.content.proofs.Codec.{all-left}
 use Rattle.content.proofs.Points.{Good}
 use Rattle.content.proofs.Sequences.{long}
-use Rattle.pattern.specs.Calls.{ran, held, SnippetCall, ramp, step, snippetStep, addedPoint, pointsFrom, FrameCall, gain, timebase, loopCount, frequencyHz, Begin, new, silence, begun, FrameCalls, numberOf, frameFrom, frameRan, withMadeFrame, sequenceStep, framesFrom, snippetFrom, sequenceFrom, MemoryCall, addSnippet, addSequence, Item, points, frames, snippetsOf, sequencesOf, contentOf, memoryStep, addedItem, contentFrom, builtFrom}
+use Rattle.pattern.specs.Calls.{ran, held, SnippetCall, ramp, step, snippetStep, addedPoint, pointsFrom, FrameCall, gain, timebase, loopCount, frequencyHz, Begin, new, silence, begunBy, FrameCalls, numberOf, frameFrom, frameRan, withMadeFrame, sequenceStep, framesFrom, snippetFrom, sequenceFrom, MemoryCall, addSnippet, addSequence, Item, points, frames, snippetsOf, sequencesOf, contentOf, memoryStep, addedItem, contentFrom, builtFrom}
 use Rattle.pattern.proofs.Outcomes.{Outcome}
 use Rattle.pattern.proofs.Snippets as snippet
 use Rattle.pattern.proofs.Frames.{built-bytes, fieldsAfter, ran-fields}
@@ -46,7 +46,7 @@ use Rattle.pattern.proofs.Memories.{snippets-append, sequences-append}
 
 -- ---- any builder
 
-module _ {B K X : Type 0} (step′ : B → K → Step B) (adds : K → X) (P : B → List X → Type 0)
+module _ {B K X : Type 0} (step′ : B → K → Handed B) (adds : K → X) (P : B → List X → Type 0)
     (one : (b : B) (xs : List X) (k : K) → P b xs → Outcome (step′ b k .number) (P (step′ b k .builder) (xs ++ (adds k ∷ []))) (P (step′ b k .builder) xs))
     (call : X → K) (Fit : List X → Type 0) (less : (xs ys : List X) → Fit (xs ++ ys) → Fit xs)
     (takes : (b : B) (xs : List X) (x : X) → P b xs → Fit (xs ++ (x ∷ [])) → (step′ b (call x) .number ≡ 0) × (adds (call x) ≡ x)) where
@@ -128,7 +128,7 @@ number-back : (n : ℕ) → numberOf (beginOf n) ≡ n
 number-back zero = refl
 number-back (suc n) = refl
 
-begun-back : (n : ℕ) → n ≤ 15 → begun (beginOf n) ≡ gives (plainFrame n)
+begun-back : (n : ℕ) → n ≤ 15 → begunBy (beginOf n) ≡ gives (plainFrame n)
 begun-back zero h = refl
 begun-back (suc n) h = simp (le-ltb (suc n) 1 (omega arith), le-ltb 15 (suc n) h)
 
@@ -172,7 +172,7 @@ frame-taken b fs f h w =
     let m = length-append fs (f ∷ []) in
     let k = length-append (bytesOf f) [] in
     let le : length (frameBytes (builtFrame (frameRan plain (frameCall f .calls)))) ≡ length (bytesOf f) = ap length bytes in (
-      made-taken b (frameCall f) (begun (frameCall f .begin)) plain begins (omega (arith, w .0, h .counted)) (omega (arith, w .1, h .frames)),
+      made-taken b (frameCall f) (begunBy (frameCall f .begin)) plain begins (omega (arith, w .0, h .counted)) (omega (arith, w .1, h .frames)),
       back,
     )
 
@@ -215,7 +215,7 @@ item-taken b is (points ps) h w =
     let back = points-reached ps (a .few, a .each) in
     let held = snippet.snippet-holds (map pointCall ps) in
     let n : length (pointsFrom (map pointCall ps)) ≡ length ps = ap length back in
-    let p : 1 ≤ snippetFrom (map pointCall ps) .len = omega (arith, held .shows .counted, a .some) in
+    let p : 1 ≤ snippetFrom (map pointCall ps) .len = omega (arith, held .shows .counted, a .nonempty) in
     let m = ap length e ∙ length-append (snippetsOf is) (ps ∷ []) in
     let q : b .«num_snippets» < 15 = omega (arith, w .fewSnippets, h .snippets .counted) in
     (simp (le-ltb _ _ p, lt-leb _ _ q), ap points back)
@@ -225,7 +225,7 @@ item-taken b is (frames fs) h w =
     let back = frames-reached fs (all-last Short (sequencesOf is) fs (subst (All Short) e (w .short)), a .few, a .each) in
     let held = sequence.sequence-holds (map frameCall fs) in
     let n : length (framesBytes (framesFrom (map frameCall fs))) ≡ length (framesBytes fs) = ap (λ (l : List FrameBuilder). length (framesBytes l)) back in
-    let p : 1 ≤ sequenceFrom (map frameCall fs) .len = omega (arith, held .counted, long fs (a .some)) in
+    let p : 1 ≤ sequenceFrom (map frameCall fs) .len = omega (arith, held .counted, long fs (a .nonempty)) in
     let m = ap length e ∙ length-append (sequencesOf is) (fs ∷ []) in
     let q : b .«num_sequences» < 16 = omega (arith, w .fewSequences, h .sequences .counted) in
     (simp (le-ltb _ _ p, lt-leb _ _ q), ap frames back)

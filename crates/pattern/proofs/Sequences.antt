@@ -12,7 +12,7 @@ use lib.Seq.{take-at}
 use Rattle.laws.specs.Bytes.{All}
 use Rattle.laws.specs.Copied.{over}
 use Rattle.laws.proofs.Copies.{length-over}
-use Rattle.errors.specs.Told.{Told, gives, refuses, Step}
+use Rattle.errors.specs.Told.{Told, gives, refuses, Handed}
 use Rattle.frame.specs.declared.Frame.{Frame}
 use Rattle.frame.specs.declared.FrameBuilder.{FrameBuilder}
 use Rattle.frame.specs.Agreement.{FrameAdmitted}
@@ -22,7 +22,7 @@ use Rattle.sequence.specs.Sequence.{newSequence, withFrame}
 use Rattle.memory.specs.Image.{joined}
 use Rattle.content.specs.Content.{framesBytes}
 use Rattle.content.proofs.Codec.{all-append}
-use Rattle.pattern.specs.Calls.{FrameCall, FrameCalls, frameRan, frameFrom, begun, withMadeFrame, sequenceStep, sequenceFrom, framesFrom}
+use Rattle.pattern.specs.Calls.{FrameCall, FrameCalls, frameRan, frameFrom, begunBy, withMadeFrame, sequenceStep, sequenceFrom, framesFrom}
 use Rattle.pattern.proofs.Outcomes.{Outcome, all-calls}
 use Rattle.pattern.proofs.Frames.{built-bytes, FrameOutcome, frame-outcome}
 
@@ -49,7 +49,7 @@ frames-append (x ∷ xs) ys = ap (λ (l : List ℕ). bytesOf x ++ l) (frames-app
 frames-snoc : (fs : List FrameBuilder) (f : FrameBuilder) → framesBytes (fs ++ (f ∷ [])) ≡ framesBytes fs ++ bytesOf f
 frames-snoc fs f = frames-append fs (f ∷ []) ∙ ap (λ (l : List ℕ). framesBytes fs ++ l) (append-nil {A = ℕ} (bytesOf f))
 
-abbrev Added : SequenceBuilder → List FrameBuilder → Step SequenceBuilder → FrameBuilder → Type 0
+abbrev Added : SequenceBuilder → List FrameBuilder → Handed SequenceBuilder → FrameBuilder → Type 0
 Added b fs s f = Outcome (s .number) (Holds (s .builder) (fs ++ (f ∷ []))) (Holds (s .builder) fs)
 
 -- a frame x of the code whose bytes are those of f
@@ -91,7 +91,7 @@ with-made b fs m (gives f) o h =
 with-made b fs m (refuses n) o h = inr (o, h)
 
 pub one-call : (b : SequenceBuilder) (fs : List FrameBuilder) (m : FrameCalls) → Holds b fs → Added b fs (sequenceStep b m) (frameFrom m)
-one-call b fs m h = with-made b fs m (begun (m .begin)) (frame-outcome (m .begin) (m .calls)) h
+one-call b fs m h = with-made b fs m (begunBy (m .begin)) (frame-outcome (m .begin) (m .calls)) h
 
 pub sequence-holds : (ms : List FrameCalls) → Holds (sequenceFrom ms) (framesFrom ms)
 sequence-holds ms = all-calls sequenceStep frameFrom Holds one-call ms newSequence [] none-held

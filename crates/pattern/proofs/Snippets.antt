@@ -10,7 +10,7 @@ use native.Mathlib.Omega.{arith}
 use borrow.Author.Tests.{lt-ltb, le-ltb, le-leb, lt-leb}
 use lib.ListN.{length, take}
 use Rattle.laws.specs.Bytes.{All}
-use Rattle.errors.specs.Told.{Told, gives, refuses, Step}
+use Rattle.errors.specs.Told.{Told, gives, refuses, Handed}
 use Rattle.snippet.specs.declared.PwlPoint.{PwlPoint}
 use Rattle.snippet.specs.declared.SnippetBuilder.{SnippetBuilder}
 use Rattle.snippet.specs.Point.{pointByte}
@@ -32,7 +32,7 @@ pub record Holds (b : SnippetBuilder) (ps : List Point) : Type 0 where
 pub none-held : Holds newSnippet []
 none-held = record { shows = record { long = refl; shown = refl; counted = refl; room = omega arith }; good = tt }
 
-abbrev Made : SnippetBuilder → List Point → Step SnippetBuilder → Point → Type 0
+abbrev Made : SnippetBuilder → List Point → Handed SnippetBuilder → Point → Type 0
 Made b ps s p = Outcome (s .number) (Holds (s .builder) (ps ++ (p ∷ []))) (Holds (s .builder) ps)
 
 -- a point p with the byte x

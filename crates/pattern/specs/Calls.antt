@@ -4,7 +4,7 @@ use Prim.Native.Nat.{ℕ, _%_}
 use mathlib.Core.Bool.{Bool, true, false, cond}
 use mathlib.Core.List.{List, [], _∷_}
 use lib.Dec.{ltb}
-use Rattle.errors.specs.Told.{Told, gives, refuses, Step, refused, Built}
+use Rattle.errors.specs.Told.{Told, gives, refuses, Handed, refused, Built}
 use Rattle.snippet.specs.declared.Snippet.{Snippet}
 use Rattle.snippet.specs.declared.SnippetBuilder.{SnippetBuilder}
 use Rattle.snippet.specs.Point as made
@@ -31,7 +31,7 @@ use Rattle.content.specs.ReadImage.{pointIn}
 
 -- ---- any builder B with calls K, each of which adds an X when it is accepted
 
-module _ {B K X : Type 0} (step : B → K → Step B) (adds : K → X) where
+module _ {B K X : Type 0} (step : B → K → Handed B) (adds : K → X) where
   -- "Each call gets what the last handed back"
   abbrev pub ran : B → List K → B
   ran b [] = b
@@ -50,7 +50,7 @@ pub data SnippetCall : Type 0 where
   -- a point that was made before, by its byte (the low eight bits count)
   point : ℕ → SnippetCall
 
-abbrev pub snippetStep : SnippetBuilder → SnippetCall → Step SnippetBuilder
+abbrev pub snippetStep : SnippetBuilder → SnippetCall → Handed SnippetBuilder
 snippetStep b (ramp t a) = withMade b (made.point true t a)
 snippetStep b (step t a) = withMade b (made.point false t a)
 snippetStep b (point x) = withPoint b (pointOf (x % 256))
@@ -74,7 +74,7 @@ pub data FrameCall : Type 0 where
   loopCount : ℕ → FrameCall
   frequencyHz : ℕ → FrameCall
 
-abbrev pub frameStep : FrameBuilder → FrameCall → Step FrameBuilder
+abbrev pub frameStep : FrameBuilder → FrameCall → Handed FrameBuilder
 frameStep b (gain g) = record { number = 0; builder = withGain b g }
 frameStep b (timebase t) = record { number = 0; builder = withTimebase b t }
 frameStep b (loopCount k) = withLoopCount b k
@@ -85,9 +85,9 @@ pub data Begin : Type 0 where
   new : ℕ → Begin
   silence : Begin
 
-abbrev pub begun : Begin → Told FrameBuilder
-begun (new n) = newFrame n
-begun silence = gives silentFrame
+abbrev pub begunBy : Begin → Told FrameBuilder
+begunBy (new n) = newFrame n
+begunBy silence = gives silentFrame
 
 pub record FrameCalls : Type 0 where
   pub begin : Begin
@@ -143,12 +143,12 @@ frameFrom m =
 
 -- ---- a sequence: each call adds the frame that its own calls make; where `new` was refused there is no frame to add
 
-abbrev pub withMadeFrame : SequenceBuilder → List FrameCall → Told FrameBuilder → Step SequenceBuilder
+abbrev pub withMadeFrame : SequenceBuilder → List FrameCall → Told FrameBuilder → Handed SequenceBuilder
 withMadeFrame b ks (gives f) = withFrame b (builtFrame (frameRan f ks))
 withMadeFrame b ks (refuses n) = refused n b
 
-abbrev pub sequenceStep : SequenceBuilder → FrameCalls → Step SequenceBuilder
-sequenceStep b m = withMadeFrame b (m .calls) (begun (m .begin))
+abbrev pub sequenceStep : SequenceBuilder → FrameCalls → Handed SequenceBuilder
+sequenceStep b m = withMadeFrame b (m .calls) (begunBy (m .begin))
 
 abbrev pub sequenceFrom : List FrameCalls → SequenceBuilder
 sequenceFrom ms = ran sequenceStep frameFrom newSequence ms
@@ -166,13 +166,13 @@ pub data Item : Type 0 where
   points : List Point → Item
   frames : List FrameBuilder → Item
 
-abbrev pub withBuiltSnippet : WaveformMemoryBuilder → Built Snippet SnippetBuilder → Step WaveformMemoryBuilder
+abbrev pub withBuiltSnippet : WaveformMemoryBuilder → Built Snippet SnippetBuilder → Handed WaveformMemoryBuilder
 withBuiltSnippet b r = cond (ltb 0 (r .number)) (refused (r .number) b) (withSnippet b (r .item))
 
-abbrev pub withBuiltSequence : WaveformMemoryBuilder → Built Sequence SequenceBuilder → Step WaveformMemoryBuilder
+abbrev pub withBuiltSequence : WaveformMemoryBuilder → Built Sequence SequenceBuilder → Handed WaveformMemoryBuilder
 withBuiltSequence b r = cond (ltb 0 (r .number)) (refused (r .number) b) (withSequence b (r .item))
 
-abbrev pub memoryStep : WaveformMemoryBuilder → MemoryCall → Step WaveformMemoryBuilder
+abbrev pub memoryStep : WaveformMemoryBuilder → MemoryCall → Handed WaveformMemoryBuilder
 memoryStep b (addSnippet ks) = withBuiltSnippet b (builtSnippet (snippetFrom ks))
 memoryStep b (addSequence ms) = withBuiltSequence b (builtSequence (sequenceFrom ms))
 

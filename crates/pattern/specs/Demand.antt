@@ -46,6 +46,6 @@ pub record Demand3 : Type 0 where
   -- "it returns lists that the builders admit and whose image those bytes are"
   pub returned : (l : List ℕ) → Bytes l → (c : Content) → readImage l ≡ some c → ImageOf l c
   -- "and refuses exactly when there are no such lists"
-  pub refused : (l : List ℕ) → Bytes l → (readImage l ≡ none) ↔ ¬ ((c : Content) × Admitted c × (imageOf c ≡ l))
+  pub refusal : (l : List ℕ) → Bytes l → (readImage l ≡ none) ↔ ¬ ((c : Content) × Admitted c × (imageOf c ≡ l))
   -- every built image is read back to the same content
   pub readBack : (p : Pattern) → IsBuilt p → (c : Content) × (readImage (image p) ≡ some c) × Same (content p) c

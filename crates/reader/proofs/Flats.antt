@@ -11,7 +11,7 @@ use lib.ListN.{length, take, drop, set, replicate, length-append}
 use lib.Seq.{take-at, drop-at, set-append-seam, append-snoc}
 use Rattle.memory.specs.Image.{joined, endPointers}
 use Rattle.content.proofs.Items.{length-pointers}
-use Rattle.reader.specs.Reading.{parts, filled}
+use Rattle.reader.specs.Reading.{parts, padded}
 
 pub record Flat (A : Type 0) : Type 0 where
   pub items : List A
@@ -52,8 +52,8 @@ module _ {A : Type 0} where
       (λ i. u i ∷ parts (p + length x) (endPointers (p + length x) xs) (e i)) ∙ ap (λ (z : List (List A)). x ∷ z) (parts-joined xs (pre ++ x) (p + length x) r g)
 
   -- the next place of a list that has room
-  set-filled : (n : ℕ) (blank b : A) (l : List A) → length l < n → set (filled n blank l) (length l) b ≡ filled n blank (l ++ b ∷ [])
-  set-filled n blank b l h =
+  set-padded : (n : ℕ) (blank b : A) (l : List A) → length l < n → set (padded n blank l) (length l) b ≡ padded n blank (l ++ b ∷ [])
+  set-padded n blank b l h =
       let k : n - length l ≡ suc (n - length (l ++ b ∷ [])) = omega (arith, length-append l (b ∷ [])) in
       ap (λ (m : ℕ). set (l ++ replicate m blank) (length l) b) k
       ∙ set-append-seam l blank (replicate (n - length (l ++ b ∷ [])) blank) b
@@ -62,46 +62,46 @@ module _ {A : Type 0} where
 module _ {A : Type 0} (blank : A) where
   -- the elements l behind each other, of which n lists end at es
   abbrev under : List A → List ℕ → ℕ → Flat A
-  under l es n = record { items = filled 96 blank l; len = length l; ends = es; count = n }
+  under l es n = record { items = padded 96 blank l; len = length l; ends = es; count = n }
 
   abbrev pub flatOf : ℕ → List (List A) → Flat A
-  flatOf most xs = under (joined xs) (filled most 0 (endPointers 0 xs)) (length xs)
+  flatOf most xs = under (joined xs) (padded most 0 (endPointers 0 xs)) (length xs)
 
   pushed : (x l : List A) (es : List ℕ) (n : ℕ) → length l + length x ≤ 96 → pushAll (under l es n) x ≡ under (l ++ x) es n
   pushed [] l es n h = ap (λ (z : List A). under z es n) (sym (append-nil l))
   pushed (b ∷ x) l es n h =
-      let o : Flat A = record { items = set (filled 96 blank l) (length l) b; len = length l + 1; ends = es; count = n } in
+      let o : Flat A = record { items = set (padded 96 blank l) (length l) b; len = length l + 1; ends = es; count = n } in
       let t : push (under l es n) b ≡ o = ap (λ (t : Bool). cond t o (under l es n)) (lt-ltb (length l) 96 (omega arith)) in
-      let s = set-filled 96 blank b l (omega arith) in
+      let s = set-padded 96 blank b l (omega arith) in
       let k = sym (length-append l (b ∷ [])) in
       ap (λ (z : Flat A). pushAll z x) (t ∙ λ i. record { items = s i; len = k i; ends = es; count = n })
       ∙ pushed x (l ++ b ∷ []) es n (omega (arith, length-append l (b ∷ [])))
       ∙ ap (λ (z : List A). under z es n) (append-snoc l b x)
 
   closed : (most : ℕ) (xs : List (List A)) (x : List A) → length xs < most
-      → close most (under (joined xs ++ x) (filled most 0 (endPointers 0 xs)) (length xs)) ≡ flatOf most (xs ++ x ∷ [])
+      → close most (under (joined xs ++ x) (padded most 0 (endPointers 0 xs)) (length xs)) ≡ flatOf most (xs ++ x ∷ [])
   closed most xs x g =
       let l : List A = joined xs ++ x in
       let n : length (endPointers 0 xs) ≡ length xs = length-pointers 0 xs in
       let v : length l ≡ 0 + length l = omega arith in
-      let s : set (filled most 0 (endPointers 0 xs)) (length xs) (length l) ≡ filled most 0 (endPointers 0 (xs ++ x ∷ [])) =
-      (λ i. set (filled most 0 (endPointers 0 xs)) (sym n i) (v i))
-      ∙ set-filled most 0 (0 + length l) (endPointers 0 xs) (omega arith)
-      ∙ ap (filled most 0) (sym (ends-snoc xs 0 x)) in
+      let s : set (padded most 0 (endPointers 0 xs)) (length xs) (length l) ≡ padded most 0 (endPointers 0 (xs ++ x ∷ [])) =
+      (λ i. set (padded most 0 (endPointers 0 xs)) (sym n i) (v i))
+      ∙ set-padded most 0 (0 + length l) (endPointers 0 xs) (omega arith)
+      ∙ ap (padded most 0) (sym (ends-snoc xs 0 x)) in
       let j = sym (joined-snoc xs x) in
       let c = sym (length-append xs (x ∷ [])) in
-      let o : Flat A = record { items = filled 96 blank l; len = length l; ends = set (filled most 0 (endPointers 0 xs)) (length xs) (length l); count = length xs + 1 } in
-      ap (λ (t : Bool). cond t o (under l (filled most 0 (endPointers 0 xs)) (length xs))) (lt-ltb (length xs) most g)
+      let o : Flat A = record { items = padded 96 blank l; len = length l; ends = set (padded most 0 (endPointers 0 xs)) (length xs) (length l); count = length xs + 1 } in
+      ap (λ (t : Bool). cond t o (under l (padded most 0 (endPointers 0 xs)) (length xs))) (lt-ltb (length xs) most g)
       ∙ λ i. under (j i) (s i) (c i)
 
   -- one more list
   pub add-list : (most : ℕ) (xs : List (List A)) (x : List A) → length (joined xs) + length x ≤ 96 → length xs < most
       → close most (pushAll (flatOf most xs) x) ≡ flatOf most (xs ++ x ∷ [])
-  add-list most xs x f g = ap (close most) (pushed x (joined xs) (filled most 0 (endPointers 0 xs)) (length xs) f) ∙ closed most xs x g
+  add-list most xs x f g = ap (close most) (pushed x (joined xs) (padded most 0 (endPointers 0 xs)) (length xs) f) ∙ closed most xs x g
 
   -- its parts are the lists
   pub shows : (most : ℕ) (o : Flat A) (xs : List (List A)) → o ≡ flatOf most xs → parts 0 (take (o .count) (o .ends)) (o .items) ≡ xs
   shows most o xs e =
       ap (λ (z : Flat A). parts 0 (take (z .count) (z .ends)) (z .items)) e
-      ∙ ap (λ (es : List ℕ). parts 0 es (filled 96 blank (joined xs))) (take-at (endPointers 0 xs) (replicate (most - length (endPointers 0 xs)) 0) (length xs) (length-pointers 0 xs))
+      ∙ ap (λ (es : List ℕ). parts 0 es (padded 96 blank (joined xs))) (take-at (endPointers 0 xs) (replicate (most - length (endPointers 0 xs)) 0) (length xs) (length-pointers 0 xs))
       ∙ parts-joined xs [] 0 (replicate (96 - length (joined xs)) blank) refl

@@ -12,7 +12,7 @@ use lib.ListN.{length, drop, set, length-append, drop-of-length-le}
 use lib.Seq.{drop-drop, drop-at}
 use Rattle.errors.specs.Told.{gives, refuses}
 use Rattle.frame.specs.declared.FrameBuilder.{FrameBuilder}
-use Rattle.frame.specs.Read.{twoBytes, Parsed, parsed, readThird, readSecond, readAfter, readFrame, oneByte, Taken, taken}
+use Rattle.frame.specs.Read.{twoBytes, Parsed, parsed, readThird, readSecond, readAfter, readFrame, oneByte, Taken, takenFrom}
 use Rattle.content.specs.ReadImage.{andThen}
 use Rattle.content.proofs.Codec.{none-some, some-inj, cond-some}
 use Rattle.reader.specs.declared.Frames.{Frames}
@@ -57,19 +57,19 @@ rest (a ∷ r) p e = rest-after a r p (cond-some (ltb a 128) (readAfter a r) e .
 
 -- ---- what the code was told
 
-pub took : (l : List ℕ) (f : FrameBuilder) (m : ℕ) → gives (record { frame = f; len = m }) ≡ taken (length l) (readFrame l)
+pub took : (l : List ℕ) (f : FrameBuilder) (m : ℕ) → gives (record { frame = f; len = m }) ≡ takenFrom (length l) (readFrame l)
     → readFrame l ≡ parsed f (drop m l)
 took l f m e = go (readFrame l) refl e where
-  go : (o : Option Parsed) → readFrame l ≡ o → gives (record { frame = f; len = m }) ≡ taken (length l) o → readFrame l ≡ parsed f (drop m l)
+  go : (o : Option Parsed) → readFrame l ≡ o → gives (record { frame = f; len = m }) ≡ takenFrom (length l) o → readFrame l ≡ parsed f (drop m l)
   go none d e = let z : _≡_ {A = ℕ} 0 1 = cc in absurd (omega arith)
   go (some p) d e =
       let t : _≡_ {A = Taken} (record { frame = f; len = m }) (record { frame = p .frame; len = length l - length (p .rest) }) = cc in
       let r : p .rest ≡ drop m l = sym (rest l p d .behind) ∙ ap (λ (x : Taken). drop (x .len) l) (sym t) in
       d ∙ (λ i. parsed (sym t i .frame) (r i))
 
-pub refused : (l : List ℕ) (n : ℕ) → refuses n ≡ taken (length l) (readFrame l) → readFrame l ≡ none
+pub refused : (l : List ℕ) (n : ℕ) → refuses n ≡ takenFrom (length l) (readFrame l) → readFrame l ≡ none
 refused l n e = go (readFrame l) refl e where
-  go : (o : Option Parsed) → readFrame l ≡ o → refuses n ≡ taken (length l) o → readFrame l ≡ none
+  go : (o : Option Parsed) → readFrame l ≡ o → refuses n ≡ takenFrom (length l) o → readFrame l ≡ none
   go none d e = d
   go (some p) d e = let z : _≡_ {A = ℕ} 0 1 = cc in absurd (omega arith)
 
@@ -92,12 +92,12 @@ module _ (s : List ℕ) (at k : ℕ) (o : Frames) (h : at < length s) where
       ∙ ap (λ (l : List ℕ). runFrames (suc (32 - (k + 1))) l o) d
       ∙ ap (λ (x : Option Parsed). andThen x (λ p. runFrames (32 - (k + 1)) (p .rest) (pushFrame o (p .frame)))) (ap readFrame (sym d) ∙ e)
 
-  pub run-step : (f : FrameBuilder) (m : ℕ) → k < 32 → gives (record { frame = f; len = m }) ≡ taken (length (drop at s)) (readFrame (drop at s))
+  pub run-step : (f : FrameBuilder) (m : ℕ) → k < 32 → gives (record { frame = f; len = m }) ≡ takenFrom (length (drop at s)) (readFrame (drop at s))
       → runFrames (32 - k) (drop at s) o ≡ runFrames (32 - (k + 1)) (drop (at + m) s) (pushFrame o f)
   run-step f m g e =
       run-one g _ (took (drop at s) f m e) ∙ ap (λ (l : List ℕ). runFrames (32 - (k + 1)) l (pushFrame o f)) (drop-drop m at s)
 
-  pub run-stop : (n : ℕ) → k < 32 → refuses n ≡ taken (length (drop at s)) (readFrame (drop at s)) → runFrames (32 - k) (drop at s) o ≡ none
+  pub run-stop : (n : ℕ) → k < 32 → refuses n ≡ takenFrom (length (drop at s)) (readFrame (drop at s)) → runFrames (32 - k) (drop at s) o ≡ none
   run-stop n g e = run-one g _ (refused (drop at s) n e)
 
   pub run-full : 32 ≤ k → runFrames (32 - k) (drop at s) o ≡ none

@@ -16,7 +16,7 @@ use Rattle.errors.specs.declared.Answer.the-variants as Answer
 use Rattle.frame.specs.declared.FrameBuilder.{FrameBuilder}
 use Rattle.frame.specs.Builder.{silentFrame}
 use Rattle.content.specs.Content.{Point, Content, pointBytes}
-use Rattle.content.specs.ReadImage.{andThen, every, pointsIn, readSnippet, readSequence, Cut, cut, allZero, Items, countsFit, itemsFrom, readItems, contentFrom, readImage}
+use Rattle.content.specs.ReadImage.{andThen, every, pointsIn, readSnippet, readSequence, Cut, cut, allZero, Items, countsFit, itemsFrom, readItems, contentIn, readImage}
 use Rattle.content.proofs.Codec.{cons-eq}
 use Rattle.content.proofs.Points.{points-there}
 use Rattle.content.proofs.Items.{counts-sound}
@@ -121,10 +121,10 @@ module _ (image : List ℕ) (s q last : ℕ) where
 
 -- the items that were cut, read
 items-read : (s : ℕ) (c d : Cut) → length (c .items) ≡ s
-    → andThen (andThen (joinCut c d) (itemsFrom s)) contentFrom ≡ cond (allZero (d .left)) (made (every rawSnippet (c .items)) (every readSequence (d .items))) none
+    → andThen (andThen (joinCut c d) (itemsFrom s)) contentIn ≡ cond (allZero (d .left)) (made (every rawSnippet (c .items)) (every readSequence (d .items))) none
 items-read s c d h =
     let r : Items = record { snippets = take s (c .items ++ d .items); sequences = drop s (c .items ++ d .items) } in
-    sym (cond-then (allZero (d .left)) (some r) contentFrom)
+    sym (cond-then (allZero (d .left)) (some r) contentIn)
     ∙ rw (take-at (c .items) (d .items) s h, drop-at (c .items) (d .items) s h, every-raw (c .items))
 
 -- ---- the image
@@ -143,7 +143,7 @@ module _ (s q : ℕ) (l : List ℕ) (h : length l ≡ 98) (t : countsFit s q ≡
   more = take q (drop (2 + s) image)
 
   -- the definition, with the pointers in two runs
-  image-cut : readImage image ≡ andThen (andThen (andThen (cut first ends (drop (first + 1) image)) (cutMore (lastOf first ends) more)) (itemsFrom s)) contentFrom
+  image-cut : readImage image ≡ andThen (andThen (andThen (cut first ends (drop (first + 1) image)) (cutMore (lastOf first ends) more)) (itemsFrom s)) contentIn
   unfolding readImage readItems
   image-cut =
       let k : first + 1 ≡ suc (suc (s + q)) = omega arith in
@@ -152,14 +152,14 @@ module _ (s q : ℕ) (l : List ℕ) (h : length l ≡ 98) (t : countsFit s q ≡
       let g : drop (2 + s) image ≡ drop s l = ap (λ (n : ℕ). drop n image) j in
       let e : take (s + q) l ≡ ends ++ more = take-add s q l ∙ ap (λ (z : List ℕ). take s l ++ take q z) (sym g) in
       simp (eq-eqb (length l) 98 h, t)
-      (ap (λ (m : Option Cut). andThen (andThen m (itemsFrom s)) contentFrom) ((λ i. cut first (e i) (sym d i)) ∙ cut-append ends first more (drop (first + 1) image)))
+      (ap (λ (m : Option Cut). andThen (andThen m (itemsFrom s)) contentIn) ((λ i. cut first (e i) (sym d i)) ∙ cut-append ends first more (drop (first + 1) image)))
 
   module _ (c : Cut) (w : WasCut first ends image c) where
     abbrev last : ℕ
     last = lastOf first ends
 
     after-snippets : (n : Option Cut) → cut last more (drop (last + 1) image) ≡ n
-        → Right (andThen (andThen (andThen n (joinCut c)) (itemsFrom s)) contentFrom) (snippetsThen image s q (afterCut snippetStep image last noPoints c))
+        → Right (andThen (andThen (andThen n (joinCut c)) (itemsFrom s)) contentIn) (snippetsThen image s q (afterCut snippetStep image last noPoints c))
     after-snippets none e =
         via {o = none} {o′ = none} refl (snippets-none image s q last (inTurn snippetStep (c .items) noPoints) (walk-cut sequenceStep image more last noFrames ∙ rw e)) none-right
     after-snippets (some d) e =
@@ -178,12 +178,12 @@ module _ (s q : ℕ) (l : List ℕ) (h : length l ≡ 98) (t : countsFit s q ≡
         (last-step (allZero (drop (lastOf last more + 1) image)) (inTurn snippetStep (c .items) noPoints) (every rawSnippet (c .items)) k (λ xs e. subst (All Bytes) (raw-same (c .items) xs e) (w .bytes small)) (inTurn sequenceStep (d .items) noFrames) (every readSequence (d .items)) j)
 
   after-counts : (m : Option Cut) → cut first ends (drop (first + 1) image) ≡ m
-      → Right (andThen (andThen (andThen m (cutMore (lastOf first ends) more)) (itemsFrom s)) contentFrom) (snippetsThen image s q (andThen m (afterCut snippetStep image (lastOf first ends) noPoints)))
+      → Right (andThen (andThen (andThen m (cutMore (lastOf first ends) more)) (itemsFrom s)) contentIn) (snippetsThen image s q (andThen m (afterCut snippetStep image (lastOf first ends) noPoints)))
   after-counts none e = none-right
   after-counts (some c) e =
       let w = was-cut ends first image c e in
       let r : Reading = snippetsThen image s q (afterCut snippetStep image (lastOf first ends) noPoints c) in
-      subst (λ (x : List ℕ). Right (andThen (andThen (andThen (cut (lastOf first ends) more x) (joinCut c)) (itemsFrom s)) contentFrom) r) (sym (w .left))
+      subst (λ (x : List ℕ). Right (andThen (andThen (andThen (cut (lastOf first ends) more x) (joinCut c)) (itemsFrom s)) contentIn) r) (sym (w .left))
       (after-snippets c w (cut (lastOf first ends) more (drop (lastOf first ends + 1) image)) refl)
 
   counts-right : Right (readImage image) (afterCounts image s q)

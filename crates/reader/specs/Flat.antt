@@ -1,4 +1,4 @@
--- The lists, filled one element at a time, as the code does it; what finds no room is dropped. Only private contracts cite this; what the
+-- The lists, padded one element at a time, as the code does it; what finds no room is dropped. Only private contracts cite this; what the
 -- lists are is in Reading.antt.
 use Prim.Native.Nat.{ℕ, _+_}
 use mathlib.Core.Bool.{cond}

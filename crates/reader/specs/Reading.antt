@@ -32,16 +32,16 @@ noFrames = record { items = replicate 96 silentFrame; len = 0; ends = replicate 
 
 -- ---- the arrays of a reading
 
--- a list in n places, the others filled
-abbrev pub filled : {A : Type 0} → ℕ → A → List A → List A
-filled n blank l = l ++ replicate (n - length l) blank
+-- a list in n places, the others padded
+abbrev pub padded : {A : Type 0} → ℕ → A → List A → List A
+padded n blank l = l ++ replicate (n - length l) blank
 
 -- lists laid end to end, and the index behind each
 abbrev pub laidPoints : List (List ℕ) → Points
-laidPoints ls = record { items = filled 96 0 (joined ls); len = length (joined ls); ends = filled 15 0 (endPointers 0 ls); count = length ls }
+laidPoints ls = record { items = padded 96 0 (joined ls); len = length (joined ls); ends = padded 15 0 (endPointers 0 ls); count = length ls }
 
 abbrev pub laidFrames : List (List FrameBuilder) → Frames
-laidFrames ls = record { items = filled 96 silentFrame (joined ls); len = length (joined ls); ends = filled 16 0 (endPointers 0 ls); count = length ls }
+laidFrames ls = record { items = padded 96 silentFrame (joined ls); len = length (joined ls); ends = padded 16 0 (endPointers 0 ls); count = length ls }
 
 -- 18 for what is no image
 abbrev pub readNumber : Option Content → ℕ

@@ -12,7 +12,7 @@ use lib.ListN.{length, take, drop, getD, getElem?, drop-of-length-le}
 use lib.Seq.{drop-drop}
 use Rattle.errors.specs.Told.{gives, refuses}
 use Rattle.frame.specs.declared.FrameBuilder.{FrameBuilder}
-use Rattle.frame.specs.Read.{Parsed, readFrame, taken}
+use Rattle.frame.specs.Read.{Parsed, readFrame, takenFrom}
 use Rattle.content.specs.ReadImage.{andThen, readFrames}
 use Rattle.content.proofs.Codec.{none-some, some-inj, then-some}
 use Rattle.reader.specs.Walk.{item}
@@ -115,10 +115,10 @@ module _ (fs : List FrameBuilder) (bs : List ℕ) (j at n : ℕ) (w : Left fs bs
   pub left-end : length bs ≤ at → none ≡ getElem? fs j
   left-end h = no-frames (w .most) (w .frames) n (ap (readFrames (w .most)) (sym (drop-of-length-le bs h)) ∙ w .read) ∙ w .same
 
-  pub left-stop : (x : ℕ) → refuses x ≡ taken (length (drop at bs)) (readFrame (drop at bs)) → none ≡ getElem? fs j
+  pub left-stop : (x : ℕ) → refuses x ≡ takenFrom (length (drop at bs)) (readFrame (drop at bs)) → none ≡ getElem? fs j
   left-stop x e = none-read (w .most) (drop at bs) (w .frames) n (w .read) (refused (drop at bs) x e) ∙ w .same
 
-  module _ (f : FrameBuilder) (m : ℕ) (e : gives (record { frame = f; len = m }) ≡ taken (length (drop at bs)) (readFrame (drop at bs))) where
+  module _ (f : FrameBuilder) (m : ℕ) (e : gives (record { frame = f; len = m }) ≡ takenFrom (length (drop at bs)) (readFrame (drop at bs))) where
     one : Split f (drop m (drop at bs)) (w .frames)
     one = split (w .most) (drop at bs) (w .frames) (record { frame = f; rest = drop m (drop at bs) }) (w .read) (took (drop at bs) f m e)
 

@@ -14,7 +14,7 @@ use Rattle.errors.specs.Told.{gives, refuses}
 use Rattle.errors.specs.declared.Answer.{Answer}
 use Rattle.errors.specs.declared.Answer.the-variants as Answer
 use Rattle.frame.specs.declared.FrameBuilder.{FrameBuilder}
-use Rattle.frame.specs.Read.{Parsed, readFrame, taken}
+use Rattle.frame.specs.Read.{Parsed, readFrame, takenFrom}
 use Rattle.content.specs.Content.{Content}
 use Rattle.content.specs.ReadImage.{andThen, readFrames, allZero, countsFit, readImage}
 use Rattle.reader.specs.declared.Points.{Points}
@@ -218,10 +218,10 @@ module _ (s : List ℕ) (at k : ℕ) (h : at < length s) where
   pub frames-full : 32 ≤ k → present (readFrames (32 - k) (drop at s)) ≡ false
   frames-full g = sym (frames-found (32 - k) (drop at s) noFrames) ∙ ap present (run-full s at k noFrames h g)
 
-  pub frames-stop : (n : ℕ) → k < 32 → refuses n ≡ taken (length (drop at s)) (readFrame (drop at s)) → present (readFrames (32 - k) (drop at s)) ≡ false
+  pub frames-stop : (n : ℕ) → k < 32 → refuses n ≡ takenFrom (length (drop at s)) (readFrame (drop at s)) → present (readFrames (32 - k) (drop at s)) ≡ false
   frames-stop n g e = sym (frames-found (32 - k) (drop at s) noFrames) ∙ ap present (run-stop s at k noFrames h n g e)
 
-  pub frames-on : (f : FrameBuilder) (m : ℕ) → k < 32 → gives (record { frame = f; len = m }) ≡ taken (length (drop at s)) (readFrame (drop at s))
+  pub frames-on : (f : FrameBuilder) (m : ℕ) → k < 32 → gives (record { frame = f; len = m }) ≡ takenFrom (length (drop at s)) (readFrame (drop at s))
       → present (readFrames (32 - k) (drop at s)) ≡ present (readFrames (32 - (k + 1)) (drop (at + m) s))
   frames-on f m g e =
       sym (frames-found (32 - k) (drop at s) noFrames) ∙ ap present (run-step s at k noFrames h f m g e)

@@ -11,7 +11,7 @@ use lib.Dec.{ltb, leb, eqb}
 use lib.ListN.{length, take, drop, getD, getElem?, length-take, length-drop}
 use lib.Seq.{getD-take, length-take-le}
 use Rattle.content.specs.Content.{Content}
-use Rattle.content.specs.ReadImage.{andThen, every, readSnippet, readSequence, Cut, cut, allZero, Items, countsFit, itemsFrom, readItems, contentFrom, readImage}
+use Rattle.content.specs.ReadImage.{andThen, every, readSnippet, readSequence, Cut, cut, allZero, Items, countsFit, itemsFrom, readItems, contentIn, readImage}
 use Rattle.content.proofs.Codec.{none-some, some-inj, cond-some, then-some}
 use Rattle.reader.specs.Walk.{item}
 use Rattle.reader.proofs.Cuts.{drop-on, was-cut}
@@ -151,7 +151,7 @@ module _ (s q : ℕ) (l : List ℕ) (h : s + q ≤ length l) (c : Cut) (e : cut 
         within = λ i g. item-stands s q l h c e (s + i) (omega arith) .1;
       }
 
-items-known : (s q : ℕ) (l : List ℕ) (r : Items) (x : Content) → readItems (s ∷ q ∷ l) ≡ some r → contentFrom r ≡ some x → Known (s ∷ q ∷ l) x
+items-known : (s q : ℕ) (l : List ℕ) (r : Items) (x : Content) → readItems (s ∷ q ∷ l) ≡ some r → contentIn r ≡ some x → Known (s ∷ q ∷ l) x
 unfolding readItems
 items-known s q l r x e f =
     let (t, e₁) = cond-some (eqb (length l) 98 && countsFit s q) _ e in
@@ -168,7 +168,7 @@ items-known s q l r x e f =
     (ap (λ (y : Items). every readSnippet (y .snippets)) d ∙ f₁)
     (ap (λ (y : Items). every readSequence (y .sequences)) d ∙ f₃))
 
-known-by : (image : List ℕ) (r : Items) (x : Content) → readItems image ≡ some r → contentFrom r ≡ some x → Known image x
+known-by : (image : List ℕ) (r : Items) (x : Content) → readItems image ≡ some r → contentIn r ≡ some x → Known image x
 unfolding readItems
 known-by [] r x d f = none-some r d
 known-by (s ∷ []) r x d f = none-some r d
@@ -176,4 +176,4 @@ known-by (s ∷ q ∷ l) r x d f = items-known s q l r x d f
 
 pub known : (image : List ℕ) (x : Content) → readImage image ≡ some x → Known image x
 unfolding readImage
-known image x e = let (r, d, f) = then-some (readItems image) contentFrom e in known-by image r x d f
+known image x e = let (r, d, f) = then-some (readItems image) contentIn e in known-by image r x d f

@@ -14,10 +14,10 @@ use Rattle.content.specs.Content.{Point, Content}
 use Rattle.content.specs.ReadImage.{andThen, pointsIn, readSnippet, readFrames, readSequence, readImage}
 use Rattle.content.proofs.Codec.{some-inj, cond-some}
 use Rattle.items.specs.declared.FrameAt.{FrameAt}
-use Rattle.items.specs.Items.{element, frameTold}
+use Rattle.items.specs.Items.{element, frameAtTold}
 use Rattle.items.proofs.Placed.{elem-some, elem-none}
 use Rattle.readings.specs.InPlace.{present, itemAt, FrameOf}
-use Rattle.readings.specs.Readings.{countsWord, byteCode, Small, pointCode, pointIn, frameCode, frameIn}
+use Rattle.readings.specs.Readings.{countsWord, byteCode, Small, pointCode, pointAnswer, frameCode, frameAnswer}
 use Rattle.readings.proofs.Standing.{Known, known}
 
 false-true : {X : Type 0} → false ≡ true → X
@@ -51,11 +51,11 @@ module _ (image : List ℕ) where
   pub counts-none : present (readImage image) ≡ false → 18 ≡ countsWord (readImage image)
   counts-none t = ap countsWord (is-none (readImage image) t)
 
-  pub point-none : (i j : ℕ) → present (readImage image) ≡ false → 4608 ≡ pointIn (readImage image) i j
-  point-none i j t = ap (λ (o : Option Content). pointIn o i j) (is-none (readImage image) t)
+  pub point-none : (i j : ℕ) → present (readImage image) ≡ false → 4608 ≡ pointAnswer (readImage image) i j
+  point-none i j t = ap (λ (o : Option Content). pointAnswer o i j) (is-none (readImage image) t)
 
-  pub frame-none : (i j : ℕ) → present (readImage image) ≡ false → 5066549580791808 ≡ frameIn (readImage image) i j
-  frame-none i j t = ap (λ (o : Option Content). frameIn o i j) (is-none (readImage image) t)
+  pub frame-none : (i j : ℕ) → present (readImage image) ≡ false → 5066549580791808 ≡ frameAnswer (readImage image) i j
+  frame-none i j t = ap (λ (o : Option Content). frameAnswer o i j) (is-none (readImage image) t)
 
   module _ (t : present (readImage image) ≡ true) where
     -- what holds of any content that is known holds of what is read
@@ -71,15 +71,15 @@ module _ (image : List ℕ) where
         (λ c k. λ i. (e ∙ sym (k .snippets)) i * 256 + (f ∙ sym (k .sequences)) i)
 
     module _ (i j : ℕ) where
-      pub point-past : (s : ℕ) → s ≡ getD image 0 0 → s ≤ i → 256 ≡ pointIn (readImage image) i j
+      pub point-past : (s : ℕ) → s ≡ getD image 0 0 → s ≤ i → 256 ≡ pointAnswer (readImage image) i j
       point-past s e h =
-          of-content (λ (o : Option Content). 256 ≡ pointIn o i j)
+          of-content (λ (o : Option Content). 256 ≡ pointAnswer o i j)
           (λ c k. ap pointCode (no-element (c .snippets) i j (omega (arith, k .snippets))))
 
       pub point-there : (s r : ℕ) → s ≡ getD image 0 0 → i < s → r ≡ byteCode (getElem? (itemAt image i) j) → Small (getElem? (itemAt image i) j)
-          → r ≡ pointIn (readImage image) i j
+          → r ≡ pointAnswer (readImage image) i j
       point-there s r e h d w =
-          of-content (λ (o : Option Content). r ≡ pointIn o i j)
+          of-content (λ (o : Option Content). r ≡ pointAnswer o i j)
           (λ c k.
           let g : i < length (c .snippets) = omega (arith, k .snippets) in
           let p : readSnippet (itemAt image i) ≡ some (getD (c .snippets) i []) = sym (k .snippet i (omega arith)) ∙ elem-some (c .snippets) i [] g in
@@ -87,15 +87,15 @@ module _ (image : List ℕ) where
           ∙ ap (λ (l : List Point). pointCode (getElem? l j)) (snippet-points (itemAt image i) _ p)
           ∙ ap pointCode (sym (an-element (c .snippets) i j g)))
 
-      pub frame-past : (q : ℕ) → q ≡ getD image 1 0 → q ≤ i → 281474976710656 ≡ frameIn (readImage image) i j
+      pub frame-past : (q : ℕ) → q ≡ getD image 1 0 → q ≤ i → 281474976710656 ≡ frameAnswer (readImage image) i j
       frame-past q e h =
-          of-content (λ (o : Option Content). 281474976710656 ≡ frameIn o i j)
+          of-content (λ (o : Option Content). 281474976710656 ≡ frameAnswer o i j)
           (λ c k. ap frameCode (no-element (c .sequences) i j (omega (arith, k .sequences))))
 
       pub frame-there : (s q : ℕ) (r : FrameAt) → s ≡ getD image 0 0 → q ≡ getD image 1 0 → i < q → FrameOf image (s + i) j r
-          → frameCode (frameTold r) ≡ frameIn (readImage image) i j
+          → frameCode (frameAtTold r) ≡ frameAnswer (readImage image) i j
       frame-there s q r e f h w =
-          of-content (λ (o : Option Content). frameCode (frameTold r) ≡ frameIn o i j)
+          of-content (λ (o : Option Content). frameCode (frameAtTold r) ≡ frameAnswer o i j)
           (λ c k.
           let g : i < length (c .sequences) = omega (arith, k .sequences) in
           let v : FrameOf image (getD image 0 0 + i) j r = subst (λ (n : ℕ). FrameOf image (n + i) j r) e w in

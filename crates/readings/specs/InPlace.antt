@@ -11,7 +11,7 @@ use Rattle.frame.specs.declared.FrameBuilder.{FrameBuilder}
 use Rattle.content.specs.ReadImage.{readFrames, allZero}
 use Rattle.reader.specs.Walk.{item}
 use Rattle.items.specs.declared.FrameAt.{FrameAt}
-use Rattle.items.specs.Items.{frameTold}
+use Rattle.items.specs.Items.{frameAtTold}
 
 -- whether there is one
 abbrev pub present : {A : Type 0} → Option A → Bool
@@ -61,7 +61,7 @@ itemAt image k = item image (beforeItem image k) (getD image (2 + k) 0)
 
 -- the j-th frame, where the bytes are frames
 abbrev pub NthFrame : List ℕ → ℕ → FrameAt → Type 0
-NthFrame bs j r = (fs : List FrameBuilder) → readFrames 32 bs ≡ some fs → frameTold r ≡ getElem? fs j
+NthFrame bs j r = (fs : List FrameBuilder) → readFrames 32 bs ≡ some fs → frameAtTold r ≡ getElem? fs j
 
 -- the j-th frame of the k-th item, where that ends in the image
 abbrev pub FrameOf : List ℕ → ℕ → ℕ → FrameAt → Type 0

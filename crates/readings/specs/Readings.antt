@@ -33,9 +33,9 @@ pointCode none = 256
 pointCode (some p) = byteOf p
 
 -- 18 * 256 for what is no image
-abbrev pub pointIn : Option Content → ℕ → ℕ → ℕ
-pointIn none i j = 4608
-pointIn (some c) i j = pointCode (element (c .snippets) i j)
+abbrev pub pointAnswer : Option Content → ℕ → ℕ → ℕ
+pointAnswer none i j = 4608
+pointAnswer (some c) i j = pointCode (element (c .snippets) i j)
 
 -- a loop count, 255 if absent; a frequency, 65535 if absent
 abbrev pub loopByte : LoopCount → ℕ
@@ -61,6 +61,6 @@ frameCode none = 281474976710656
 frameCode (some f) = frameWord f
 
 -- 18 * 2 ^ 48 for what is no image
-abbrev pub frameIn : Option Content → ℕ → ℕ → ℕ
-frameIn none i j = 5066549580791808
-frameIn (some c) i j = frameCode (element (c .sequences) i j)
+abbrev pub frameAnswer : Option Content → ℕ → ℕ → ℕ
+frameAnswer none i j = 5066549580791808
+frameAnswer (some c) i j = frameCode (element (c .sequences) i j)

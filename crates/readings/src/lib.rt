@@ -6,9 +6,9 @@ ghost use mathlib.Core.Path.{_≡_};
 ghost use Prim.Native.Nat.{_≤_, _<_};
 ghost use lib.ListN.{length, drop, getD, getElem?};
 ghost use Rattle.content.specs.ReadImage.{readImage, readFrames, allZero};
-ghost use Rattle.items.specs.Items.{frameTold};
+ghost use Rattle.items.specs.Items.{frameAtTold};
 ghost use Rattle.readings.specs.InPlace.{present, itemFits, lastIn, indexTold, itemsFit, beforeItem, itemAt, NthFrame, FrameOf};
-ghost use Rattle.readings.specs.Readings.{countsWord, byteCode, Small, pointIn, loopByte, frequencyWord, frameWord, frameCode, frameIn};
+ghost use Rattle.readings.specs.Readings.{countsWord, byteCode, Small, pointAnswer, loopByte, frequencyWord, frameWord, frameCode, frameAnswer};
 use frame::FrameBuilder;
 use frame::FrameRead;
 use frame::Frequency;
@@ -29,7 +29,7 @@ pub fn counts(image: &[u8]) -> u16
 
 // The byte of the j-th point of the i-th snippet, or 256, or 18 * 256 for what is no image.
 pub fn point(image: &[u8], i: usize, j: usize) -> u16
-    ensures { λ r. ⌜ r ≡ pointIn (readImage (now (image .entry))) i j ⌝ }
+    ensures { λ r. ⌜ r ≡ pointAnswer (readImage (now (image .entry))) i j ⌝ }
 {
     if is_image(image) {
         let s = byte(image, 0);
@@ -43,7 +43,7 @@ pub fn point(image: &[u8], i: usize, j: usize) -> u16
 
 // The fields of the j-th frame of the i-th sequence, or 2 to the power of 48, or 18 times that for what is no image.
 pub fn frame(image: &[u8], i: usize, j: usize) -> u64
-    ensures { λ r. ⌜ r ≡ frameIn (readImage (now (image .entry))) i j ⌝ }
+    ensures { λ r. ⌜ r ≡ frameAnswer (readImage (now (image .entry))) i j ⌝ }
 {
     if is_image(image) {
         let s = byte(image, 0);
@@ -301,7 +301,7 @@ fn frame_word(f: FrameBuilder) -> u64
 }
 
 fn frame_code(f: FrameAt) -> u64
-    ensures { λ r. ⌜ r ≡ frameCode (frameTold f) ⌝ }
+    ensures { λ r. ⌜ r ≡ frameCode (frameAtTold f) ⌝ }
 {
     match f {
         FrameAt::Frame(x) => frame_word(x),

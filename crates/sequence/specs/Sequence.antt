@@ -6,7 +6,7 @@ use mathlib.Core.List.{List}
 use lib.Dec.{ltb, leb}
 use lib.ListN.{length, take, replicate}
 use Rattle.errors.specs.Number.{answerNumber}
-use Rattle.errors.specs.Told.{Step, accepted, refused, Built}
+use Rattle.errors.specs.Told.{Handed, accepted, refused, Built}
 use Rattle.laws.specs.Copied.{over}
 use Rattle.frame.specs.declared.Frame.{Frame}
 use Rattle.frame.specs.Frame.{frameBytes}
@@ -24,7 +24,7 @@ abbrev pub newSequence : SequenceBuilder
 newSequence = record { «data» = replicate 96 0; len = 0; «frame_count» = 0 }
 
 -- a frame more behind the others: 8 if the sequence would be more than 96 bytes, then 7 if it is a 33rd frame
-abbrev pub withFrame : SequenceBuilder → Frame → Step SequenceBuilder
+abbrev pub withFrame : SequenceBuilder → Frame → Handed SequenceBuilder
 withFrame b f =
     cond (ltb 96 (b .len + length (frameBytes f))) (refused 8 b)
     (cond (leb 32 (b .«frame_count»)) (refused 7 b)
@@ -35,7 +35,7 @@ withFrame b f =
       «frame_count» = b .«frame_count» + 1;
     })))
 
-abbrev pub addedTold : AddedFrame → Step SequenceBuilder
+abbrev pub addedTold : AddedFrame → Handed SequenceBuilder
 addedTold r = record { number = answerNumber (r .answer); builder = r .builder }
 
 -- what stands in the answer where no sequence was built

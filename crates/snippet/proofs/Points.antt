@@ -30,13 +30,13 @@ pub byte-admitted : (b : ℕ) → PointAdmitted (timebasesIn b) (amplitudeIn b)
 byte-admitted b = record { shortest = omega arith; longest = omega arith; strongest = omega arith }
 
 pub same-byte : (r : Bool) (t a : ℕ) (r′ : Bool) (t′ a′ : ℕ) → SamePoint r t a r′ t′ a′ → pointByte r t a ≡ pointByte r′ t′ a′
-same-byte r t a r′ t′ a′ s = λ i. pointByte (s .kind i) (s .length i) (s .strength i)
+same-byte r t a r′ t′ a′ s = λ i. pointByte (s .kind i) (s .lengths i) (s .strength i)
 
 pub same-point : (r : Bool) (t a : ℕ) (r′ : Bool) (t′ a′ : ℕ) → PointAdmitted t a → PointAdmitted t′ a′
     → pointByte r t a ≡ pointByte r′ t′ a′ → SamePoint r t a r′ t′ a′
 same-point r t a r′ t′ a′ h h′ e =
     record {
       kind = sym (ramp-back t a h r) ∙ ap rampIn e ∙ ramp-back t′ a′ h′ r′;
-      length = sym (timebases-back t a h r) ∙ ap timebasesIn e ∙ timebases-back t′ a′ h′ r′;
+      lengths = sym (timebases-back t a h r) ∙ ap timebasesIn e ∙ timebases-back t′ a′ h′ r′;
       strength = sym (amplitude-back t a h r) ∙ ap amplitudeIn e ∙ amplitude-back t′ a′ h′ r′;
     }

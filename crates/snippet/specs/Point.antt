@@ -44,5 +44,5 @@ pub record PointAdmitted (timebases amplitude : ℕ) : Type 0 where
 -- "Points are the same when kind, length and amplitude are"
 pub record SamePoint (ramp : Bool) (timebases amplitude : ℕ) (ramp′ : Bool) (timebases′ amplitude′ : ℕ) : Type 0 where
   pub kind : ramp ≡ ramp′
-  pub length : timebases ≡ timebases′
+  pub lengths : timebases ≡ timebases′
   pub strength : amplitude ≡ amplitude′

@@ -6,7 +6,7 @@ use mathlib.Core.List.{List, map}
 use lib.Dec.{ltb, leb}
 use lib.ListN.{take, set, replicate}
 use Rattle.errors.specs.Number.{answerNumber}
-use Rattle.errors.specs.Told.{Told, gives, refuses, Step, accepted, refused, Built}
+use Rattle.errors.specs.Told.{Told, gives, refuses, Handed, accepted, refused, Built}
 use Rattle.snippet.specs.declared.PwlPoint.{PwlPoint}
 use Rattle.snippet.specs.declared.Snippet.{Snippet}
 use Rattle.snippet.specs.declared.SnippetBuilder.{SnippetBuilder}
@@ -17,29 +17,29 @@ use Rattle.snippet.specs.declared.BuiltSnippet.{BuiltSnippet}
 abbrev pub pointOf : ℕ → PwlPoint
 pointOf b = record { byte = b }
 
-abbrev pub byteOf : PwlPoint → ℕ
-byteOf p = p .byte
+abbrev pub pwlByte : PwlPoint → ℕ
+pwlByte p = p .byte
 
 -- the bytes of a snippet's points, in order
 abbrev pub snippetBytes : Snippet → List ℕ
-snippetBytes s = take (s .len) (map byteOf (s .points))
+snippetBytes s = take (s .len) (map pwlByte (s .points))
 
 -- a builder that holds nothing
 abbrev pub newSnippet : SnippetBuilder
 newSnippet = record { points = replicate 16 (pointOf 0); len = 0 }
 
 -- a point more behind the others, or 6 for a 17th
-abbrev pub withPoint : SnippetBuilder → PwlPoint → Step SnippetBuilder
+abbrev pub withPoint : SnippetBuilder → PwlPoint → Handed SnippetBuilder
 withPoint b p =
     cond (leb 16 (b .len)) (refused 6 b)
     (accepted (record { points = set (b .points) (b .len) p; len = b .len + 1 }))
 
 -- a point that was asked for by its fields: its own refusal comes first
-abbrev pub withMade : SnippetBuilder → Told ℕ → Step SnippetBuilder
+abbrev pub withMade : SnippetBuilder → Told ℕ → Handed SnippetBuilder
 withMade b (gives byte) = withPoint b (pointOf byte)
 withMade b (refuses n) = refused n b
 
-abbrev pub addedTold : AddedPoint → Step SnippetBuilder
+abbrev pub addedTold : AddedPoint → Handed SnippetBuilder
 addedTold r = record { number = answerNumber (r .answer); builder = r .builder }
 
 -- what stands in the answer where no snippet was built

@@ -9,7 +9,7 @@ ghost use mathlib.Core.List.{map};
 ghost use lib.ListN.{length};
 ghost use Rattle.laws.specs.Copied.{copied};
 ghost use Rattle.snippet.specs.Point.{point, pointTold, rampIn, timebasesIn, amplitudeIn};
-ghost use Rattle.snippet.specs.Snippet.{pointOf, byteOf, snippetBytes, newSnippet, noSnippet, withPoint, withMade, addedTold, builtSnippet, builtTold};
+ghost use Rattle.snippet.specs.Snippet.{pointOf, pwlByte, snippetBytes, newSnippet, noSnippet, withPoint, withMade, addedTold, builtSnippet, builtTold};
 use errors::Answer;
 use errors::Error;
 
@@ -85,25 +85,25 @@ impl PwlPoint {
     }
 
     pub fn as_byte(self) -> u8
-        ensures { λ r. ⌜ r ≡ byteOf self ⌝ }
+        ensures { λ r. ⌜ r ≡ pwlByte self ⌝ }
     {
         self.byte
     }
 
     pub fn is_ramp(self) -> bool
-        ensures { λ r. ⌜ r ≡ rampIn (byteOf self) ⌝ }
+        ensures { λ r. ⌜ r ≡ rampIn (pwlByte self) ⌝ }
     {
         (self.byte & 0x80) != 0
     }
 
     pub fn timebases(self) -> u8
-        ensures { λ r. ⌜ r ≡ timebasesIn (byteOf self) ⌝ }
+        ensures { λ r. ⌜ r ≡ timebasesIn (pwlByte self) ⌝ }
     {
         ((self.byte >> 4) & 0x07) + 1
     }
 
     pub fn amplitude(self) -> u8
-        ensures { λ r. ⌜ r ≡ amplitudeIn (byteOf self) ⌝ }
+        ensures { λ r. ⌜ r ≡ amplitudeIn (pwlByte self) ⌝ }
     {
         self.byte & 0x0F
     }
@@ -125,7 +125,7 @@ impl Snippet {
 
     // The bytes of all sixteen points.
     pub fn bytes(self) -> [u8; MAX_POINTS_PER_SNIPPET]
-        ensures { λ r. ⌜ r ≡ map byteOf (self .points) ⌝ }
+        ensures { λ r. ⌜ r ≡ map pwlByte (self .points) ⌝ }
     {
         let mut out = [0u8; MAX_POINTS_PER_SNIPPET];
         let mut i = 0usize;

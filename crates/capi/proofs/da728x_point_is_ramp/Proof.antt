@@ -1,6 +1,6 @@
 -- By what the point answers. Assumes nothing.
 use mathlib.Core.Path.{_≡_, ap, sym, _∙_}
-use Rattle.snippet.specs.Snippet.{byteOf}
+use Rattle.snippet.specs.Snippet.{pwlByte}
 use Rattle.snippet.specs.declared.PwlPoint.{PwlPoint}
 use Rattle.snippet.specs.Point.{rampIn}
 use mathlib.Core.Bool.{Bool, true, false}
@@ -17,7 +17,7 @@ bytes-same true = refl
 bytes-same false = refl
 
 returns : tie.Need-returns
-returns c = bytes-same (c .is-ramp .result) ∙ ap codeOf (c .is-ramp .ensures ∙ ap (λ (p : PwlPoint). rampIn (byteOf p)) (c .before .from-byte .ensures))
+returns c = bytes-same (c .is-ramp .result) ∙ ap codeOf (c .is-ramp .ensures ∙ ap (λ (p : PwlPoint). rampIn (pwlByte p)) (c .before .from-byte .ensures))
 
 pub da728x-point-is-ramp-spec : {M : Type 1} → statement M
 da728x-point-is-ramp-spec =

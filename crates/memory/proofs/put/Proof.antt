@@ -9,7 +9,7 @@ use lib.ListN.{length, set, length-set}
 use borrow.Rule.Slice.PartMut.{midOf, putMid}
 use Rattle.laws.specs.Copied.{copied}
 use Rattle.laws.proofs.Copies.{put-over}
-use Rattle.memory.specs.Laid.{withItem}
+use Rattle.memory.specs.Laid.{withLaid}
 use Rattle.memory.proofs.Turns.{length-with}
 use Rattle.memory.proofs.put.Statement.{statement}
 use Rattle.memory.proofs.put.Tie as tie
@@ -21,7 +21,7 @@ pointed image bytes pointer at = set image pointer (at + length bytes - 1)
 -- what was copied into the part from `at` on, put back
 put-back : (image bytes last : List ℕ) (pointer at : ℕ) → length image ≡ 100 → at + length bytes ≤ 100
     → last ≡ copied (midOf at (length (pointed image bytes pointer at) - at) (pointed image bytes pointer at)) bytes
-    → putMid at (length (pointed image bytes pointer at) - at) (pointed image bytes pointer at) last ≡ withItem image pointer at bytes
+    → putMid at (length (pointed image bytes pointer at) - at) (pointed image bytes pointer at) last ≡ withLaid image pointer at bytes
 put-back image bytes last pointer at e h f =
     let d = pointed image bytes pointer at in
     let g : length d ≡ 100 = length-set image pointer (at + length bytes - 1) ∙ e in

@@ -9,7 +9,7 @@ use denote.Ref.{now}
 use lib.ListN.{length, take, getD}
 use Rattle.laws.proofs.Lists.{shown-fits, shown-length, shown-part}
 use Rattle.snippet.specs.declared.Snippet.{Snippet}
-use Rattle.snippet.specs.Snippet.{byteOf, snippetBytes}
+use Rattle.snippet.specs.Snippet.{pwlByte, snippetBytes}
 use Rattle.memory.proofs.Turns.{Putting, putting-none, putting-before, putting-fits, putting-more, putting-all}
 use Rattle.memory.proofs.put_snippets.Statement.{statement}
 use Rattle.memory.proofs.put_snippets.Tie as tie
@@ -30,8 +30,8 @@ nothing = record { points = []; len = 0 }
 abbrev at : List Snippet → ℕ → Snippet
 at l i = getD l i nothing
 
-shown : (s : Snippet) {n : ℕ} {bytes : List ℕ} → n ≡ length (snippetBytes s) → bytes ≡ map byteOf (s .points) → take n bytes ≡ snippetBytes s
-shown s {n} e f = ap (take n) f ∙ shown-part (map byteOf (s .points)) (s .len) n e
+shown : (s : Snippet) {n : ℕ} {bytes : List ℕ} → n ≡ length (snippetBytes s) → bytes ≡ map pwlByte (s .points) → take n bytes ≡ snippetBytes s
+shown s {n} e f = ap (take n) f ∙ shown-part (map pwlByte (s .points)) (s .len) n e
 
 loop-holds : tie.Need-loop-holds Inv-loop μ-loop
 loop-holds c =
@@ -42,13 +42,13 @@ array-share-prefix-bytes : tie.Need-array-share-prefix-bytes Inv-loop μ-loop
 array-share-prefix-bytes c =
     let s = at (c .before .before .before .before .before .before .before .args .t2) (c .before .before .before .before .before .loop .i) in
     let n = c .before .byte-len in
-    rw (c .before .before .bytes .ensures) (shown-fits (map byteOf (s .points)) (s .len) (n .result) (n .ensures))
+    rw (c .before .before .bytes .ensures) (shown-fits (map pwlByte (s .points)) (s .len) (n .result) (n .ensures))
 
 slice-aggregate-put : tie.Need-slice-aggregate-put Inv-loop μ-loop
 slice-aggregate-put c =
     let s = at (c .before .before .before .before .before .before .before .before .args .t2) (c .before .before .before .before .before .before .loop .i) in
     let n = c .before .before .byte-len in
-    rw (c .before .before .before .bytes .ensures) (shown-length (map byteOf (s .points)) (s .len) (n .result) (n .ensures))
+    rw (c .before .before .before .bytes .ensures) (shown-length (map pwlByte (s .points)) (s .len) (n .result) (n .ensures))
 
 put-requires : tie.Need-put-requires Inv-loop μ-loop
 put-requires c κs =

@@ -10,7 +10,7 @@ use lib.ListN.{length, take}
 use Rattle.laws.proofs.Lists.{shown-fits, shown-length, shown-part}
 use Rattle.laws.specs.Copied.{copied}
 use Rattle.laws.proofs.Copies.{put-over}
-use Rattle.errors.specs.Told.{Step, accepted}
+use Rattle.errors.specs.Told.{Handed, accepted}
 use Rattle.sequence.specs.declared.SequenceBuilder.{SequenceBuilder}
 use borrow.Rule.Slice.PartMut.{midOf}
 use Rattle.frame.specs.Frame.{frameBytes}

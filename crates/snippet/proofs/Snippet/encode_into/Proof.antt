@@ -7,7 +7,7 @@ use denote.Ref.{now}
 use lib.ListN.{length, take}
 use Rattle.laws.specs.Copied.{copied}
 use Rattle.laws.proofs.Lists.{shown-fits, shown-length, shown-part}
-use Rattle.snippet.specs.Snippet.{byteOf}
+use Rattle.snippet.specs.Snippet.{pwlByte}
 use Rattle.snippet.proofs.Snippet.encode_into.Statement.{statement}
 use Rattle.snippet.proofs.Snippet.encode_into.Tie as tie
 
@@ -15,13 +15,13 @@ prefix : tie.Need-array-share-prefix-bytes
 prefix c =
     let s = c .before .before .before .before .args .self in
     let n = c .before .byte-len in
-    rw (c .before .before .bytes .ensures) (shown-fits (map byteOf (s .points)) (s .len) (n .result) (n .ensures))
+    rw (c .before .before .bytes .ensures) (shown-fits (map pwlByte (s .points)) (s .len) (n .result) (n .ensures))
 
 aggregate : tie.Need-slice-aggregate-copy-into
 aggregate c =
     let s = c .before .before .before .before .before .args .self in
     let n = c .before .before .byte-len in
-    rw (c .before .before .before .bytes .ensures) (shown-length (map byteOf (s .points)) (s .len) (n .result) (n .ensures))
+    rw (c .before .before .before .bytes .ensures) (shown-length (map pwlByte (s .points)) (s .len) (n .result) (n .ensures))
 
 returns : tie.Need-returns
 returns c =
@@ -31,7 +31,7 @@ returns c =
       n .ensures,
       c .before .before .copy-into .ensures .1
           ∙ ap (λ (l : List ℕ). copied (now (a .buffer)) (take (n .result) l)) (bytes .ensures)
-          ∙ ap (copied (now (a .buffer))) (shown-part (map byteOf (a .self .points)) (a .self .len) (n .result) (n .ensures)),
+          ∙ ap (copied (now (a .buffer))) (shown-part (map pwlByte (a .self .points)) (a .self .len) (n .result) (n .ensures)),
     )
 
 pub encode-into-spec : {M : Type 1} → statement M
