@@ -28,7 +28,7 @@ points-equal p q s = λ i. record { ramp = s .kind i; timebases = s .lengths i; 
 
 equal-points : (p q : Point) → p ≡ q → PointsSame p q
 equal-points p q e =
-    record { kind = ap (λ (r : Point). r .ramp) e; length = ap (λ (r : Point). r .timebases) e; strength = ap (λ (r : Point). r .amplitude) e }
+    record { kind = ap (λ (r : Point). r .ramp) e; lengths = ap (λ (r : Point). r .timebases) e; strength = ap (λ (r : Point). r .amplitude) e }
 
 -- a content as it is read back
 unfoldable pub canonical : Content → Content
