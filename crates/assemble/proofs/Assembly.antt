@@ -1,160 +1,190 @@
--- What a flat list of calls assembles is what its grouped calls build, so demand 3 speaks of it.
+-- What the code runs call by call answers and leaves what the calls, told apart by their builders, do: one call, then a list.
 -- Assumes nothing.
 use mathlib.Core.Path.{_≡_, refl, sym, ap, ap₂, _∙_, subst}
 use mathlib.Core.Bool.{Bool, true, false, cond}
 use mathlib.Core.List.{List, [], _∷_, _++_}
-use Prim.Native.Nat.{ℕ, zero, suc, _%_, _<_, _≤_}
-use lib.Dec.{eqb}
+use Prim.Native.Nat.{ℕ, zero, suc, _<_}
+use lib.Dec.{ltb}
 use lib.ListN.{getD}
-use native.Mathlib.Decide.{decLe}
-use native.Mathlib.Omega.{arith}
 use native.Mathlib.Nat.{mod-eq-of-lt}
-use borrow.Author.Tests.{lt-ltb, le-ltb}
 use Rattle.laws.specs.Bytes.{All, Bytes}
-use Rattle.errors.specs.Told.{Told, gives, refuses, Handed, accepted}
+use Rattle.errors.specs.Told.{Told, gives, refuses, Handed}
 use Rattle.snippet.specs.declared.SnippetBuilder.{SnippetBuilder}
-use Rattle.snippet.specs.Snippet.{pointOf, newSnippet, withPoint, builtSnippet}
+use Rattle.snippet.specs.Snippet.{pointOf, newSnippet, withPoint}
 use Rattle.frame.specs.declared.FrameBuilder.{FrameBuilder}
-use Rattle.frame.specs.Builder.{plainFrame, silentFrame, newFrame}
+use Rattle.frame.specs.Builder.{plainFrame, newFrame}
 use Rattle.frame.specs.Frame.{builtFrame}
 use Rattle.sequence.specs.declared.SequenceBuilder.{SequenceBuilder}
-use Rattle.sequence.specs.Sequence.{newSequence, withFrame, builtSequence}
+use Rattle.sequence.specs.Sequence.{newSequence, withFrame}
+use Rattle.calls.specs.declared.FieldCall.{FieldCall}
+use Rattle.calls.specs.declared.FieldCall.the-variants as Field
+use Rattle.calls.specs.declared.BuilderCall.{BuilderCall}
+use Rattle.calls.specs.declared.BuilderCall.the-variants as Builder
 use Rattle.calls.specs.declared.Call.{Call}
 use Rattle.calls.specs.declared.Call.the-variants as Call
+use Rattle.calls.specs.declared.UnderWay.{UnderWay}
+use Rattle.calls.specs.declared.UnderWay.the-variants as UnderWay
 use Rattle.calls.specs.declared.Builders.{Builders}
-use Rattle.calls.specs.Calls as calls
-use Rattle.calls.specs.Calls.{callAt, codes}
-use Rattle.frame.specs.Read.{gainAt, timebaseAt}
+use Rattle.calls.specs.Calls.{callsByCode, callAt, callsIn, onFrame, begins, withField, sets, adds}
 use Rattle.memory.specs.declared.WaveformMemoryBuilder.{WaveformMemoryBuilder}
-use Rattle.memory.specs.Memory.{newMemory, builtMemory}
-use Rattle.pattern.specs.Calls.{ran, SnippetCall, snippetStep, addedPoint, snippetFrom, FrameCall, frameStep, Begin, new, silence, begunBy, FrameCalls, frameRan, frameFrom, withMadeFrame, sequenceStep, sequenceFrom, MemoryCall, memoryStep, addedItem, memoryFrom, builtFrom, withBuiltSnippet, withBuiltSequence}
-use Rattle.pattern.specs.Calls as pattern
-use Rattle.assemble.specs.Assembled.{PatternCall, small, addSnippet, addSequence, State, called, after, patternCallAt, patternCallsIn, first, assembled}
-use Rattle.assemble.specs.Grouped.{Groups, grouped, groupedAll, noGroups, begunAnew, memoryCalls}
+use Rattle.memory.specs.Memory.{newMemory}
+use Rattle.pattern.specs.Calls.{ran, answersTo, SnippetCall, ramp, step, point, snippetStep, addedPoint, snippetFrom, FrameCall, frameStep, Begin, new, silence, begunBy, FrameCalls, frameRan, frameFrom, answerOn, withMadeFrame, sequenceStep, sequenceFrom, MemoryCall, addSnippet, addSequence, memoryStep, addedItem, memoryFrom}
+use Rattle.pattern.proofs.Runs.{ran-append}
+use Rattle.assemble.specs.Lists.{Groups, noFrame, noGroups, toSnippet, begunNumber, leftBy, fieldOf, grouped, underWay, groupsOf, answersOf, buildersOf}
+use Rattle.assemble.specs.Flat.{State, state, flatCalled, nothingYet, flatAfter, flatAnswers}
 
--- one call more
-ran-more : {B K X : Type 0} (step : B → K → Handed B) (adds : K → X) (b : B) (ks : List K) (k : K) → ran step adds b (ks ++ (k ∷ [])) ≡ step (ran step adds b ks) k .builder
-ran-more step adds b [] k = refl
-ran-more step adds b (j ∷ ks) k = ran-more step adds (step b j .builder) ks k
+-- the builders that the calls of each make
+abbrev frameIn : FrameCalls → UnderWay
+frameIn m = underWay (m .calls) (begunBy (m .begin))
 
--- the frame under construction: what was begun, and then called
-pub record FrameSame (f : FrameBuilder) (m : FrameCalls) : Type 0 where
-  pub start : FrameBuilder
-  pub begins : begunBy (m .begin) ≡ gives start
-  pub runs : f ≡ frameRan start (m .calls)
+abbrev mirror : Groups → State
+mirror g =
+    state
+    (record { snippet = snippetFrom (g .snippet); frame = frameIn (g .frame); sequence = sequenceFrom (g .sequence) })
+    (memoryFrom false (g .memory))
 
-pub record Mirrors (s : State) (g : Groups) : Type 0 where
-  pub snippet : s .builders .snippet ≡ snippetFrom (g .snippet)
-  pub frame : FrameSame (s .builders .frame) (g .frame)
-  pub sequence : s .builders .sequence ≡ sequenceFrom (g .sequence)
-  pub memory : s .memory ≡ memoryFrom false (g .memory)
+abbrev mirrored : Handed Groups → Handed State
+mirrored r = record { number = r .number; builder = mirror (r .builder) }
+
+-- a `new` is refused with 3 only
+abbrev Three : Told FrameBuilder → Type 0
+Three (gives f) = Unit
+Three (refuses n) = n ≡ 3
+
+three : (b : Begin) → Three (begunBy b)
+three silence = tt
+three (new k) = go (ltb k 1) (ltb 15 k) where
+  go : (t u : Bool) → Three (cond t (refuses 3) (cond u (refuses 3) (gives (plainFrame k))))
+  go true u = refl
+  go false true = refl
+  go false false = tt
 
 -- a point's byte is a byte
-abbrev SmallFits : Call → Type 0
-SmallFits Call.SnippetNew = Unit
-SmallFits (Call.Ramp t a) = Unit
-SmallFits (Call.Step t a) = Unit
-SmallFits (Call.Point b) = b < 256
-SmallFits (Call.FrameNew n) = Unit
-SmallFits Call.Silence = Unit
-SmallFits (Call.Gain c) = Unit
-SmallFits (Call.Timebase c) = Unit
-SmallFits (Call.LoopCount k) = Unit
-SmallFits (Call.FrequencyHz f) = Unit
-SmallFits Call.SequenceNew = Unit
-SmallFits Call.AddFrame = Unit
-SmallFits Call.Nothing = Unit
-
-abbrev Fits : PatternCall → Type 0
-Fits (small k) = SmallFits k
-Fits addSnippet = Unit
-Fits addSequence = Unit
+abbrev Fits : Call → Type 0
+Fits (Call.Builder (Builder.Point b)) = b < 256
+Fits (Call.Builder Builder.SnippetNew) = Unit
+Fits (Call.Builder (Builder.Ramp t a)) = Unit
+Fits (Call.Builder (Builder.Step t a)) = Unit
+Fits (Call.Builder (Builder.FrameNew n)) = Unit
+Fits (Call.Builder Builder.Silence) = Unit
+Fits (Call.Builder (Builder.Set k)) = Unit
+Fits (Call.Builder Builder.SequenceNew) = Unit
+Fits (Call.Builder Builder.AddFrame) = Unit
+Fits Call.AddSnippet = Unit
+Fits Call.AddSequence = Unit
+Fits Call.Unknown = Unit
 
 -- ---- one call
 
-module _ (s : State) (g : Groups) (m : Mirrors s g) where
-  abbrev Next : PatternCall → Type 0
-  Next k = Mirrors (called s k .builder) (grouped g k)
+field-same : (f : FrameBuilder) (k : FieldCall) → withField f k ≡ frameStep f (fieldOf k)
+field-same f (Field.Gain c) = refl
+field-same f (Field.Timebase c) = refl
+field-same f (Field.LoopCount c) = refl
+field-same f (Field.FrequencyHz c) = refl
+
+module _ (g : Groups) where
+  abbrev b : Builders
+  b = mirror g .builders
+
+  abbrev withSnippet : SnippetBuilder → Builders
+  withSnippet s = record { snippet = s; frame = b .frame; sequence = b .sequence }
 
   -- a call on the snippet
-  on-snippet : (b : SnippetBuilder) (ks : List SnippetCall) → b ≡ snippetFrom ks
-      → Mirrors (record { builders = record { snippet = b; frame = s .builders .frame; sequence = s .builders .sequence }; memory = s .memory })
-      (record { snippet = ks; frame = g .frame; sequence = g .sequence; memory = g .memory })
-  on-snippet b ks e = record { snippet = e; frame = m .frame; sequence = m .sequence; memory = m .memory }
+  snippet-call : (k : SnippetCall) (r : Handed SnippetBuilder) → r ≡ snippetStep (b .snippet) k
+      → _≡_ {A = Handed State} (record { number = r .number; builder = state (withSnippet (r .builder)) (mirror g .memory) }) (mirrored (toSnippet g k))
+  snippet-call k r e =
+      ap (λ (x : Handed SnippetBuilder). record { number = x .number; builder = state (withSnippet (x .builder)) (mirror g .memory) }) e
+      ∙ ap (λ (x : SnippetBuilder). record { number = snippetStep (b .snippet) k .number; builder = state (withSnippet x) (mirror g .memory) })
+      (ran-append snippetStep addedPoint newSnippet (g .snippet) (k ∷ []))
 
-  snippet-call : (k : SnippetCall) (b : SnippetBuilder) → b ≡ snippetStep (s .builders .snippet) k .builder → b ≡ snippetFrom (g .snippet ++ (k ∷ []))
-  snippet-call k b e =
-      e ∙ ap (λ (x : SnippetBuilder). snippetStep x k .builder) (m .snippet) ∙ sym (ran-more snippetStep addedPoint newSnippet (g .snippet) k)
+  abbrev withFrameAs : ℕ → UnderWay → Handed State
+  withFrameAs n f = record { number = n; builder = state (onFrame b n f .builder) (mirror g .memory) }
+
+  -- a frame begun
+  begin-call : (t : Told FrameBuilder) → begins b t ≡ onFrame b (begunNumber t) (underWay [] t)
+  begin-call (gives f) = refl
+  begin-call (refuses n) = refl
 
   -- a call on the frame
-  on-frame : (f : FrameBuilder) (c : FrameCalls) → FrameSame f c
-      → Mirrors (record { builders = record { snippet = s .builders .snippet; frame = f; sequence = s .builders .sequence }; memory = s .memory })
-      (record { snippet = g .snippet; frame = c; sequence = g .sequence; memory = g .memory })
-  on-frame f c e = record { snippet = m .snippet; frame = e; sequence = m .sequence; memory = m .memory }
+  set-call : (k : FieldCall) (ks : List FrameCall) (t : Told FrameBuilder) → Three t → b .frame ≡ underWay ks t
+      → sets b k (underWay ks t) ≡ onFrame b (answerOn t ks (fieldOf k)) (underWay (ks ++ (fieldOf k ∷ [])) t)
+  set-call k ks (gives f) h e =
+      ap (λ (x : Handed FrameBuilder). onFrame b (x .number) (UnderWay.Begun (x .builder))) (field-same (frameRan f ks) k)
+      ∙ ap (λ (x : FrameBuilder). onFrame b (frameStep (frameRan f ks) (fieldOf k) .number) (UnderWay.Begun x)) (ran-append frameStep (λ (j : FrameCall). j) f ks (fieldOf k ∷ []))
+  set-call k ks (refuses n) h e = ap₂ (onFrame b) (sym h) e
 
-  frame-call : (k : FrameCall) → FrameSame (frameStep (s .builders .frame) k .builder) (record { begin = g .frame .begin; calls = g .frame .calls ++ (k ∷ []) })
-  frame-call k =
-      record {
-        start = m .frame .start;
-        begins = m .frame .begins;
-        runs = ap (λ (x : FrameBuilder). frameStep x k .builder) (m .frame .runs) ∙ sym (ran-more frameStep (λ j. j) (m .frame .start) (g .frame .calls) k);
-      }
+  -- the frame added
+  abbrev added : Handed SequenceBuilder → UnderWay → Handed Builders
+  added r f = record { number = r .number; builder = record { snippet = b .snippet; frame = f; sequence = r .builder } }
 
-  begun-anew : (n : ℕ) (t : Told FrameBuilder) → newFrame n ≡ t
-      → Mirrors (record { builders = calls.begun (s .builders) t .builder; memory = s .memory }) (begunAnew g n t)
-  begun-anew n (gives f) e = on-frame f (record { begin = new n; calls = [] }) (record { start = f; begins = e; runs = refl })
-  begun-anew n (refuses x) e = m
+  frame-left : (t : Bool) → cond t (frameIn (g .frame)) UnderWay.NotBegun ≡ frameIn (cond t (g .frame) noFrame)
+  frame-left true = refl
+  frame-left false = refl
 
-  -- a call on the sequence
-  on-sequence : (b : SequenceBuilder) (ms : List FrameCalls) → b ≡ sequenceFrom ms
-      → Mirrors (record { builders = record { snippet = s .builders .snippet; frame = s .builders .frame; sequence = b }; memory = s .memory })
-      (record { snippet = g .snippet; frame = g .frame; sequence = ms; memory = g .memory })
-  on-sequence b ms e = record { snippet = m .snippet; frame = m .frame; sequence = e; memory = m .memory }
+  add-call : (t : Told FrameBuilder) → Three t → b .frame ≡ underWay (g .frame .calls) t
+      → adds b (underWay (g .frame .calls) t)
+      ≡ added (withMadeFrame (b .sequence) (g .frame .calls) t) (frameIn (leftBy (withMadeFrame (b .sequence) (g .frame .calls) t .number) noFrame (g .frame)))
+  add-call (gives f) h e =
+      let r = withFrame (b .sequence) (builtFrame (frameRan f (g .frame .calls))) in
+      ap (added r) (frame-left (ltb 0 (r .number)))
+  add-call (refuses n) h e = ap (λ (j : ℕ). added (record { number = j; builder = b .sequence }) (frameIn (leftBy j noFrame (g .frame)))) (sym h)
 
-  frame-added : withFrame (s .builders .sequence) (builtFrame (s .builders .frame)) .builder ≡ sequenceFrom (g .sequence ++ (g .frame ∷ []))
-  frame-added =
-      ap₂ (λ (b : SequenceBuilder) (f : FrameBuilder). withFrame b (builtFrame f) .builder) (m .sequence) (m .frame .runs)
-      ∙ ap (λ (t : Told FrameBuilder). withMadeFrame (sequenceFrom (g .sequence)) (g .frame .calls) t .builder) (sym (m .frame .begins))
-      ∙ sym (ran-more sequenceStep frameFrom newSequence (g .sequence) (g .frame))
+  snippet-left : (t : Bool) → cond t (snippetFrom (g .snippet)) newSnippet ≡ snippetFrom (cond t (g .snippet) [])
+  snippet-left true = refl
+  snippet-left false = refl
 
-  -- a call on the memory
-  on-memory : (b : WaveformMemoryBuilder) (k : MemoryCall) → b ≡ memoryStep (s .memory) k .builder
-      → Mirrors (record { builders = s .builders; memory = b }) (record { snippet = g .snippet; frame = g .frame; sequence = g .sequence; memory = g .memory ++ (k ∷ []) })
-  on-memory b k e =
-      record {
-        snippet = m .snippet;
-        frame = m .frame;
-        sequence = m .sequence;
-        memory = e ∙ ap (λ (x : WaveformMemoryBuilder). memoryStep x k .builder) (m .memory) ∙ sym (ran-more memoryStep addedItem (newMemory false) (g .memory) k);
-      }
+  sequence-left : (t : Bool) → cond t (sequenceFrom (g .sequence)) newSequence ≡ sequenceFrom (cond t (g .sequence) [])
+  sequence-left true = refl
+  sequence-left false = refl
 
-  next : (k : PatternCall) → Fits k → Next k
-  next (small Call.SnippetNew) h = on-snippet newSnippet [] refl
-  next (small (Call.Ramp t a)) h = on-snippet _ _ (snippet-call (pattern.ramp t a) _ refl)
-  next (small (Call.Step t a)) h = on-snippet _ _ (snippet-call (pattern.step t a) _ refl)
-  next (small (Call.Point b)) h =
-      on-snippet _ _ (snippet-call (pattern.point b) _ (ap (λ (x : ℕ). withPoint (s .builders .snippet) (pointOf x) .builder) (sym (mod-eq-of-lt h))))
-  next (small (Call.FrameNew n)) h = begun-anew n (newFrame n) refl
-  next (small Call.Silence) h = on-frame silentFrame (record { begin = silence; calls = [] }) (record { start = silentFrame; begins = refl; runs = refl })
-  next (small (Call.Gain c)) h = on-frame _ _ (frame-call (pattern.gain (gainAt c)))
-  next (small (Call.Timebase c)) h = on-frame _ _ (frame-call (pattern.timebase (timebaseAt c)))
-  next (small (Call.LoopCount k)) h = on-frame _ _ (frame-call (pattern.loopCount k))
-  next (small (Call.FrequencyHz f)) h = on-frame _ _ (frame-call (pattern.frequencyHz f))
-  next (small Call.SequenceNew) h = on-sequence newSequence [] refl
-  next (small Call.AddFrame) h = on-sequence _ _ frame-added
-  next (small Call.Nothing) h = m
-  next addSnippet h = on-memory _ (pattern.addSnippet (g .snippet)) (ap (λ (b : SnippetBuilder). withBuiltSnippet (s .memory) (builtSnippet b) .builder) (m .snippet))
-  next addSequence h = on-memory _ (pattern.addSequence (g .sequence)) (ap (λ (b : SequenceBuilder). withBuiltSequence (s .memory) (builtSequence b) .builder) (m .sequence))
+  memory-more : (k : MemoryCall) → memoryStep (mirror g .memory) k .builder ≡ memoryFrom false (g .memory ++ (k ∷ []))
+  memory-more k = ran-append memoryStep addedItem (newMemory false) (g .memory) (k ∷ [])
+
+  one-call : (k : Call) → Fits k → flatCalled (mirror g) k ≡ mirrored (grouped g k)
+  one-call (Call.Builder Builder.SnippetNew) h = refl
+  one-call (Call.Builder (Builder.Ramp t a)) h = snippet-call (ramp t a) _ refl
+  one-call (Call.Builder (Builder.Step t a)) h = snippet-call (step t a) _ refl
+  one-call (Call.Builder (Builder.Point x)) h = snippet-call (point x) _ (ap (λ (y : ℕ). withPoint (b .snippet) (pointOf y)) (sym (mod-eq-of-lt h)))
+  one-call (Call.Builder (Builder.FrameNew n)) h =
+      ap (λ (r : Handed Builders). record { number = r .number; builder = state (r .builder) (mirror g .memory) }) (begin-call (newFrame n))
+  one-call (Call.Builder Builder.Silence) h = refl
+  one-call (Call.Builder (Builder.Set k)) h =
+      ap (λ (r : Handed Builders). record { number = r .number; builder = state (r .builder) (mirror g .memory) })
+      (set-call k (g .frame .calls) (begunBy (g .frame .begin)) (three (g .frame .begin)) refl)
+  one-call (Call.Builder Builder.SequenceNew) h = refl
+  one-call (Call.Builder Builder.AddFrame) h =
+      ap (λ (r : Handed Builders). record { number = r .number; builder = state (r .builder) (mirror g .memory) }) (add-call (begunBy (g .frame .begin)) (three (g .frame .begin)) refl)
+      ∙ ap (λ (q : SequenceBuilder). mirrored-with q) (ran-append sequenceStep frameFrom newSequence (g .sequence) (g .frame ∷ [])) where
+        mirrored-with : SequenceBuilder → Handed State
+        mirrored-with q =
+            let r = grouped g (Call.Builder Builder.AddFrame) in
+            record { number = r .number; builder = state (record { snippet = b .snippet; frame = frameIn (r .builder .frame); sequence = q }) (mirror g .memory) }
+  one-call Call.AddSnippet h =
+      let r = grouped g Call.AddSnippet in
+      ap₂ (λ (s : SnippetBuilder) (m : WaveformMemoryBuilder). record { number = r .number; builder = state (withSnippet s) m })
+      (snippet-left (ltb 0 (r .number))) (memory-more (addSnippet (g .snippet)))
+  one-call Call.AddSequence h =
+      let r = grouped g Call.AddSequence in
+      ap₂ (λ (q : SequenceBuilder) (m : WaveformMemoryBuilder). record { number = r .number; builder = state (record { snippet = b .snippet; frame = b .frame; sequence = q }) m })
+      (sequence-left (ltb 0 (r .number))) (memory-more (addSequence (g .sequence)))
+  one-call Call.Unknown h = refl
 
 -- ---- a list of calls
 
-all-mirror : (ks : List PatternCall) (s : State) (g : Groups) → All Fits ks → Mirrors s g → Mirrors (after s ks) (groupedAll g ks)
-unfolding after
-all-mirror [] s g h m = m
-all-mirror (k ∷ ks) s g h m = all-mirror ks (called s k .builder) (grouped g k) (h .1) (next s g m k (h .0))
+abbrev itself : Call → Call
+itself k = k
 
-first-mirrors : Mirrors first noGroups
-first-mirrors = record { snippet = refl; frame = record { start = silentFrame; begins = refl; runs = refl }; sequence = refl; memory = refl }
+all-after : (ks : List Call) (g : Groups) → All Fits ks → flatAfter (mirror g) ks ≡ mirror (ran grouped itself g ks)
+unfolding flatAfter
+all-after [] g h = refl
+all-after (k ∷ ks) g h = ap (λ (r : Handed State). flatAfter (r .builder) ks) (one-call g k (h .0)) ∙ all-after ks (grouped g k .builder) (h .1)
+
+all-answers : (ks : List Call) (g : Groups) → All Fits ks → flatAnswers (mirror g) ks ≡ answersTo grouped itself g ks
+unfolding flatAnswers
+all-answers [] g h = refl
+all-answers (k ∷ ks) g h =
+    ap (λ (r : Handed State). r .number ∷ flatAnswers (r .builder) ks) (one-call g k (h .0))
+    ∙ ap (λ (l : List ℕ). grouped g k .number ∷ l) (all-answers ks (grouped g k .builder) (h .1))
 
 -- every record of bytes says a call that fits
 one-of : {A : Type 0} (P : A → Type 0) (l : List A) (n : ℕ) (d : A) → All P l → P d → P (getD l n d)
@@ -162,24 +192,27 @@ one-of P [] n d h e = e
 one-of P (x ∷ l) zero d h e = h .0
 one-of P (x ∷ l) (suc n) d h e = one-of P l n d (h .1) e
 
-codes-fit : (a b : ℕ) → a < 256 → All SmallFits (codes a b)
-codes-fit a b h = (tt, (tt, (tt, (tt, (h, (tt, (tt, (tt, (tt, (tt, (tt, (tt, (tt, tt)))))))))))))
+codes-fit : (a b : ℕ) → a < 256 → All Fits (callsByCode a b)
+codes-fit a b h = (tt, (tt, (tt, (tt, (h, (tt, (tt, (tt, (tt, (tt, (tt, (tt, (tt, (tt, (tt, tt)))))))))))))))
 
-call-fits : (code a b : ℕ) → a < 256 → Fits (patternCallAt code a b)
-call-fits code a b h = go (eqb code 13) (eqb code 14) where
-  go : (t u : Bool) → Fits (cond t addSnippet (cond u addSequence (small (callAt code a b))))
-  go true u = tt
-  go false true = tt
-  go false false = one-of SmallFits (codes a b) code Call.Nothing (codes-fit a b h) tt
-
-calls-fit : (l : List ℕ) → Bytes l → All Fits (patternCallsIn l)
-unfolding patternCallsIn
+calls-fit : (l : List ℕ) → Bytes l → All Fits (callsIn l)
+unfolding callsIn
 calls-fit [] h = tt
-calls-fit (code ∷ []) h = tt
-calls-fit (code ∷ a ∷ []) h = tt
-calls-fit (code ∷ a ∷ b ∷ []) h = tt
-calls-fit (code ∷ a ∷ b ∷ last ∷ r) h = (call-fits code a b (h .1 .0), calls-fit r (h .1 .1 .1 .1))
+calls-fit (code ∷ []) h = (tt, tt)
+calls-fit (code ∷ a ∷ []) h = (tt, tt)
+calls-fit (code ∷ a ∷ b ∷ []) h = (tt, tt)
+calls-fit (code ∷ a ∷ b ∷ last ∷ r) h = (one-of Fits (callsByCode a b) code Call.Unknown (codes-fit a b (h .1 .0)) tt, calls-fit r (h .1 .1 .1 .1))
 
--- what is assembled is what the grouped calls build
-pub assembled-from : (l : List ℕ) → Bytes l → assembled l ≡ builtFrom false (memoryCalls l)
-assembled-from l h = ap builtMemory (all-mirror (patternCallsIn l) first noGroups (calls-fit l h) first-mirrors .memory)
+-- the run is what the definitions say
+module _ (l : List ℕ) (h : Bytes l) where
+  pub answers-from : flatAnswers nothingYet (callsIn l) ≡ answersOf l
+  unfolding answersOf
+  answers-from = all-answers (callsIn l) noGroups (calls-fit l h)
+
+  pub builders-from : flatAfter nothingYet (callsIn l) .builders ≡ buildersOf l
+  unfolding groupsOf
+  builders-from = ap (λ (s : State). s .builders) (all-after (callsIn l) noGroups (calls-fit l h))
+
+  pub memory-from : flatAfter nothingYet (callsIn l) .memory ≡ memoryFrom false (groupsOf l .memory)
+  unfolding groupsOf
+  memory-from = ap (λ (s : State). s .memory) (all-after (callsIn l) noGroups (calls-fit l h))

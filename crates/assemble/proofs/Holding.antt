@@ -1,6 +1,6 @@
 -- A step of the memory's builder, made on the bytes that keep its items: one law for snippets and sequences.
 -- Assumes nothing.
-use mathlib.Core.Path.{_≡_, refl, sym, ap, _∙_, subst}
+use mathlib.Core.Path.{_≡_, refl, sym, ap, ap₂, _∙_, subst}
 use mathlib.Core.Bool.{Bool, true, false, cond}
 use mathlib.Core.List.{List, [], _∷_, _++_, map, map-append}
 use Prim.Native.Nat.{ℕ, _+_, _≤_, _<_}
@@ -18,16 +18,15 @@ use Rattle.snippet.specs.Snippet.{snippetBytes, builtSnippet}
 use Rattle.sequence.specs.declared.Sequence.{Sequence}
 use Rattle.sequence.specs.declared.SequenceBuilder.{SequenceBuilder}
 use Rattle.sequence.specs.Sequence.{sequenceBytes, builtSequence}
-use Rattle.calls.specs.declared.Builders.{Builders}
 use Rattle.memory.specs.Image.{imageBytes}
 use Rattle.memory.specs.Memory.{newMemory, snippetItems, sequenceItems, noMemory, memoryOf, imageNumber, builtMemory}
 use Rattle.memory.specs.declared.WaveformMemoryBuilder.{WaveformMemoryBuilder}
 use Rattle.assemble.specs.Kept as pool
-use Rattle.assemble.specs.Kept.{kept, Pushed}
+use Rattle.assemble.specs.Kept.{kept, Pushed, PushedUnless, addedNumber, KeptBoth}
 use Rattle.assemble.proofs.Keeping.{count}
 use Rattle.pattern.specs.Calls.{withBuiltSnippet, withBuiltSequence}
-use Rattle.assemble.specs.Holding.{Keeps, KeepsSnippets, KeepsSequences, KeepsMemory, StepsSnippets, StepsSequences, StepsMemory}
-use Rattle.assemble.specs.Assembled.{withItem, imageOut}
+use Rattle.assemble.specs.Holding.{Keeps, KeepsSnippets, KeepsSequences, KeepsMemory, StepsSnippets, StepsSequences}
+use Rattle.assemble.specs.Lists.{imageOut}
 
 -- ---- an array whose first n items are kept
 
@@ -74,29 +73,24 @@ module _ {M A : Type 0} (most full : ℕ) (f : A → List ℕ) (array : M → Li
   abbrev Steps : ℕ → A → List ℕ → ℕ → List ℕ → Type 0
   Steps k a l n l′ = (m : M) → Holds m l → (n ≡ step k a m .number) × Holds (step k a m .builder) l′
 
-  pub refusing : (k n : ℕ) (a : A) (l : List ℕ) → n ≡ k → 0 < n → Steps k a l n l
-  refusing k n a l e h m p = go (ltb 0 k) (lt-ltb 0 k (omega arith)) where
-    go : (t : Bool) → t ≡ true
+  -- what an item that is added leaves, by its own number k and by whether there is room
+  module _ (k : ℕ) (a : A) (l l′ x : List ℕ) (e : x ≡ f a) where
+    by : (n : ℕ) (t u : Bool) → n ≡ cond t k (cond u 0 full) → PushedUnless t most x l l′ → (m : M) → Holds m l → ltb (getD l 0 0) most ≡ u
         → (n ≡ cond t (refused k m) (cond (leb most (num m)) (refused full m) (accepted (add m a))) .number)
-        × Holds (cond t (refused k m) (cond (leb most (num m)) (refused full m) (accepted (add m a))) .builder) l
-    go t g = rw g (e, p)
-
-  module _ (k : ℕ) (a : A) (l l′ x : List ℕ) (z : k ≤ 0) (e : x ≡ f a) (p : Pushed most x l l′) where
-    by : (n : ℕ) (t : Bool) (m : M) → leb most (num m) ≡ t
-        → (n ≡ cond t (refused full m) (accepted (add m a)) .number) × Holds (cond t (refused full m) (accepted (add m a)) .builder) l′
-        → (n ≡ step k a m .number) × Holds (step k a m .builder) l′
-    by n t m g w = rw (le-ltb 0 k z, g) w
-
-    pub adding : ltb (getD l 0 0) most ≡ true → Steps k a l 0 l′
-    adding t m h =
-        let b : num m < most = let c = number-is most f (array m) (num m) l h in let d = ltb-true (getD l 0 0) most t in omega arith in
+        × Holds (cond t (refused k m) (cond (leb most (num m)) (refused full m) (accepted (add m a))) .builder) l′
+    by n true u g p m h w = (g, subst (Holds m) (sym p) h)
+    by n false true g p m h w =
+        let b : num m < most = let c = number-is most f (array m) (num m) l h in let d = ltb-true (getD l 0 0) most w in omega arith in
         let r = keeps-more most f (array m) (num m) l h a x l′ b e p in
-        by 0 false m (lt-leb most (num m) b) (refl, rw (sets m a, counts m a) r)
+        rw (lt-leb most (num m) b) (g, rw (sets m a, counts m a) r)
+    by n false false g p m h w =
+        let b : most ≤ num m = let c = number-is most f (array m) (num m) l h in let d = ltb-false (getD l 0 0) most w in omega arith in
+        rw (le-leb most (num m) b) (g, keeps-full most f (array m) (num m) l h x l′ b p)
 
-    pub filling : ltb (getD l 0 0) most ≡ false → Steps k a l full l′
-    filling t m h =
-        let b : most ≤ num m = let c = number-is most f (array m) (num m) l h in let d = ltb-false (getD l 0 0) most t in omega arith in
-        by full true m (le-leb most (num m) b) (refl, keeps-full most f (array m) (num m) l h x l′ b p)
+    -- where the code's number j is k, and its own `full` is this one
+    pub added : (n j i : ℕ) → j ≡ k → i ≡ full → n ≡ addedNumber most i j l → PushedUnless (ltb 0 j) most x l l′ → Steps k a l n l′
+    added n j i u v g p m h =
+        by n (ltb 0 k) (ltb (getD l 0 0) most) (g ∙ ap₂ (λ (d c : ℕ). addedNumber most c d l) u v) (subst (λ (d : ℕ). PushedUnless (ltb 0 d) most x l l′) u p) m h refl
 
 -- ---- the memory's builder
 
@@ -121,18 +115,10 @@ moreSequences m s =
     }
 
 module _ (r : Built Snippet SnippetBuilder) (l : List ℕ) where
-  abbrev StepsFrom : ℕ → List ℕ → Type 0
-  StepsFrom n l′ = StepsSnippets (λ m. withBuiltSnippet m r) l n l′
-
-  pub snippet-refused : (n : ℕ) → n ≡ r .number → 0 < n → StepsFrom n l
-  snippet-refused n e h = refusing 15 6 snippetBytes (λ m. m .snippets) (λ m. m .«num_snippets») moreSnippets (λ m a. refl) (λ m a. refl) (r .number) n (r .item) l e h
-
-  module _ (n : ℕ) (e : n ≡ r .number) (z : n ≤ 0) (x l′ : List ℕ) (f : x ≡ snippetBytes (r .item)) (p : Pushed 15 x l l′) where
-    pub snippet-added : ltb (getD l 0 0) 15 ≡ true → StepsFrom 0 l′
-    snippet-added t = adding 15 6 snippetBytes (λ m. m .snippets) (λ m. m .«num_snippets») moreSnippets (λ m a. refl) (λ m a. refl) (r .number) (r .item) l l′ x (omega arith) f p t
-
-    pub snippet-full : ltb (getD l 0 0) 15 ≡ false → StepsFrom 6 l′
-    snippet-full t = filling 15 6 snippetBytes (λ m. m .snippets) (λ m. m .«num_snippets») moreSnippets (λ m a. refl) (λ m a. refl) (r .number) (r .item) l l′ x (omega arith) f p t
+  pub snippet-added : (n j i : ℕ) (x l′ : List ℕ) → j ≡ r .number → i ≡ 6 → n ≡ addedNumber 15 i j l → x ≡ snippetBytes (r .item) → PushedUnless (ltb 0 j) 15 x l l′
+      → StepsSnippets (λ m. withBuiltSnippet m r) l n l′
+  snippet-added n j i x l′ u v e f p =
+      added 15 6 snippetBytes (λ m. m .snippets) (λ m. m .«num_snippets») moreSnippets (λ m a. refl) (λ m a. refl) (r .number) (r .item) l l′ x f n j i u v e p
 
   pub spares-sequences : (m : WaveformMemoryBuilder) → KeepsSequences m l → KeepsSequences (withBuiltSnippet m r .builder) l
   spares-sequences m h = go (ltb 0 (r .number)) (leb 15 (m .«num_snippets»)) where
@@ -142,18 +128,10 @@ module _ (r : Built Snippet SnippetBuilder) (l : List ℕ) where
     go false false = h
 
 module _ (r : Built Sequence SequenceBuilder) (l : List ℕ) where
-  abbrev StepsFrom′ : ℕ → List ℕ → Type 0
-  StepsFrom′ n l′ = StepsSequences (λ m. withBuiltSequence m r) l n l′
-
-  pub sequence-refused : (n : ℕ) → n ≡ r .number → 0 < n → StepsFrom′ n l
-  sequence-refused n e h = refusing 16 7 sequenceBytes (λ m. m .sequences) (λ m. m .«num_sequences») moreSequences (λ m a. refl) (λ m a. refl) (r .number) n (r .item) l e h
-
-  module _ (n : ℕ) (e : n ≡ r .number) (z : n ≤ 0) (x l′ : List ℕ) (f : x ≡ sequenceBytes (r .item)) (p : Pushed 16 x l l′) where
-    pub sequence-added : ltb (getD l 0 0) 16 ≡ true → StepsFrom′ 0 l′
-    sequence-added t = adding 16 7 sequenceBytes (λ m. m .sequences) (λ m. m .«num_sequences») moreSequences (λ m a. refl) (λ m a. refl) (r .number) (r .item) l l′ x (omega arith) f p t
-
-    pub sequence-full : ltb (getD l 0 0) 16 ≡ false → StepsFrom′ 7 l′
-    sequence-full t = filling 16 7 sequenceBytes (λ m. m .sequences) (λ m. m .«num_sequences») moreSequences (λ m a. refl) (λ m a. refl) (r .number) (r .item) l l′ x (omega arith) f p t
+  pub sequence-added : (n j i : ℕ) (x l′ : List ℕ) → j ≡ r .number → i ≡ 7 → n ≡ addedNumber 16 i j l → x ≡ sequenceBytes (r .item) → PushedUnless (ltb 0 j) 16 x l l′
+      → StepsSequences (λ m. withBuiltSequence m r) l n l′
+  sequence-added n j i x l′ u v e f p =
+      added 16 7 sequenceBytes (λ m. m .sequences) (λ m. m .«num_sequences») moreSequences (λ m a. refl) (λ m a. refl) (r .number) (r .item) l l′ x f n j i u v e p
 
   pub spares-snippets : (m : WaveformMemoryBuilder) → KeepsSnippets m l → KeepsSnippets (withBuiltSequence m r .builder) l
   spares-snippets m h = go (ltb 0 (r .number)) (leb 16 (m .«num_sequences»)) where
@@ -161,23 +139,6 @@ module _ (r : Built Sequence SequenceBuilder) (l : List ℕ) where
     go true u = h
     go false true = h
     go false false = h
-
--- ---- either kind of item
-
-module _ (b : Builders) (kind : ℕ) (l : List ℕ) where
-  pub item-snippet : (l′ k : List ℕ) (n : ℕ) (r : Built Snippet SnippetBuilder) → r ≡ builtSnippet (b .snippet) → kind < 2
-      → StepsSnippets (λ m. withBuiltSnippet m r) l n l′ → StepsMemory (λ m. withItem m b kind) l k n l′ k
-  item-snippet l′ k n r e h s m w =
-      let p = s m (w .0) in
-      let q = spares-sequences r k m (w .1) in
-      rw (lt-ltb kind 2 h, ← e) (p .0, (p .1, q))
-
-  pub item-sequence : (k k′ : List ℕ) (n : ℕ) (r : Built Sequence SequenceBuilder) → r ≡ builtSequence (b .sequence) → 2 ≤ kind
-      → StepsSequences (λ m. withBuiltSequence m r) k n k′ → StepsMemory (λ m. withItem m b kind) l k n l k′
-  item-sequence k k′ n r e h s m w =
-      let p = s m (w .1) in
-      let q = spares-snippets r l m (w .0) in
-      rw (le-ltb kind 2 h, ← e) (p .0, (q, p .1))
 
 -- ---- from nothing to an image
 
@@ -187,13 +148,13 @@ keeps-none = (record { long = refl; room = omega arith; same = refl }, record { 
 
 -- the image that the bytes build is the builder's
 module _ (m : WaveformMemoryBuilder) (l k : List ℕ) (w : KeepsMemory m l k) where
-  pub numbers-fit : (getD l 0 0 ≤ 15) × (getD k 0 0 ≤ 16)
-  numbers-fit =
+  pub kept-both : length l ≡ 116 → length k ≡ 117 → KeptBoth l k
+  kept-both p q =
       let a = number-is 15 snippetBytes (m .snippets) (m .«num_snippets») l (w .0) in
       let b = number-is 16 sequenceBytes (m .sequences) (m .«num_sequences») k (w .1) in
-      (omega (arith, w .0 .room), omega (arith, w .1 .room))
+      record { snippetsLong = p; sequencesLong = q; snippetsFew = omega (arith, w .0 .room); sequencesFew = omega (arith, w .1 .room) }
 
-  pub image-built : (buffer buffer′ : List ℕ) (n : ℕ) → pool.Built l k buffer n buffer′ → (n ≡ builtMemory m .number) × (buffer′ ≡ imageOut (builtMemory m) buffer)
+  pub image-built : (buffer buffer′ : List ℕ) (n : ℕ) → pool.ImageLaid l k buffer n buffer′ → (n ≡ builtMemory m .number) × (buffer′ ≡ imageOut (builtMemory m) buffer)
   unfolding builtMemory
   image-built buffer buffer′ n r =
       let a = counted 15 snippetBytes (m .snippets) (m .«num_snippets») l (w .0) in

@@ -14,8 +14,8 @@ use Rattle.laws.specs.Copied.{copied, over}
 use Rattle.memory.specs.Image.{joined, endPointers, imageSize, imageBytes}
 use Rattle.memory.specs.Memory.{imageNumber}
 use Rattle.memory.proofs.Images.{joined-length}
-use Rattle.assemble.specs.Kept.{kept, total, ends, Pushed, Built}
-use Rattle.assemble.proofs.Lists.{total-lengths, ends-pointers, ends-append, ends-length, joined-append, copied-more, over-more}
+use Rattle.assemble.specs.Kept.{kept, sumOf, ends, Pushed, ImageLaid}
+use Rattle.assemble.proofs.Lists.{sumOf-lengths, ends-pointers, ends-append, ends-length, joined-append, copied-more, over-more}
 
 abbrev zeros : ℕ → List ℕ
 zeros n = replicate n 0
@@ -35,8 +35,8 @@ module _ (most : ℕ) (items : List (List ℕ)) (l : List ℕ) (e : l ≡ kept m
         ∙ ap (take (1 + n - 1)) (append-assoc (map length items) (zeros (most - length items)) (copied (zeros 100) (joined items)))
         ∙ take-at (map length items) (zeros (most - length items) ++ copied (zeros 100) (joined items)) (1 + n - 1) k
 
-    pub sum-is : (a : ℕ) → a ≡ total (midOf 1 (1 + n - 1) l) → a ≡ length (joined items)
-    sum-is a h = h ∙ ap total lens ∙ total-lengths items
+    pub sum-is : (a : ℕ) → a ≡ sumOf (midOf 1 (1 + n - 1) l) → a ≡ length (joined items)
+    sum-is a h = h ∙ ap sumOf lens ∙ sumOf-lengths items
 
   -- the bytes, where they fit
   module _ (h : length items ≤ most) (a : ℕ) (f : a ≡ length (joined items)) (fit : a ≤ 100) where
@@ -130,7 +130,7 @@ module _ (most n : ℕ) (l x : List ℕ) (f : n ≡ getD l 0 0) where
     λ items g e. e ∙ ap (λ (t : Bool). kept most (cond t (items ++ (x ∷ [])) items)) (sym (le-ltb (length items) most (let c = count most items l e in omega arith))),
   )
 
-  pub room : n < most → (a at : ℕ) (l′ : List ℕ) → a ≡ total (midOf 1 (1 + n - 1) l) → at ≡ 1 + most + a → l′ ≡ take at l ++ copied (drop at l) x
+  pub room : n < most → (a at : ℕ) (l′ : List ℕ) → a ≡ sumOf (midOf 1 (1 + n - 1) l) → at ≡ 1 + most + a → l′ ≡ take at l ++ copied (drop at l) x
       → (true ≡ ltb (getD l 0 0) most) × Pushed most x l (set (set l′ (1 + n) (length x)) 0 (n + 1))
   room h a at l′ i j k = (
     sym (lt-ltb (getD l 0 0) most (omega arith)),
@@ -154,7 +154,7 @@ module _ (ls ks xs ys : List ℕ) (fit : length ls + length ks + length xs + len
   abbrev start : List ℕ
   start = s ∷ q ∷ zeros 98
 
-  pub laid-over : (last : ℕ) (a b c d : List ℕ) → last ≡ 1 + s + q + total ls → a ≡ over start 2 (ends (1 + s + q) ls) → b ≡ over a (2 + s) (ends last ks)
+  pub laid-over : (last : ℕ) (a b c d : List ℕ) → last ≡ 1 + s + q + sumOf ls → a ≡ over start 2 (ends (1 + s + q) ls) → b ≡ over a (2 + s) (ends last ks)
       → c ≡ over b (2 + s + q) xs → d ≡ over c (2 + s + q + length xs) ys
       → d ≡ s ∷ q ∷ (ends (1 + s + q) (ls ++ ks) ++ xs ++ ys ++ zeros (98 - (s + q + length xs + length ys)))
   laid-over last a b c d e f g h i =
@@ -202,17 +202,17 @@ laid-image ss qs ls ks xs ys out e f g h i =
 
 -- what is answered, by the number of snippets n and of sequences k
 module _ (l j buffer : List ℕ) (n k : ℕ) (f : n ≡ getD l 0 0) (g : k ≡ getD j 0 0) where
-  pub no-snippets : n < 1 → Built l j buffer 9 buffer
+  pub no-snippets : n < 1 → ImageLaid l j buffer 9 buffer
   no-snippets h ss qs a b e i = let c = count 15 ss l e in (simp (lt-ltb (length ss) 1 (omega arith)), refl)
 
-  pub no-sequences : 1 ≤ n → k < 1 → Built l j buffer 10 buffer
+  pub no-sequences : 1 ≤ n → k < 1 → ImageLaid l j buffer 10 buffer
   no-sequences h o ss qs a b e i =
       let c = count 15 ss l e in
       let d = count 16 qs j i in
       (simp (le-ltb (length ss) 1 (omega arith), lt-ltb (length qs) 1 (omega arith)), refl)
 
-  module _ (h : 1 ≤ n) (o : 1 ≤ k) (u v : ℕ) (p : u ≡ total (midOf 1 (1 + n - 1) l)) (q : v ≡ total (midOf 1 (1 + k - 1) j)) where
-    pub too-large : 98 < n + k + u + v → Built l j buffer 8 buffer
+  module _ (h : 1 ≤ n) (o : 1 ≤ k) (u v : ℕ) (p : u ≡ sumOf (midOf 1 (1 + n - 1) l)) (q : v ≡ sumOf (midOf 1 (1 + k - 1) j)) where
+    pub too-large : 98 < n + k + u + v → ImageLaid l j buffer 8 buffer
     too-large w ss qs a b e i =
         let c = count 15 ss l e in
         let d = count 16 qs j i in
@@ -225,7 +225,7 @@ module _ (l j buffer : List ℕ) (n k : ℕ) (f : n ≡ getD l 0 0) (g : k ≡ g
         → out ≡ length (midOf 1 (1 + n - 1) l) ∷ length (midOf 1 (1 + k - 1) j) ∷ (ends (1 + length (midOf 1 (1 + n - 1) l) + length (midOf 1 (1 + k - 1) j)) (midOf 1 (1 + n - 1) l ++ midOf 1 (1 + k - 1) j)
         ++ midOf 16 (16 + u - 16) l ++ midOf 17 (17 + v - 17) j
         ++ zeros (98 - (length (midOf 1 (1 + n - 1) l) + length (midOf 1 (1 + k - 1) j) + length (midOf 16 (16 + u - 16) l) + length (midOf 17 (17 + v - 17) j))))
-        → buffer′ ≡ copied buffer out → Built l j buffer 0 buffer′
+        → buffer′ ≡ copied buffer out → ImageLaid l j buffer 0 buffer′
     built w out buffer′ z x ss qs a b e i =
         let c = count 15 ss l e in
         let d = count 16 qs j i in

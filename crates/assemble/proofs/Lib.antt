@@ -3,4 +3,4 @@ pub mod Holding
 pub mod Keeping
 pub mod Lists
 pub mod Running
-pub mod Turns
+pub mod Strict

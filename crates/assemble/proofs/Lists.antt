@@ -13,18 +13,18 @@ use borrow.Rule.Slice.PartMut.{midOf, postOf, putMid}
 use borrow.Rule.Slice.PartAt.{part-to-end}
 use Rattle.laws.specs.Copied.{copied, over}
 use Rattle.memory.specs.Image.{joined, endPointers}
-use Rattle.assemble.specs.Kept.{total, ends}
+use Rattle.assemble.specs.Kept.{sumOf, ends}
 
 -- ---- one turn
 
 next : (l : List ℕ) (i : ℕ) → i < length l → drop i l ≡ getD l i 0 ∷ drop (i + 1) l
 next l i h = rw (add-one) (drop-cons l i 0 h)
 
-pub total-next : (l : List ℕ) (i : ℕ) → i < length l → total (drop i l) ≡ getD l i 0 + total (drop (i + 1) l)
-total-next l i h = ap total (next l i h)
+pub sumOf-next : (l : List ℕ) (i : ℕ) → i < length l → sumOf (drop i l) ≡ getD l i 0 + sumOf (drop (i + 1) l)
+sumOf-next l i h = ap sumOf (next l i h)
 
-pub total-done : (l : List ℕ) (i : ℕ) → length l ≤ i → total (drop i l) ≡ 0
-total-done l i h = ap total (drop-of-length-le l {i = i} h)
+pub sumOf-done : (l : List ℕ) (i : ℕ) → length l ≤ i → sumOf (drop i l) ≡ 0
+sumOf-done l i h = ap sumOf (drop-of-length-le l {i = i} h)
 
 pub ends-next : (l out : List ℕ) (at i last : ℕ) → i < length l
     → sets out (at + i) (ends last (drop i l)) ≡ sets (set out (at + i) (last + getD l i 0)) (at + (i + 1)) (ends (last + getD l i 0) (drop (i + 1) l))
@@ -37,18 +37,18 @@ ends-done l out j i last h = ap (λ (m : List ℕ). sets out j (ends last m)) (d
 
 -- ---- of items
 
-pub total-lengths : (items : List (List ℕ)) → total (map length items) ≡ length (joined items)
-total-lengths [] = refl
-total-lengths (x ∷ xs) = ap (λ (n : ℕ). length x + n) (total-lengths xs) ∙ sym (length-append x (joined xs))
+pub sumOf-lengths : (items : List (List ℕ)) → sumOf (map length items) ≡ length (joined items)
+sumOf-lengths [] = refl
+sumOf-lengths (x ∷ xs) = ap (λ (n : ℕ). length x + n) (sumOf-lengths xs) ∙ sym (length-append x (joined xs))
 
 pub ends-pointers : (items : List (List ℕ)) (before : ℕ) → ends before (map length items) ≡ endPointers before items
 ends-pointers [] before = refl
 ends-pointers (x ∷ xs) before = ap (λ (l : List ℕ). (before + length x) ∷ l) (ends-pointers xs (before + length x))
 
-pub ends-append : (xs ys : List ℕ) (before : ℕ) → ends before (xs ++ ys) ≡ ends before xs ++ ends (before + total xs) ys
+pub ends-append : (xs ys : List ℕ) (before : ℕ) → ends before (xs ++ ys) ≡ ends before xs ++ ends (before + sumOf xs) ys
 ends-append [] ys before = ap (λ (k : ℕ). ends k ys) (sym (add-zero before))
 ends-append (x ∷ xs) ys before =
-    let e : before + x + total xs ≡ before + (x + total xs) = omega arith in
+    let e : before + x + sumOf xs ≡ before + (x + sumOf xs) = omega arith in
     ap (λ (l : List ℕ). (before + x) ∷ l) (ends-append xs ys (before + x) ∙ ap (λ (k : ℕ). ends (before + x) xs ++ ends k ys) e)
 
 pub joined-append : (xs ys : List (List ℕ)) → joined (xs ++ ys) ≡ joined xs ++ joined ys

@@ -3,10 +3,13 @@ use Prim.Native.Nat.{ℕ, _≤_}
 use mathlib.Core.Path.{_≡_}
 use mathlib.Core.List.{List, map}
 use lib.ListN.{length, take}
+use Rattle.errors.specs.Told.{Handed}
 use Rattle.snippet.specs.Snippet.{snippetBytes}
 use Rattle.sequence.specs.Sequence.{sequenceBytes}
+use Rattle.calls.specs.declared.Call.{Call}
+use Rattle.calls.specs.declared.Builders.{Builders}
 use Rattle.memory.specs.declared.WaveformMemoryBuilder.{WaveformMemoryBuilder}
-use Rattle.errors.specs.Told.{Handed}
+use Rattle.assemble.specs.Flat.{State, state, flatCalled}
 use Rattle.assemble.specs.Kept.{kept}
 
 -- the bytes l keep the first n items of an array
@@ -31,5 +34,12 @@ StepsSnippets step l n l′ = (m : WaveformMemoryBuilder) → KeepsSnippets m l 
 abbrev pub StepsSequences : (WaveformMemoryBuilder → Handed WaveformMemoryBuilder) → List ℕ → ℕ → List ℕ → Type 0
 StepsSequences step l n l′ = (m : WaveformMemoryBuilder) → KeepsSequences m l → (n ≡ step m .number) × KeepsSequences (step m .builder) l′
 
-abbrev pub StepsMemory : (WaveformMemoryBuilder → Handed WaveformMemoryBuilder) → List ℕ → List ℕ → ℕ → List ℕ → List ℕ → Type 0
-StepsMemory step l k n l′ k′ = (m : WaveformMemoryBuilder) → KeepsMemory m l k → (n ≡ step m .number) × KeepsMemory (step m .builder) l′ k′
+-- the three builders with the number of a call
+abbrev pub shownBy : Handed State → Handed Builders
+shownBy r = record { number = r .number; builder = r .builder .builders }
+
+-- a call on all four, told by its number and the three builders after it
+abbrev pub StepsMemory : Builders → Call → List ℕ → List ℕ → Handed Builders → List ℕ → List ℕ → Type 0
+StepsMemory b call l k told l′ k′ =
+    (m : WaveformMemoryBuilder) → KeepsMemory m l k
+    → (told ≡ shownBy (flatCalled (state b m) call)) × KeepsMemory (flatCalled (state b m) call .builder .memory) l′ k′

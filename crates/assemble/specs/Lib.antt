@@ -1,5 +1,6 @@
 -- The definitions that the contracts of `assemble` cite.
-pub mod Assembled
-pub mod Grouped
+pub mod Flat
 pub mod Holding
 pub mod Kept
+pub mod Lists
+pub mod Strict

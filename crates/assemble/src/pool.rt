@@ -8,15 +8,23 @@ ghost use Prim.Native.Nat.{_+_, _-_, _≤_, _<_};
 ghost use lib.Dec.{ltb};
 ghost use lib.ListN.{length, take, drop, getD, replicate};
 ghost use Rattle.laws.specs.Copied.{copied, over};
-ghost use Rattle.assemble.specs.Kept.{total, ends, Pushed, Built};
+ghost use Rattle.assemble.specs.Kept.{sumOf, ends, roomFor, Pushed, Fits, imageFrom, KeptBoth, ImageLaid};
+
+// Where the bytes begin, behind the number and the lengths of at most 15 snippets or 16 sequences.
+const SNIPPET_BYTES: usize = 16;
+
+const SEQUENCE_BYTES: usize = 17;
+
+// What an image holds beside its two counts.
+const IMAGE_ROOM: usize = 98;
 
 // Puts an item behind the others, as far as its bytes have room; false where there is no room for its length.
 pub(crate) fn push(list: &mut [u8], most: usize, bytes: &[u8]) -> bool
-    requires { ⌜ (length (now list) ≡ 101 + most) × (most ≤ 16) × (length (now bytes) < 256) ⌝ }
+    requires { ⌜ (length (now list) ≡ roomFor most) × (most ≤ 16) × (length (now bytes) < 256) ⌝ }
     ensures { λ r. ⌜ r ≡ ltb (getD (now (list .entry)) 0 0) most ⌝ }
     ensures { λ _. ⌜ Pushed most (now (bytes .entry)) (now (list .entry)) (now (list .exit)) ⌝ }
 {
-    let n = wide(list[0]);
+    let n = laws::wide(list[0]);
     if most <= n {
         return false;
     }
@@ -29,11 +37,11 @@ pub(crate) fn push(list: &mut [u8], most: usize, bytes: &[u8]) -> bool
 
 // Tests no snippets, no sequences, then the size; the image of what is kept goes to the front of the buffer.
 pub(crate) fn image(snippets: &[u8], sequences: &[u8], buffer: &mut [u8]) -> u8
-    requires { ⌜ (length (now snippets) ≡ 116) × (length (now sequences) ≡ 117) × (getD (now snippets) 0 0 ≤ 15) × (getD (now sequences) 0 0 ≤ 16) ⌝ }
-    ensures { λ r. ⌜ Built (now (snippets .entry)) (now (sequences .entry)) (now (buffer .entry)) r (now (buffer .exit)) ⌝ }
+    requires { ⌜ KeptBoth (now snippets) (now sequences) ⌝ }
+    ensures { λ r. ⌜ ImageLaid (now (snippets .entry)) (now (sequences .entry)) (now (buffer .entry)) r (now (buffer .exit)) ⌝ }
 {
-    let s = wide(snippets[0]);
-    let q = wide(sequences[0]);
+    let s = laws::wide(snippets[0]);
+    let q = laws::wide(sequences[0]);
     if s < 1 {
         return 9;
     }
@@ -42,14 +50,14 @@ pub(crate) fn image(snippets: &[u8], sequences: &[u8], buffer: &mut [u8]) -> u8
     }
     let a = sum(&snippets[1..1 + s]);
     let b = sum(&sequences[1..1 + q]);
-    if 98 < s + q + a + b {
+    if IMAGE_ROOM < s + q + a + b {
         return 8;
     }
     let out = laid(
         &snippets[1..1 + s],
-        &snippets[16..16 + a],
+        &snippets[SNIPPET_BYTES..SNIPPET_BYTES + a],
         &sequences[1..1 + q],
-        &sequences[17..17 + b],
+        &sequences[SEQUENCE_BYTES..SEQUENCE_BYTES + b],
     );
     laws::copy_into(buffer, &out);
     0
@@ -57,8 +65,9 @@ pub(crate) fn image(snippets: &[u8], sequences: &[u8], buffer: &mut [u8]) -> u8
 
 // The lengths and the bytes of snippets and sequences as an image, in which they fit.
 fn laid(snippet_lens: &[u8], snippets: &[u8], sequence_lens: &[u8], sequences: &[u8]) -> [u8; 100]
-    requires { ⌜ (length (now «snippet_lens») + length (now «sequence_lens») + length (now snippets) + length (now sequences) ≤ 98) × (total (now «snippet_lens») ≡ length (now snippets)) × (total (now «sequence_lens») ≡ length (now sequences)) ⌝ }
-    ensures { λ r. ⌜ r ≡ length (now («snippet_lens» .entry)) ∷ length (now («sequence_lens» .entry)) ∷ ends (1 + length (now («snippet_lens» .entry)) + length (now («sequence_lens» .entry))) (now («snippet_lens» .entry) ++ now («sequence_lens» .entry)) ++ now (snippets .entry) ++ now (sequences .entry) ++ replicate (98 - (length (now («snippet_lens» .entry)) + length (now («sequence_lens» .entry)) + length (now (snippets .entry)) + length (now (sequences .entry)))) 0 ⌝ }
+    requires { ⌜ Fits (now «snippet_lens») (now snippets) (now «sequence_lens») (now sequences) ⌝ }
+    ensures { λ r. ⌜ r
+        ≡ imageFrom (now («snippet_lens» .entry)) (now (snippets .entry)) (now («sequence_lens» .entry)) (now (sequences .entry)) ⌝ }
 {
     let s = snippet_lens.len();
     let q = sequence_lens.len();
@@ -76,14 +85,14 @@ fn laid(snippet_lens: &[u8], snippets: &[u8], sequence_lens: &[u8], sequences: &
 
 // Stores the index of each item's last byte, where the byte before the first item stands at `before`, and answers the last index.
 fn pointers(out: &mut [u8], at: usize, lens: &[u8], before: usize) -> usize
-    requires { ⌜ (length (now out) ≡ 100) × (at + length (now lens) ≤ 100) × (before + total (now lens) < 256) ⌝ }
-    ensures { λ r. ⌜ r ≡ before + total (now (lens .entry)) ⌝ }
+    requires { ⌜ (length (now out) ≡ 100) × (at + length (now lens) ≤ 100) × (before + sumOf (now lens) < 256) ⌝ }
+    ensures { λ r. ⌜ r ≡ before + sumOf (now (lens .entry)) ⌝ }
     ensures { λ _. ⌜ now (out .exit) ≡ over (now (out .entry)) at (ends before (now (lens .entry))) ⌝ }
 {
     let mut last = before;
     let mut i = 0usize;
     while i < lens.len() {
-        last += wide(lens[i]);
+        last += laws::wide(lens[i]);
         out[at + i] = last as u8;
         i += 1;
     }
@@ -110,21 +119,14 @@ fn place(list: &mut [u8], at: usize, bytes: &[u8])
 
 fn sum(lens: &[u8]) -> usize
     requires { ⌜ length (now lens) ≤ 16 ⌝ }
-    ensures { λ r. ⌜ r ≡ total (now (lens .entry)) ⌝ }
+    ensures { λ r. ⌜ r ≡ sumOf (now (lens .entry)) ⌝ }
     ensures { λ r. ⌜ r < 4096 ⌝ }
 {
     let mut sum = 0usize;
     let mut i = 0usize;
     while i < lens.len() {
-        sum += wide(lens[i]);
+        sum += laws::wide(lens[i]);
         i += 1;
     }
     sum
-}
-
-fn wide(x: u8) -> usize
-    ensures { λ r. ⌜ r ≡ x ⌝ }
-    ensures { λ r. ⌜ r < 256 ⌝ }
-{
-    x as usize
 }

@@ -1,71 +1,60 @@
--- The next call of a list of bytes, and one turn of the run: what is left gives what the whole gives.
--- Assumes nothing.
+-- The next call of a list of bytes. Assumes nothing.
 use mathlib.Core.Path.{_≡_, refl, sym, ap, _∙_}
 use mathlib.Core.List.{List, [], _∷_}
-use Prim.Native.Nat.{ℕ, zero, suc, _+_, _-_, _≤_, _<_}
+use Prim.Native.Nat.{ℕ, zero, suc, _+_, _-_, _≤_, _<_, min}
+use native.Mathlib.Nat.{min-eq-left, min-eq-right, lt-of-not-le, le-of-eq}
+use native.Mathlib.Decide.{decLe}
 use native.Mathlib.Omega.{arith}
-use lib.ListN.{length, set, drop, getD}
-use lib.Seq.{sets}
-use Rattle.errors.specs.Told.{Handed}
+use lib.ListN.{length, drop, getD, length-drop, drop-of-length-le}
+use lib.Seq.{drop-drop}
 use Rattle.calls.specs.declared.Call.{Call}
-use Rattle.calls.specs.declared.Builders.{Builders}
-use Rattle.calls.specs.declared.Stepped.{Stepped}
-use Rattle.calls.specs.Calls.{callAt, inFours, callsIn, called, steppedTold, after, numbers}
+use Rattle.calls.specs.declared.Call.the-variants as Call
+use Rattle.calls.specs.Calls.{callAt, firstCall, callsIn}
 
--- records of four bytes
-module _ {K : Type 0} (call : ℕ → ℕ → ℕ → K) where
-  next : (l : List ℕ) (at : ℕ) → at + 4 ≤ length l
-      → inFours call (drop at l) ≡ call (getD l at 0) (getD l (suc at) 0) (getD l (suc (suc at)) 0) ∷ inFours call (drop (suc (suc (suc (suc at)))) l)
-  next [] at h = absurd (omega arith)
-  next (k ∷ []) zero h = absurd (omega arith)
-  next (k ∷ a ∷ []) zero h = absurd (omega arith)
-  next (k ∷ a ∷ b ∷ []) zero h = absurd (omega arith)
-  next (k ∷ a ∷ b ∷ c ∷ r) zero h = refl
-  next (k ∷ r) (suc at) h = next r at (omega arith)
+-- a whole record
+pub whole-record : (l : List ℕ) (at : ℕ) → at + 4 ≤ length l → firstCall (drop at l) ≡ callAt (getD l at 0) (getD l (at + 1) 0) (getD l (at + 2) 0)
+whole-record l at h =
+    let a : at + 1 ≡ suc at = omega arith in
+    let b : at + 2 ≡ suc (suc at) = omega arith in
+    rw (a, b) (go l at h) where
+      go : (l : List ℕ) (at : ℕ) → at + 4 ≤ length l → firstCall (drop at l) ≡ callAt (getD l at 0) (getD l (suc at) 0) (getD l (suc (suc at)) 0)
+      go [] at h = absurd (omega arith)
+      go (k ∷ []) zero h = absurd (omega arith)
+      go (k ∷ a ∷ []) zero h = absurd (omega arith)
+      go (k ∷ a ∷ b ∷ []) zero h = absurd (omega arith)
+      go (k ∷ a ∷ b ∷ c ∷ r) zero h = refl
+      go (k ∷ r) (suc at) h = go r at (omega arith)
 
-  pub fours-next : (l : List ℕ) (at : ℕ) → at + 4 ≤ length l
-      → inFours call (drop at l) ≡ call (getD l at 0) (getD l (at + 1) 0) (getD l (at + 2) 0) ∷ inFours call (drop (at + 4) l)
-  fours-next l at h =
-      let a : at + 1 ≡ suc at = omega arith in
-      let b : at + 2 ≡ suc (suc at) = omega arith in
-      let d : at + 4 ≡ suc (suc (suc (suc at))) = omega arith in
-      rw (a, b, d) (next l at h)
+-- a shorter one
+pub short-record : (l : List ℕ) (at : ℕ) → length l - at < 4 → firstCall (drop at l) ≡ Call.Unknown
+short-record [] zero h = refl
+short-record [] (suc at) h = refl
+short-record (k ∷ []) zero h = refl
+short-record (k ∷ a ∷ []) zero h = refl
+short-record (k ∷ a ∷ b ∷ []) zero h = refl
+short-record (k ∷ a ∷ b ∷ c ∷ r) zero h = absurd (omega arith)
+short-record (k ∷ r) (suc at) h = short-record r at (omega arith)
 
-  short : (l : List ℕ) → length l < 4 → inFours call l ≡ []
-  short [] h = refl
-  short (k ∷ []) h = refl
-  short (k ∷ a ∷ []) h = refl
-  short (k ∷ a ∷ b ∷ []) h = refl
-  short (k ∷ a ∷ b ∷ c ∷ r) h = absurd (omega arith)
-
-  pub fours-none : (l : List ℕ) (at : ℕ) → length l - at < 4 → inFours call (drop at l) ≡ []
-  fours-none l zero h = short l (omega arith)
-  fours-none [] (suc at) h = short [] (omega arith)
-  fours-none (k ∷ r) (suc at) h = fours-none r at (omega arith)
-
-pub calls-none : (l : List ℕ) (at : ℕ) → length l - at < 4 → callsIn (drop at l) ≡ []
+-- the first call and the calls behind it
+next : (l : List ℕ) → 0 < length l → callsIn l ≡ firstCall l ∷ callsIn (drop 4 l)
 unfolding callsIn
-calls-none = fours-none callAt
+next [] h = absurd (omega arith)
+next (k ∷ []) h = refl
+next (k ∷ a ∷ []) h = refl
+next (k ∷ a ∷ b ∷ []) h = refl
+next (k ∷ a ∷ b ∷ c ∷ r) h = refl
 
--- one turn: a call k that answered r
-module _ (l : List ℕ) (at : ℕ) (h : at + 4 ≤ length l) (b : Builders) (k : Call) (r : Stepped)
-    (e : k ≡ callAt (getD l at 0) (getD l (at + 1) 0) (getD l (at + 2) 0)) (f : steppedTold r ≡ called b k) where
-  now-called : callsIn (drop at l) ≡ k ∷ callsIn (drop (at + 4) l)
-  unfolding callsIn
-  now-called = fours-next callAt l at h ∙ ap (λ (j : Call). j ∷ callsIn (drop (at + 4) l)) (sym e)
+-- the call at an index and the calls behind it
+pub calls-next : (l : List ℕ) (at after : ℕ) → at < length l → after ≡ min (at + 4) (length l) → callsIn (drop at l) ≡ firstCall (drop at l) ∷ callsIn (drop after l)
+calls-next l at after h e =
+    next (drop at l) (rw (length-drop at l) (omega arith))
+    ∙ ap (λ (r : List ℕ). firstCall (drop at l) ∷ callsIn r) (drop-drop 4 at l ∙ go (decLe (at + 4) (length l)) ∙ ap (λ (n : ℕ). drop n l) (sym e)) where
+      go : Dec (at + 4 ≤ length l) → drop (at + 4) l ≡ drop (min (at + 4) (length l)) l
+      go (yes k) = ap (λ (n : ℕ). drop n l) (sym (min-eq-left k))
+      go (no k) =
+          let w : length l ≤ at + 4 = omega (arith, lt-of-not-le k) in
+          drop-of-length-le l w ∙ sym (drop-of-length-le l (le-of-eq (sym (min-eq-right w))))
 
-  pub turn-after : after b (callsIn (drop at l)) ≡ after (r .builders) (callsIn (drop (at + 4) l))
-  unfolding after
-  turn-after =
-      ap (after b) now-called ∙ ap (λ (s : Handed Builders). after (s .builder) (callsIn (drop (at + 4) l))) (sym f)
-
-  pub turn-numbers : (n : ℕ) (m m′ : List ℕ) (i : ℕ) → n ≡ steppedTold r .number → m′ ≡ set m i n
-      → sets m i (numbers b (callsIn (drop at l))) ≡ sets m′ (i + 1) (numbers (r .builders) (callsIn (drop (at + 4) l)))
-  unfolding numbers
-  turn-numbers n m m′ i g q =
-      let s : i + 1 ≡ suc i = omega arith in
-      ap (λ (ks : List Call). sets m i (numbers b ks)) now-called
-      ∙ ap (λ (x : Handed Builders). sets (set m i (x .number)) (suc i) (numbers (x .builder) (callsIn (drop (at + 4) l)))) (sym f)
-      ∙ ap (λ (x : ℕ). sets (set m i x) (suc i) (numbers (r .builders) (callsIn (drop (at + 4) l)))) (sym g)
-      ∙ ap (λ (x : List ℕ). sets x (suc i) (numbers (r .builders) (callsIn (drop (at + 4) l)))) (sym q)
-      ∙ ap (λ (j : ℕ). sets m′ j (numbers (r .builders) (callsIn (drop (at + 4) l)))) (sym s)
+pub calls-none : (l : List ℕ) (at : ℕ) → length l ≤ at → callsIn (drop at l) ≡ []
+unfolding callsIn
+calls-none l at h = ap callsIn (drop-of-length-le l h)

@@ -1,9 +1,10 @@
--- Lists of builder calls, each of which gets what the last handed back: document 01, 'The hundred bytes', second paragraph.
+-- Builder calls as bytes, and calls on one snippet, one frame and one sequence under construction: document 01, 'The hundred bytes',
+-- second paragraph, "Each call gets what the last handed back".
 use Prim.Native.Nat.{ℕ, _+_, _*_}
-use mathlib.Core.Bool.{true, false}
+use mathlib.Core.Bool.{true, false, cond}
 use mathlib.Core.List.{List, [], _∷_}
+use lib.Dec.{ltb}
 use lib.ListN.{getD}
-use Rattle.errors.specs.Number.{answerNumber}
 use Rattle.errors.specs.Told.{Told, gives, refuses, Handed, accepted, refused}
 use Rattle.snippet.specs.declared.SnippetBuilder.{SnippetBuilder}
 use Rattle.snippet.specs.Point.{point}
@@ -14,92 +15,114 @@ use Rattle.frame.specs.Frame.{builtFrame}
 use Rattle.frame.specs.Read.{gainAt, timebaseAt}
 use Rattle.sequence.specs.declared.SequenceBuilder.{SequenceBuilder}
 use Rattle.sequence.specs.Sequence.{newSequence, withFrame}
+use Rattle.calls.specs.declared.FieldCall.{FieldCall}
+use Rattle.calls.specs.declared.FieldCall.the-variants as Field
+use Rattle.calls.specs.declared.BuilderCall.{BuilderCall}
+use Rattle.calls.specs.declared.BuilderCall.the-variants as Builder
 use Rattle.calls.specs.declared.Call.{Call}
 use Rattle.calls.specs.declared.Call.the-variants as Call
+use Rattle.calls.specs.declared.UnderWay.{UnderWay}
+use Rattle.calls.specs.declared.UnderWay.the-variants as UnderWay
 use Rattle.calls.specs.declared.Builders.{Builders}
 use Rattle.calls.specs.declared.Stepped.{Stepped}
-
--- ---- one call
-
--- a call on one of the three builders leaves the other two
-abbrev pub onSnippet : Builders → Handed SnippetBuilder → Handed Builders
-onSnippet b s = record { number = s .number; builder = record { snippet = s .builder; frame = b .frame; sequence = b .sequence } }
-
-abbrev pub onFrame : Builders → Handed FrameBuilder → Handed Builders
-onFrame b s = record { number = s .number; builder = record { snippet = b .snippet; frame = s .builder; sequence = b .sequence } }
-
-abbrev pub onSequence : Builders → Handed SequenceBuilder → Handed Builders
-onSequence b s = record { number = s .number; builder = record { snippet = b .snippet; frame = b .frame; sequence = s .builder } }
-
--- a frame begun anew, or the one before if that is refused
-abbrev pub begun : Builders → Told FrameBuilder → Handed Builders
-begun b (gives f) = onFrame b (accepted f)
-begun b (refuses n) = refused n b
-
--- the call's number, and the builders after it
-abbrev pub called : Builders → Call → Handed Builders
-called b Call.SnippetNew = onSnippet b (accepted newSnippet)
-called b (Call.Ramp t a) = onSnippet b (withMade (b .snippet) (point true t a))
-called b (Call.Step t a) = onSnippet b (withMade (b .snippet) (point false t a))
-called b (Call.Point byte) = onSnippet b (withPoint (b .snippet) (pointOf byte))
-called b (Call.FrameNew n) = begun b (newFrame n)
-called b Call.Silence = onFrame b (accepted silentFrame)
-called b (Call.Gain g) = onFrame b (accepted (withGain (b .frame) (gainAt g)))
-called b (Call.Timebase t) = onFrame b (accepted (withTimebase (b .frame) (timebaseAt t)))
-called b (Call.LoopCount k) = onFrame b (withLoopCount (b .frame) k)
-called b (Call.FrequencyHz f) = onFrame b (withFrequency (b .frame) f)
-called b Call.SequenceNew = onSequence b (accepted newSequence)
-called b Call.AddFrame = onSequence b (withFrame (b .sequence) (builtFrame (b .frame)))
-called b Call.Nothing = accepted b
-
-abbrev pub steppedTold : Stepped → Handed Builders
-steppedTold r = record { number = answerNumber (r .answer); builder = r .builders }
-
--- ---- a list of calls
-
-abbrev pub started : Builders
-started = record { snippet = newSnippet; frame = silentFrame; sequence = newSequence }
-
--- the builders after the calls, and the calls' numbers
-unfoldable pub after : Builders → List Call → Builders
-after b [] = b
-after b (k ∷ ks) = after (called b k .builder) ks
-
-unfoldable pub numbers : Builders → List Call → List ℕ
-numbers b [] = []
-numbers b (k ∷ ks) = called b k .number ∷ numbers (called b k .builder) ks
 
 -- ---- calls as bytes
 
 -- the calls by their codes, from 0; a and b are the two bytes that follow the code
-abbrev pub codes : ℕ → ℕ → List Call
-codes a b =
-    Call.Nothing
-    ∷ Call.SnippetNew
-    ∷ Call.Ramp a b
-    ∷ Call.Step a b
-    ∷ Call.Point a
-    ∷ Call.FrameNew a
-    ∷ Call.Silence
-    ∷ Call.Gain a
-    ∷ Call.Timebase a
-    ∷ Call.LoopCount a
-    ∷ Call.FrequencyHz (a + b * 256)
-    ∷ Call.SequenceNew
-    ∷ Call.AddFrame
+abbrev pub callsByCode : ℕ → ℕ → List Call
+callsByCode a b =
+    Call.Unknown
+    ∷ Call.Builder Builder.SnippetNew
+    ∷ Call.Builder (Builder.Ramp a b)
+    ∷ Call.Builder (Builder.Step a b)
+    ∷ Call.Builder (Builder.Point a)
+    ∷ Call.Builder (Builder.FrameNew a)
+    ∷ Call.Builder Builder.Silence
+    ∷ Call.Builder (Builder.Set (Field.Gain a))
+    ∷ Call.Builder (Builder.Set (Field.Timebase a))
+    ∷ Call.Builder (Builder.Set (Field.LoopCount a))
+    ∷ Call.Builder (Builder.Set (Field.FrequencyHz (a + b * 256)))
+    ∷ Call.Builder Builder.SequenceNew
+    ∷ Call.Builder Builder.AddFrame
+    ∷ Call.AddSnippet
+    ∷ Call.AddSequence
     ∷ []
 
--- any other code is no call
+-- any other code says no call
 abbrev pub callAt : ℕ → ℕ → ℕ → Call
-callAt code a b = getD (codes a b) code Call.Nothing
+callAt code a b = getD (callsByCode a b) code Call.Unknown
 
--- records of four bytes, the last of which says nothing; a shorter last record says nothing
-abbrev pub inFours : {K : Type 0} → (ℕ → ℕ → ℕ → K) → List ℕ → List K
-inFours call [] = []
-inFours call (code ∷ []) = []
-inFours call (code ∷ a ∷ []) = []
-inFours call (code ∷ a ∷ b ∷ []) = []
-inFours call (code ∷ a ∷ b ∷ last ∷ r) = call code a b ∷ inFours call r
+-- the first record of four bytes, the last of which says nothing; a shorter record says no call
+abbrev pub firstCall : List ℕ → Call
+firstCall [] = Call.Unknown
+firstCall (code ∷ []) = Call.Unknown
+firstCall (code ∷ a ∷ []) = Call.Unknown
+firstCall (code ∷ a ∷ b ∷ []) = Call.Unknown
+firstCall (code ∷ a ∷ b ∷ last ∷ r) = callAt code a b
 
+-- a list of calls: records one after the other, a shorter last one among them
 unfoldable pub callsIn : List ℕ → List Call
-callsIn bytes = inFours callAt bytes
+callsIn [] = []
+callsIn (code ∷ []) = Call.Unknown ∷ []
+callsIn (code ∷ a ∷ []) = Call.Unknown ∷ []
+callsIn (code ∷ a ∷ b ∷ []) = Call.Unknown ∷ []
+callsIn (code ∷ a ∷ b ∷ last ∷ r) = callAt code a b ∷ callsIn r
+
+-- ---- one call on the three builders
+
+-- no frame is begun
+abbrev pub started : Builders
+started = record { snippet = newSnippet; frame = UnderWay.NotBegun; sequence = newSequence }
+
+-- a call on one of the three leaves the other two
+abbrev pub onSnippet : Builders → Handed SnippetBuilder → Handed Builders
+onSnippet b s = record { number = s .number; builder = record { snippet = s .builder; frame = b .frame; sequence = b .sequence } }
+
+abbrev pub onFrame : Builders → ℕ → UnderWay → Handed Builders
+onFrame b n f = record { number = n; builder = record { snippet = b .snippet; frame = f; sequence = b .sequence } }
+
+abbrev pub onSequence : Builders → Handed SequenceBuilder → Handed Builders
+onSequence b s = record { number = s .number; builder = record { snippet = b .snippet; frame = b .frame; sequence = s .builder } }
+
+-- `new` begins a frame; where it is refused none is begun
+abbrev pub begins : Builders → Told FrameBuilder → Handed Builders
+begins b (gives f) = onFrame b 0 (UnderWay.Begun f)
+begins b (refuses n) = onFrame b n UnderWay.NotBegun
+
+abbrev pub withField : FrameBuilder → FieldCall → Handed FrameBuilder
+withField f (Field.Gain g) = accepted (withGain f (gainAt g))
+withField f (Field.Timebase t) = accepted (withTimebase f (timebaseAt t))
+withField f (Field.LoopCount k) = withLoopCount f k
+withField f (Field.FrequencyHz h) = withFrequency f h
+
+-- a frame that is not begun is refused with 3, as `new` of number 0 is
+abbrev pub sets : Builders → FieldCall → UnderWay → Handed Builders
+sets b k UnderWay.NotBegun = refused 3 b
+sets b k (UnderWay.Begun f) = onFrame b (withField f k .number) (UnderWay.Begun (withField f k .builder))
+
+-- a frame that was accepted is used up
+abbrev pub uses : Builders → Handed SequenceBuilder → Handed Builders
+uses b s =
+    record {
+      number = s .number;
+      builder = record { snippet = b .snippet; frame = cond (ltb 0 (s .number)) (b .frame) UnderWay.NotBegun; sequence = s .builder };
+    }
+
+abbrev pub adds : Builders → UnderWay → Handed Builders
+adds b UnderWay.NotBegun = refused 3 b
+adds b (UnderWay.Begun f) = uses b (withFrame (b .sequence) (builtFrame f))
+
+-- the call's number, and the builders after it
+abbrev pub called : Builders → BuilderCall → Handed Builders
+called b Builder.SnippetNew = onSnippet b (accepted newSnippet)
+called b (Builder.Ramp t a) = onSnippet b (withMade (b .snippet) (point true t a))
+called b (Builder.Step t a) = onSnippet b (withMade (b .snippet) (point false t a))
+called b (Builder.Point byte) = onSnippet b (withPoint (b .snippet) (pointOf byte))
+called b (Builder.FrameNew n) = begins b (newFrame n)
+called b Builder.Silence = begins b (gives silentFrame)
+called b (Builder.Set k) = sets b k (b .frame)
+called b Builder.SequenceNew = onSequence b (accepted newSequence)
+called b Builder.AddFrame = adds b (b .frame)
+
+abbrev pub steppedTold : Stepped → Handed Builders
+steppedTold r = record { number = r .number; builder = r .builders }

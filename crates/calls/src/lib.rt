@@ -1,17 +1,18 @@
-// Lists of builder calls (added; no Rust file): the form in which builder calls cross the boundary, with an answer for each.
-// Document 01, 'The hundred bytes': each call gets what the last handed back; a refused call adds nothing.
-// Proved: `run` answers every call by its number and leaves the builders that specs/Calls.antt says, for any bytes and any buffer.
-// The calls that add to a memory are in `assemble`.
+// Builder calls (added; no Rust file): the form in which they cross the boundary, and calls on one snippet, one frame and one sequence
+// under construction. Document 01, 'The hundred bytes': each call gets what the last handed back; a refused call adds nothing.
+// A frame is begun or not: `new` or `silence` begins it, a refused `new` leaves none, an accepted `add_frame` uses it up.
+// Proved: `read` gives the call that the bytes say, `apply` the number and the builders that specs/Calls.antt says, for any bytes and
+// builders. Lists of calls, and those that add to a memory, are run in `assemble`.
 ghost use mathlib.Core.Path.{_≡_};
 ghost use Prim.Native.Nat.{_+_, _*_};
-ghost use lib.ListN.{set};
-ghost use Rattle.laws.specs.Copied.{copied};
-ghost use Rattle.errors.specs.Number.{answerNumber};
+ghost use lib.ListN.{drop};
+ghost use Rattle.errors.specs.Told.{accepted, refused};
 ghost use Rattle.snippet.specs.Snippet as snippet;
 ghost use Rattle.frame.specs.Builder as frame;
 ghost use Rattle.sequence.specs.Sequence as sequence;
-ghost use Rattle.calls.specs.Calls.{callAt, callsIn, onSnippet, onFrame, onSequence, begun, called, steppedTold, started, after, numbers};
+ghost use Rattle.calls.specs.Calls.{callAt, firstCall, started, onSnippet, onFrame, onSequence, begins, withField, sets, uses, adds, called, steppedTold};
 use errors::Answer;
+use errors::Error;
 use frame::FrameBuilder;
 use frame::NewFrame;
 use frame::SetFrame;
@@ -21,110 +22,134 @@ use snippet::AddedPoint;
 use snippet::PwlPoint;
 use snippet::SnippetBuilder;
 
-pub enum Call {
+// Sets a field of the frame.
+pub enum FieldCall {
+    Gain(u8),
+    Timebase(u8),
+    LoopCount(u8),
+    FrequencyHz(u16),
+}
+
+// A call on the snippet, the frame or the sequence under construction.
+pub enum BuilderCall {
     SnippetNew,
     Ramp(u8, u8),
     Step(u8, u8),
     Point(u8),
     FrameNew(u8),
     Silence,
-    Gain(u8),
-    Timebase(u8),
-    LoopCount(u8),
-    FrequencyHz(u16),
+    Set(FieldCall),
     SequenceNew,
     AddFrame,
-    Nothing,
+}
+
+// A record of a list: a call on the three builders, one that adds to a memory, or none.
+pub enum Call {
+    Builder(BuilderCall),
+    AddSnippet,
+    AddSequence,
+    Unknown,
+}
+
+// The frame under construction.
+pub enum UnderWay {
+    NotBegun,
+    Begun(FrameBuilder),
 }
 
 // A snippet, a frame and a sequence under construction.
 pub struct Builders {
     pub snippet: SnippetBuilder,
-    pub frame: FrameBuilder,
+    pub frame: UnderWay,
     pub sequence: SequenceBuilder,
 }
 
-// What a call answers, with the builders to go on with.
+// What a call answers, 0 or the number of its refusal, with the builders to go on with.
 pub struct Stepped {
-    pub answer: Answer,
+    pub number: u8,
     pub builders: Builders,
 }
 
 impl Call {
+    // The call of the record that begins at an index.
+    pub fn read(calls: &[u8], at: usize) -> Call
+        ensures { λ r. ⌜ r ≡ firstCall (drop at (now (calls .entry))) ⌝ }
+    {
+        if calls.len() <= at {
+            return Call::Unknown;
+        }
+        if calls.len() - at < 4 {
+            return Call::Unknown;
+        }
+        Call::decode(calls[at], calls[at + 1], calls[at + 2])
+    }
+
     // The call that a code and two bytes say.
-    pub fn decode(code: u8, a: u8, b: u8) -> Call
+    fn decode(code: u8, a: u8, b: u8) -> Call
         ensures { λ r. ⌜ r ≡ callAt code a b ⌝ }
     {
         match code {
-            0 => Call::Nothing,
-            1 => Call::SnippetNew,
-            2 => Call::Ramp(a, b),
-            3 => Call::Step(a, b),
-            4 => Call::Point(a),
-            5 => Call::FrameNew(a),
-            6 => Call::Silence,
-            7 => Call::Gain(a),
-            8 => Call::Timebase(a),
-            9 => Call::LoopCount(a),
-            10 => Call::FrequencyHz(wide(a, b)),
-            11 => Call::SequenceNew,
-            12 => Call::AddFrame,
-            _ => Call::Nothing,
+            0 => Call::Unknown,
+            1 => Call::Builder(BuilderCall::SnippetNew),
+            2 => Call::Builder(BuilderCall::Ramp(a, b)),
+            3 => Call::Builder(BuilderCall::Step(a, b)),
+            4 => Call::Builder(BuilderCall::Point(a)),
+            5 => Call::Builder(BuilderCall::FrameNew(a)),
+            6 => Call::Builder(BuilderCall::Silence),
+            7 => Call::Builder(BuilderCall::Set(FieldCall::Gain(a))),
+            8 => Call::Builder(BuilderCall::Set(FieldCall::Timebase(a))),
+            9 => Call::Builder(BuilderCall::Set(FieldCall::LoopCount(a))),
+            10 => Call::Builder(BuilderCall::Set(FieldCall::FrequencyHz(wide(a, b)))),
+            11 => Call::Builder(BuilderCall::SequenceNew),
+            12 => Call::Builder(BuilderCall::AddFrame),
+            13 => Call::AddSnippet,
+            14 => Call::AddSequence,
+            _ => Call::Unknown,
         }
     }
 }
 
 impl Builders {
+    // An empty snippet, no frame and an empty sequence.
     pub fn new() -> Builders
         ensures { λ r. ⌜ r ≡ started ⌝ }
     {
         let s = SnippetBuilder::new();
-        let f = FrameBuilder::silence();
         let q = SequenceBuilder::new();
         Builders {
             snippet: s,
-            frame: f,
+            frame: UnderWay::NotBegun,
             sequence: q,
         }
     }
 
-    pub fn apply(self, call: Call) -> Stepped
+    // Makes one call.
+    pub fn apply(self, call: BuilderCall) -> Stepped
         ensures { λ r. ⌜ steppedTold r ≡ called self call ⌝ }
     {
         let s = self.snippet;
-        let f = self.frame;
-        let q = self.sequence;
         match call {
-            Call::SnippetNew => {
+            BuilderCall::SnippetNew => {
                 let n = SnippetBuilder::new();
                 self.with_snippet(AddedPoint {
                     answer: Answer::Done,
                     builder: n,
                 })
             }
-            Call::Ramp(t, a) => self.with_snippet(s.ramp(t, a)),
-            Call::Step(t, a) => self.with_snippet(s.step(t, a)),
-            Call::Point(b) => self.with_snippet(s.point(PwlPoint::from_byte(b))),
-            Call::FrameNew(n) => self.begun(FrameBuilder::new(n)),
-            Call::Silence => self.with_frame(Answer::Done, FrameBuilder::silence()),
-            Call::Gain(g) => self.with_frame(Answer::Done, f.gain(frame::Gain::from_code(g))),
-            Call::Timebase(t) => {
-                self.with_frame(Answer::Done, f.timebase(frame::Timebase::from_code(t)))
-            }
-            Call::LoopCount(n) => self.set(f.loop_count(n)),
-            Call::FrequencyHz(h) => self.set(f.frequency_hz(h)),
-            Call::SequenceNew => {
+            BuilderCall::Ramp(t, a) => self.with_snippet(s.ramp(t, a)),
+            BuilderCall::Step(t, a) => self.with_snippet(s.step(t, a)),
+            BuilderCall::Point(b) => self.with_snippet(s.point(PwlPoint::from_byte(b))),
+            BuilderCall::FrameNew(n) => self.begin(FrameBuilder::new(n)),
+            BuilderCall::Silence => self.begin(NewFrame::Builder(FrameBuilder::silence())),
+            BuilderCall::Set(k) => self.set(k),
+            BuilderCall::SequenceNew => {
                 let n = SequenceBuilder::new();
                 self.with_sequence(AddedFrame {
                     answer: Answer::Done,
                     builder: n,
                 })
             }
-            Call::AddFrame => self.with_sequence(q.add_frame(f.build())),
-            Call::Nothing => Stepped {
-                answer: Answer::Done,
-                builders: self,
-            },
+            BuilderCall::AddFrame => self.add_frame(),
         }
     }
 
@@ -141,13 +166,13 @@ impl Builders {
             sequence: q,
         };
         Stepped {
-            answer: a,
+            number: a.number(),
             builders: b,
         }
     }
 
-    fn with_frame(self, answer: Answer, f: FrameBuilder) -> Stepped
-        ensures { λ x. ⌜ steppedTold x ≡ onFrame self (record { number = answerNumber answer; builder = f }) ⌝ }
+    fn with_frame(self, number: u8, f: UnderWay) -> Stepped
+        ensures { λ x. ⌜ steppedTold x ≡ onFrame self number f ⌝ }
     {
         let s = self.snippet;
         let q = self.sequence;
@@ -157,28 +182,8 @@ impl Builders {
             sequence: q,
         };
         Stepped {
-            answer: answer,
+            number: number,
             builders: b,
-        }
-    }
-
-    fn set(self, r: SetFrame) -> Stepped
-        ensures { λ x. ⌜ steppedTold x ≡ onFrame self (frame.setTold r) ⌝ }
-    {
-        let a = r.answer;
-        let f = r.builder;
-        self.with_frame(a, f)
-    }
-
-    fn begun(self, r: NewFrame) -> Stepped
-        ensures { λ x. ⌜ steppedTold x ≡ begun self (frame.newTold r) ⌝ }
-    {
-        match r {
-            NewFrame::Builder(f) => self.with_frame(Answer::Done, f),
-            NewFrame::Refused(e) => Stepped {
-                answer: Answer::Refused(e),
-                builders: self,
-            },
         }
     }
 
@@ -195,9 +200,97 @@ impl Builders {
             sequence: q,
         };
         Stepped {
-            answer: a,
+            number: a.number(),
             builders: b,
         }
+    }
+
+    fn begin(self, r: NewFrame) -> Stepped
+        ensures { λ x. ⌜ steppedTold x ≡ begins self (frame.newTold r) ⌝ }
+    {
+        match r {
+            NewFrame::Builder(f) => self.with_frame(0, UnderWay::Begun(f)),
+            NewFrame::Refused(e) => self.with_frame(e.number(), UnderWay::NotBegun),
+        }
+    }
+
+    // The builders as they are, where no frame is begun.
+    fn not_begun(self) -> Stepped
+        ensures { λ x. ⌜ steppedTold x ≡ refused 3 self ⌝ }
+    {
+        Stepped {
+            number: Error::InvalidSnippetId.number(),
+            builders: self,
+        }
+    }
+
+    fn set(self, call: FieldCall) -> Stepped
+        ensures { λ x. ⌜ steppedTold x ≡ sets self call (self .frame) ⌝ }
+    {
+        let f = self.frame;
+        match f {
+            UnderWay::NotBegun => self.not_begun(),
+            UnderWay::Begun(b) => {
+                let r = with_field(b, call);
+                let a = r.answer;
+                let g = r.builder;
+                self.with_frame(a.number(), UnderWay::Begun(g))
+            }
+        }
+    }
+
+    // Adds the frame to the sequence.
+    fn add_frame(self) -> Stepped
+        ensures { λ x. ⌜ steppedTold x ≡ adds self (self .frame) ⌝ }
+    {
+        let f = self.frame;
+        let q = self.sequence;
+        match f {
+            UnderWay::NotBegun => self.not_begun(),
+            UnderWay::Begun(b) => self.used(q.add_frame(b.build())),
+        }
+    }
+
+    // A frame that was accepted is used up.
+    fn used(self, r: AddedFrame) -> Stepped
+        ensures { λ x. ⌜ steppedTold x ≡ uses self (sequence.addedTold r) ⌝ }
+    {
+        let a = r.answer;
+        let n = a.number();
+        if 0 < n {
+            return self.with_sequence(r);
+        }
+        let s = self.snippet;
+        let q = r.builder;
+        let b = Builders {
+            snippet: s,
+            frame: UnderWay::NotBegun,
+            sequence: q,
+        };
+        Stepped {
+            number: n,
+            builders: b,
+        }
+    }
+}
+
+fn with_field(f: FrameBuilder, call: FieldCall) -> SetFrame
+    ensures { λ r. ⌜ frame.setTold r ≡ withField f call ⌝ }
+{
+    match call {
+        FieldCall::Gain(g) => done(f.gain(frame::Gain::from_code(g))),
+        FieldCall::Timebase(t) => done(f.timebase(frame::Timebase::from_code(t))),
+        FieldCall::LoopCount(n) => f.loop_count(n),
+        FieldCall::FrequencyHz(h) => f.frequency_hz(h),
+    }
+}
+
+fn done(f: FrameBuilder) -> SetFrame
+    ensures { λ r. ⌜ frame.setTold r ≡ accepted f ⌝ }
+{
+    SetFrame {
+        answer: Answer::Done,
+        builder: f,
     }
 }
 
@@ -205,34 +298,4 @@ fn wide(low: u8, high: u8) -> u16
     ensures { λ r. ⌜ r ≡ low + high * 256 ⌝ }
 {
     (low as u16) + (high as u16) * 256
-}
-
-// Stores at an index, if there is such a byte.
-pub fn put(answers: &mut [u8], i: usize, x: u8)
-    ensures { λ _. ⌜ now (answers .exit) ≡ set (now (answers .entry)) i x ⌝ }
-{
-    if answers.len() <= i {
-        return;
-    }
-    answers[i] = x;
-}
-
-// Runs the calls on new builders; the answers go to the front of the buffer, as many as fit.
-pub fn run(calls: &[u8], answers: &mut [u8]) -> Builders
-    ensures { λ r. ⌜ r ≡ after started (callsIn (now (calls .entry))) ⌝ }
-    ensures { λ _. ⌜ now (answers .exit) ≡ copied (now (answers .entry)) (numbers started (callsIn (now (calls .entry)))) ⌝ }
-{
-    let mut b = Builders::new();
-    let mut at = 0usize;
-    let mut i = 0usize;
-    while calls.len() - at >= 4 {
-        let call = Call::decode(calls[at], calls[at + 1], calls[at + 2]);
-        let r = b.apply(call);
-        b = r.builders;
-        let a = r.answer;
-        put(answers, i, a.number());
-        at += 4;
-        i += 1;
-    }
-    b
 }

@@ -1,13 +1,14 @@
--- Lists that show a part of an array.
+-- Lists that show a part of an array, and lists of bytes.
 -- Assumes nothing.
 use mathlib.Core.Path.{_≡_, ap, sym, _∙_}
-use mathlib.Core.List.{List, map}
-use Prim.Native.Nat.{ℕ, _≤_, min}
+use mathlib.Core.List.{List, [], _∷_, map}
+use Prim.Native.Nat.{ℕ, suc, _≤_, _<_, min}
 use native.Mathlib.Decide.{decLe}
 use native.Mathlib.Nat.{min-eq-left, min-eq-right}
 use native.Mathlib.Omega.{arith}
-use lib.ListN.{length, take, length-map, length-take}
+use lib.ListN.{length, take, getD, length-map, length-take}
 use lib.Seq.{take-all, take-length}
+use Rattle.laws.specs.Bytes.{Bytes}
 
 -- a list shows no more than its length
 pub take-shown : {A : Type 0} (l : List A) (n k : ℕ) → k ≡ min n (length l) → take k l ≡ take n l
@@ -32,3 +33,8 @@ module _ {A : Type 0} (l : List A) (k n : ℕ) (e : n ≡ length (take k l)) whe
 -- what is known of a field that is an array of structs stands at a `map` of it
 pub length-of-map : (X Y : Type 0) (f : X → Y) (l : List X) (n : ℕ) → length (map f l) ≡ n → length l ≡ n
 length-of-map X Y f l n e = sym (length-map l f) ∙ e
+
+-- what is below 256 everywhere is a list of bytes
+pub bytes-of : (l : List ℕ) → ((i : ℕ) → getD l i 0 < 256) → Bytes l
+bytes-of [] h = tt
+bytes-of (b ∷ l) h = (h 0, bytes-of l (λ i. h (suc i)))

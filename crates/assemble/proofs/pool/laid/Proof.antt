@@ -10,7 +10,7 @@ returns : tie.Need-returns
 returns c =
     let b = c .before .before .before .before .before .before .before .before .before .before .before .before .before .before .before .before in
     let p = c .before .before .before .before .before .before .before .before .before .before .pointers .ensures in
-    laid-over (now (b .args .«snippet-lens»)) (now (b .args .«sequence-lens»)) (now (b .args .snippets)) (now (b .args .sequences)) (b .pre .0)
+    laid-over (now (b .args .«snippet-lens»)) (now (b .args .«sequence-lens»)) (now (b .args .snippets)) (now (b .args .sequences)) (b .pre .size)
     _ _ _ _ _ (p .0) (p .1) (c .before .before .before .before .before .before .before .pointers2 .ensures .1) (c .before .before .before .before .put .ensures) (c .before .put2 .ensures)
 
 pub laid-spec : {M : Type 1} → statement M

@@ -8,8 +8,8 @@ use native.Mathlib.Omega.{arith}
 use denote.Ref.{now}
 use lib.ListN.{length, drop, set, length-set}
 use lib.Seq.{sets, sets-eq}
-use Rattle.assemble.specs.Kept.{total, ends}
-use Rattle.assemble.proofs.Lists.{total-next, total-done, ends-next, ends-done, ends-length}
+use Rattle.assemble.specs.Kept.{sumOf, ends}
+use Rattle.assemble.proofs.Lists.{sumOf-next, sumOf-done, ends-next, ends-done, ends-length}
 use Rattle.assemble.proofs.pool.pointers.Statement.{statement}
 use Rattle.assemble.proofs.pool.pointers.Tie as tie
 
@@ -17,7 +17,7 @@ abbrev Inv-loop : tie.InvT-loop
 Inv-loop out₀ at lens before last₀ i₀ out last i =
     (i ≤ length lens)
     × (length out ≡ length out₀)
-    × (last + total (drop i lens) ≡ before + total lens)
+    × (last + sumOf (drop i lens) ≡ before + sumOf lens)
     × (sets out₀ at (ends before lens) ≡ sets out (at + i) (ends last (drop i lens)))
 
 abbrev μ-loop : tie.MeasureT-loop
@@ -32,7 +32,7 @@ cast-out : tie.Need-cast-out Inv-loop μ-loop
 cast-out c =
     let l = c .before .before .before .loop in
     let b = c .before .before .before .before .before .before in
-    omega (arith, total-next (now (b .args .lens)) (l .i) (c .before .before .loop-test .taken), c .wide .ensures .0, l .inv .2, b .pre .2)
+    omega (arith, sumOf-next (now (b .args .lens)) (l .i) (c .before .before .loop-test .taken), c .wide .ensures .0, l .inv .2, b .pre .2)
 
 loop-again : tie.Need-loop-again Inv-loop μ-loop
 loop-again c =
@@ -43,7 +43,7 @@ loop-again c =
     let w = c .wide .ensures in (
       omega (arith, h),
       length-set (l .out) (a .at + l .i) _ ∙ l .inv .1,
-      omega (arith, total-next bytes (l .i) h, w .0, l .inv .2),
+      omega (arith, sumOf-next bytes (l .i) h, w .0, l .inv .2),
       l .inv .3 ∙ ends-next bytes (l .out) (a .at) (l .i) (l .last) h ∙ ap (λ (x : ℕ). sets (set (l .out) (a .at + l .i) (l .last + x)) (a .at + (l .i + 1)) (ends (l .last + x) (drop (l .i + 1) bytes))) (sym (w .0)),
     )
 
@@ -54,7 +54,7 @@ returns c =
     let bytes : List ℕ = now (b .args .lens) in
     let h = c .loop-test .left in
     let n = ends-length bytes (b .args .before) in (
-      omega (arith, total-done bytes (l .i) h, l .inv .2),
+      omega (arith, sumOf-done bytes (l .i) h, l .inv .2),
       sym (sym (sets-eq (ends (b .args .before) bytes) (now (b .args .out)) (b .args .at) (omega (arith, n, b .pre .0, b .pre .1))) ∙ l .inv .3 ∙ ends-done bytes (l .out) (b .args .at + l .i) (l .i) (l .last) h),
     )
 

@@ -5,13 +5,13 @@ use Prim.Native.Nat.{_+_, _-_, _*_, _≤_}
 use native.Mathlib.Omega.{arith}
 use denote.Ref.{now}
 use lib.ListN.{length, drop}
-use Rattle.assemble.specs.Kept.{total}
-use Rattle.assemble.proofs.Lists.{total-next, total-done}
+use Rattle.assemble.specs.Kept.{sumOf}
+use Rattle.assemble.proofs.Lists.{sumOf-next, sumOf-done}
 use Rattle.assemble.proofs.pool.sum.Statement.{statement}
 use Rattle.assemble.proofs.pool.sum.Tie as tie
 
 abbrev Inv-loop : tie.InvT-loop
-Inv-loop lens sum₀ i₀ sum i = (i ≤ length lens) × (sum + total (drop i lens) ≡ total lens) × (sum ≤ 255 * i)
+Inv-loop lens sum₀ i₀ sum i = (i ≤ length lens) × (sum + sumOf (drop i lens) ≡ sumOf lens) × (sum ≤ 255 * i)
 
 abbrev μ-loop : tie.MeasureT-loop
 μ-loop lens sum₀ i₀ sum i = length lens - i
@@ -19,7 +19,7 @@ abbrev μ-loop : tie.MeasureT-loop
 loop-again : tie.Need-loop-again Inv-loop μ-loop
 loop-again c =
     let l = c .before .before .before .loop in
-    let t = total-next (now (c .before .before .before .before .before .args .lens)) (l .i) (c .before .before .loop-test .taken) in
+    let t = sumOf-next (now (c .before .before .before .before .before .args .lens)) (l .i) (c .before .before .loop-test .taken) in
     let w = c .wide .ensures in
     (omega (arith, c .before .before .loop-test .taken), omega (arith, t, w .0, l .inv .1), omega (arith, w .1, l .inv .2))
 
@@ -27,7 +27,7 @@ returns : tie.Need-returns Inv-loop μ-loop
 returns c =
     let l = c .before .loop in
     let a = c .before .before .before .args in
-    (omega (arith, total-done (now (a .lens)) (l .i) (c .loop-test .left), l .inv .1), omega (arith, c .before .before .before .pre, l .inv .0, l .inv .2))
+    (omega (arith, sumOf-done (now (a .lens)) (l .i) (c .loop-test .left), l .inv .1), omega (arith, c .before .before .before .pre, l .inv .0, l .inv .2))
 
 pub sum-spec : {M : Type 1} → statement M
 sum-spec =

@@ -2,8 +2,8 @@
 use mathlib.Core.Path.{sym}
 use lib.Seq.{set-out}
 use borrow.Author.Needs.{needs}
-use Rattle.calls.proofs.put.Statement.{statement}
-use Rattle.calls.proofs.put.Tie as tie
+use Rattle.assemble.proofs.put.Statement.{statement}
+use Rattle.assemble.proofs.put.Tie as tie
 
 returns : tie.Need-returns
 returns c = sym (set-out _ _ _ (c .if1 .taken))

@@ -1,0 +1,22 @@
+-- What the form that stops at the first refusal answers, told without its own definition: it answers 0 exactly if every call is accepted
+-- and the image is built, and otherwise the first refusal with its place.
+use Prim.Native.Nat.{ℕ, _+_, _*_, _<_, _≤_}
+use mathlib.Core.Path.{_≡_}
+use mathlib.Core.Logic.{_↔_}
+use mathlib.Core.List.{List, [], _∷_, _++_}
+use lib.ListN.{length}
+use Rattle.laws.specs.Bytes.{All}
+use Rattle.assemble.specs.Lists.{answersOf, builtOf, strictly}
+
+-- each of these answers accepts its call
+abbrev pub Accepted : List ℕ → Type 0
+Accepted answers = All (λ n. n ≡ 0) answers
+
+pub record Strict (calls : List ℕ) : Type 0 where
+  -- 0 exactly if no call is refused and an image is built
+  pub whole : (strictly calls ≡ 0) ↔ (Accepted (answersOf calls) × (builtOf calls .number ≡ 0))
+  -- where a call is refused, the first that is: its number, and 256 times its place, counted from 1
+  pub first : (before : List ℕ) (number : ℕ) (rest : List ℕ) → answersOf calls ≡ before ++ (number ∷ rest) → Accepted before → 0 < number
+      → length before < 16777215 → strictly calls ≡ number + 256 * (length before + 1)
+  -- where none is, what building answers
+  pub builds : Accepted (answersOf calls) → strictly calls ≡ builtOf calls .number
