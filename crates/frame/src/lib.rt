@@ -4,6 +4,8 @@
 // proofs/Written.antt and Reading.antt: `read` (added) undoes `build`, and reads nothing else.
 // `build` gives the frame itself, since it cannot refuse; `as_bytes` gives the array, of which the first `byte_len` are the
 // frame's; no function here takes a closure. Left out: `Default` and what the Rust derives.
+mod bits;
+
 ghost use mathlib.Core.Path.{_≡_};
 ghost use Prim.Native.Nat.{min, _%_, _+_, _≤_};
 ghost use lib.ListN.{length, drop};
@@ -271,11 +273,11 @@ impl FrameBuilder {
         let timebase = self.timebase;
         let loop_count = self.loop_count;
         let frequency = self.frequency;
-        let b1 = frame_bits::first(gain.code(), timebase.code(), id);
+        let b1 = bits::first(gain.code(), timebase.code(), id);
         match frequency {
             Frequency::Given(f) => {
-                let b2 = frame_bits::second(loop_code(loop_count), frame_bits::frequency(f), id);
-                let b3 = frame_bits::low_byte(f);
+                let b2 = bits::second(loop_code(loop_count), bits::frequency(f), id);
+                let b3 = bits::low_byte(f);
                 Frame {
                     bytes: [b1, b2, b3],
                     len: 3,
@@ -283,20 +285,20 @@ impl FrameBuilder {
             }
             Frequency::Absent => match loop_count {
                 LoopCount::Given(n) => {
-                    let b2 = frame_bits::second(n, 0, id);
+                    let b2 = bits::second(n, 0, id);
                     Frame {
                         bytes: [b1, b2, 0],
                         len: 2,
                     }
                 }
                 LoopCount::Absent => {
-                    if frame_bits::low1(id >> 3) == 0 {
+                    if bits::low1(id >> 3) == 0 {
                         Frame {
                             bytes: [b1, 0, 0],
                             len: 1,
                         }
                     } else {
-                        let b2 = frame_bits::second(0, 0, id);
+                        let b2 = bits::second(0, 0, id);
                         Frame {
                             bytes: [b1, b2, 0],
                             len: 2,
@@ -346,14 +348,14 @@ impl FrameBuilder {
             return FrameRead::Refused(Error::NotAnImage);
         }
         let a = bytes[at];
-        if 0 < frame_bits::top(a) {
+        if 0 < bits::top(a) {
             return FrameRead::Refused(Error::NotAnImage);
         }
         if bytes.len() - at < 2 {
             return FrameRead::Frame(FrameBuilder::one_byte(a), 1);
         }
         let b = bytes[at + 1];
-        if frame_bits::top(b) < 1 {
+        if bits::top(b) < 1 {
             return FrameRead::Frame(FrameBuilder::one_byte(a), 1);
         }
         FrameBuilder::read_second(bytes, at, a, b)
@@ -364,8 +366,8 @@ impl FrameBuilder {
         requires { ⌜ at + 2 ≤ length (now bytes) ⌝ }
         ensures { λ r. ⌜ readTold r ≡ secondAt (now (bytes .entry)) at a b ⌝ }
     {
-        if frame_bits::present_in(b) < 1 {
-            if frame_bits::high_in(b) < 1 {
+        if bits::present_in(b) < 1 {
+            if bits::high_in(b) < 1 {
                 return FrameRead::Frame(FrameBuilder::two_bytes(a, b), 2);
             }
             return FrameRead::Refused(Error::NotAnImage);
@@ -381,7 +383,7 @@ impl FrameBuilder {
     {
         FrameBuilder::fields(
             a,
-            frame_bits::low_number_in(a),
+            bits::low_number_in(a),
             LoopCount::Absent,
             Frequency::Absent,
         )
@@ -392,8 +394,8 @@ impl FrameBuilder {
     {
         FrameBuilder::fields(
             a,
-            frame_bits::number_in(b, a),
-            LoopCount::Given(frame_bits::count_in(b)),
+            bits::number_in(b, a),
+            LoopCount::Given(bits::count_in(b)),
             Frequency::Absent,
         )
     }
@@ -403,9 +405,9 @@ impl FrameBuilder {
     {
         FrameBuilder::fields(
             a,
-            frame_bits::number_in(b, a),
-            LoopCount::Given(frame_bits::count_in(b)),
-            Frequency::Given(frame_bits::frequency_in(b, c)),
+            bits::number_in(b, a),
+            LoopCount::Given(bits::count_in(b)),
+            Frequency::Given(bits::frequency_in(b, c)),
         )
     }
 
@@ -413,8 +415,8 @@ impl FrameBuilder {
     fn fields(a: u8, id: u8, loop_count: LoopCount, frequency: Frequency) -> FrameBuilder
         ensures { λ r. ⌜ r ≡ fieldsIn a id «loop_count» frequency ⌝ }
     {
-        let gain = Gain::from_code(frame_bits::gain_in(a));
-        let timebase = Timebase::from_code(frame_bits::timebase_in(a));
+        let gain = Gain::from_code(bits::gain_in(a));
+        let timebase = Timebase::from_code(bits::timebase_in(a));
         FrameBuilder {
             snippet_id: id,
             gain: gain,
