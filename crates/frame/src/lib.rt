@@ -1,7 +1,8 @@
 // Frames and their builder (waveform/frame.rs; document 01, 'Points, frames, sequences').
 // Proved: each function answers what specs/ says of its arguments, whatever the builder's fields hold, and a refusal hands the
 // builder back as it came in. proofs/Frames.antt: frames agree, in the words of demand 3, exactly when their bytes are the same.
-// proofs/Written.antt and Reading.antt: `read` (added) undoes `build`, and reads nothing else.
+// proofs/Written.antt and Reading.antt: `read` (added) undoes `build`, and reads nothing else. `word` (added) gives the fields as one
+// number. src/bits.rt packs and unpacks the bytes.
 // `build` gives the frame itself, since it cannot refuse; `as_bytes` gives the array, of which the first `byte_len` are the
 // frame's; no function here takes a closure. Left out: `Default` and what the Rust derives.
 mod bits;
@@ -314,7 +315,7 @@ fn loop_code(c: LoopCount) -> u8
 // ---- a frame's fields as one number (added)
 
 impl FrameBuilder {
-    // The fields as one number of 48 bits: the snippet's number in bits 7..0, the gain's code in 15..8, the timebase's in 23..16, the
+    // One number of 48 bits: the snippet's number in bits 7..0, the gain's code in 15..8, the timebase's in 23..16, the
     // loop count in 31..24 (255 if absent), the frequency in 47..32 (65535 if absent).
     pub fn word(self) -> u64
         ensures { λ r. ⌜ r ≡ frameWord self ⌝ }
