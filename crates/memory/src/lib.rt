@@ -10,7 +10,7 @@ ghost use lib.ListN.{length, take};
 ghost use Rattle.snippet.specs.Snippet.{snippetBytes};
 ghost use Rattle.sequence.specs.Sequence.{sequenceBytes};
 ghost use Rattle.memory.specs.Image.{joined, imageBytes};
-ghost use Rattle.memory.specs.Laid.{withLaid, laid};
+ghost use Rattle.memory.specs.Laid.{withLaid, laid, HasRoom, ImageFits};
 ghost use Rattle.memory.specs.Memory.{snippetItems, sequenceItems, newMemory, withSnippet, withSequence, addedTold, builtMemory, builtTold, noMemory, loaded, loadedTold};
 ghost use Rattle.memory.specs.Timebase.{timebaseBit, memoryTimebaseAt};
 use errors::Answer;
@@ -337,7 +337,7 @@ fn image_of(
     sequences: [Sequence; MAX_SEQUENCES],
     q: usize,
 ) -> [u8; MAX_MEMORY_SIZE]
-    requires { ⌜ (s ≤ 15) × (q ≤ 16) × (2 + s + q + length (joined (map snippetBytes (take s snippets))) + length (joined (map sequenceBytes (take q sequences))) ≤ 100) ⌝ }
+    requires { ⌜ ImageFits s q (map snippetBytes (take s snippets)) (map sequenceBytes (take q sequences)) ⌝ }
     ensures { λ r. ⌜ r ≡ imageBytes (map snippetBytes (take s snippets)) (map sequenceBytes (take q sequences)) ⌝ }
 {
     let mut image = [0u8; MAX_MEMORY_SIZE];
@@ -356,7 +356,7 @@ fn put_snippets(
     pointer: usize,
     at: usize,
 ) -> usize
-    requires { ⌜ (n ≤ 15) × (length (now image) ≡ 100) × (pointer + n ≤ at) × (at + length (joined (map snippetBytes (take n snippets))) ≤ 100) ⌝ }
+    requires { ⌜ HasRoom 15 n (now image) pointer at (map snippetBytes (take n snippets)) ⌝ }
     ensures { λ r. ⌜ r ≡ at + length (joined (map snippetBytes (take n snippets))) ⌝ }
     ensures { λ _. ⌜ now (image .exit) ≡ laid (now (image .entry)) pointer at (map snippetBytes (take n snippets)) ⌝ }
 {
@@ -380,7 +380,7 @@ fn put_sequences(
     pointer: usize,
     at: usize,
 ) -> usize
-    requires { ⌜ (n ≤ 16) × (length (now image) ≡ 100) × (pointer + n ≤ at) × (at + length (joined (map sequenceBytes (take n sequences))) ≤ 100) ⌝ }
+    requires { ⌜ HasRoom 16 n (now image) pointer at (map sequenceBytes (take n sequences)) ⌝ }
     ensures { λ r. ⌜ r ≡ at + length (joined (map sequenceBytes (take n sequences))) ⌝ }
     ensures { λ _. ⌜ now (image .exit) ≡ laid (now (image .entry)) pointer at (map sequenceBytes (take n sequences)) ⌝ }
 {
