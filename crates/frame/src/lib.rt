@@ -87,6 +87,7 @@ impl Gain {
         }
     }
 
+    // The code in a frame's first byte.
     pub fn code(self) -> u8
         ensures { λ r. ⌜ r ≡ gainCode self ⌝ }
     {
@@ -112,6 +113,7 @@ impl Timebase {
         }
     }
 
+    // The code in a frame's first byte.
     pub fn code(self) -> u8
         ensures { λ r. ⌜ r ≡ timebaseCode self ⌝ }
     {
@@ -125,6 +127,7 @@ impl Timebase {
 }
 
 impl Frame {
+    // How many bytes the frame has, three at most.
     pub fn byte_len(self) -> usize
         ensures { λ r. ⌜ r ≡ length (frameBytes self) ⌝ }
     {
@@ -150,6 +153,7 @@ impl Frame {
 }
 
 impl FrameBuilder {
+    // A frame of a snippet, or InvalidSnippetId for a number that is 0 or above 15.
     pub fn new(snippet_id: u8) -> NewFrame
         ensures { λ r. ⌜ newTold r ≡ newFrame «snippet_id» ⌝ }
     {
@@ -169,6 +173,7 @@ impl FrameBuilder {
         FrameBuilder::plain(0)
     }
 
+    // Sets the gain.
     pub fn gain(self, gain: Gain) -> FrameBuilder
         ensures { λ r. ⌜ r ≡ withGain self gain ⌝ }
     {
@@ -178,6 +183,7 @@ impl FrameBuilder {
         FrameBuilder::with(self.snippet_id, gain, timebase, loop_count, frequency)
     }
 
+    // Sets the timebase.
     pub fn timebase(self, timebase: Timebase) -> FrameBuilder
         ensures { λ r. ⌜ r ≡ withTimebase self timebase ⌝ }
     {
@@ -187,6 +193,7 @@ impl FrameBuilder {
         FrameBuilder::with(self.snippet_id, gain, timebase, loop_count, frequency)
     }
 
+    // Sets the loop count, or InvalidLoopCount for one above 15.
     pub fn loop_count(self, count: u8) -> SetFrame
         ensures { λ r. ⌜ setTold r ≡ withLoopCount self count ⌝ }
     {
@@ -206,6 +213,7 @@ impl FrameBuilder {
         }
     }
 
+    // Sets the frequency, or InvalidFrequency for one above 511.
     pub fn frequency_hz(self, freq_hz: u16) -> SetFrame
         ensures { λ r. ⌜ setTold r ≡ withFrequency self «freq_hz» ⌝ }
     {
@@ -225,38 +233,7 @@ impl FrameBuilder {
         }
     }
 
-    // The Rust's defaults.
-    fn plain(number: u8) -> FrameBuilder
-        ensures { λ r. ⌜ r ≡ plainFrame number ⌝ }
-    {
-        FrameBuilder::with(
-            number,
-            Gain::Full,
-            Timebase::Ms5_44,
-            LoopCount::Absent,
-            Frequency::Absent,
-        )
-    }
-
-    // A builder of its five fields.
-    fn with(
-        number: u8,
-        gain: Gain,
-        timebase: Timebase,
-        loop_count: LoopCount,
-        frequency: Frequency,
-    ) -> FrameBuilder
-        ensures { λ r. ⌜ r ≡ frameWith number gain timebase «loop_count» frequency ⌝ }
-    {
-        FrameBuilder {
-            snippet_id: number,
-            gain: gain,
-            timebase: timebase,
-            loop_count: loop_count,
-            frequency: frequency,
-        }
-    }
-
+    // The frame of the fields set so far.
     pub fn build(self) -> Frame
         ensures { λ r. ⌜ r ≡ builtFrame self ⌝ }
     {
@@ -300,6 +277,38 @@ impl FrameBuilder {
             },
         }
     }
+
+    // The Rust's defaults.
+    fn plain(number: u8) -> FrameBuilder
+        ensures { λ r. ⌜ r ≡ plainFrame number ⌝ }
+    {
+        FrameBuilder::with(
+            number,
+            Gain::Full,
+            Timebase::Ms5_44,
+            LoopCount::Absent,
+            Frequency::Absent,
+        )
+    }
+
+    // A builder of its five fields.
+    fn with(
+        number: u8,
+        gain: Gain,
+        timebase: Timebase,
+        loop_count: LoopCount,
+        frequency: Frequency,
+    ) -> FrameBuilder
+        ensures { λ r. ⌜ r ≡ frameWith number gain timebase «loop_count» frequency ⌝ }
+    {
+        FrameBuilder {
+            snippet_id: number,
+            gain: gain,
+            timebase: timebase,
+            loop_count: loop_count,
+            frequency: frequency,
+        }
+    }
 }
 
 // A loop count, 0 if absent; only its low four bits count.
@@ -334,6 +343,7 @@ impl FrameBuilder {
     }
 }
 
+// A loop count, 255 if absent.
 fn loop_byte(k: LoopCount) -> u8
     ensures { λ r. ⌜ r ≡ loopByte k ⌝ }
 {
@@ -343,6 +353,7 @@ fn loop_byte(k: LoopCount) -> u8
     }
 }
 
+// A frequency, 65535 if absent.
 fn frequency_word(f: Frequency) -> u16
     ensures { λ r. ⌜ r ≡ frequencyWord f ⌝ }
 {

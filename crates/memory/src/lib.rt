@@ -95,12 +95,14 @@ impl WaveformMemory {
         }
     }
 
+    // How many of the hundred bytes are the memory's.
     pub fn len(self) -> usize
         ensures { λ r. ⌜ r ≡ self .len ⌝ }
     {
         self.len as usize
     }
 
+    // Whether none are.
     pub fn is_empty(self) -> bool
         ensures { λ r. ⌜ r ≡ ltb (self .len) 1 ⌝ }
     {
@@ -114,12 +116,14 @@ impl WaveformMemory {
         self.data
     }
 
+    // How many snippets it holds.
     pub fn num_snippets(self) -> u8
         ensures { λ r. ⌜ r ≡ self .«num_snippets» ⌝ }
     {
         self.num_snippets
     }
 
+    // How many sequences it holds.
     pub fn num_sequences(self) -> u8
         ensures { λ r. ⌜ r ≡ self .«num_sequences» ⌝ }
     {
@@ -128,6 +132,7 @@ impl WaveformMemory {
 }
 
 impl WaveformMemoryTimebase {
+    // The bit that `set_timebase` sends.
     pub fn code(self) -> u8
         ensures { λ r. ⌜ r ≡ timebaseBit self ⌝ }
     {
@@ -137,6 +142,7 @@ impl WaveformMemoryTimebase {
         }
     }
 
+    // A code past the last counts as the last.
     pub fn from_code(code: u8) -> WaveformMemoryTimebase
         ensures { λ r. ⌜ r ≡ memoryTimebaseAt code ⌝ }
     {
@@ -148,6 +154,7 @@ impl WaveformMemoryTimebase {
 }
 
 impl WaveformMemoryBuilder {
+    // A builder that holds nothing.
     pub fn new(acceleration_enabled: bool) -> WaveformMemoryBuilder
         ensures { λ r. ⌜ r ≡ newMemory «acceleration_enabled» ⌝ }
     {
@@ -166,6 +173,7 @@ impl WaveformMemoryBuilder {
         }
     }
 
+    // Appends a snippet, or TooManySnippets for a 16th.
     pub fn add_snippet(self, snippet: Snippet) -> AddedItem
         ensures { λ r. ⌜ addedTold r ≡ withSnippet self snippet ⌝ }
     {
@@ -192,6 +200,7 @@ impl WaveformMemoryBuilder {
         least(self.num_snippets, MAX_SNIPPETS) as u8 + 1
     }
 
+    // Appends a sequence, or TooManySequences for a 17th.
     pub fn add_sequence(self, sequence: Sequence) -> AddedItem
         ensures { λ r. ⌜ addedTold r ≡ withSequence self sequence ⌝ }
     {
