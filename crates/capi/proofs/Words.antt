@@ -1,4 +1,4 @@
--- An item's answer and its buffer, where the build was refused with n and where it was not.
+-- An item where the build was refused with n, and where it was not.
 -- Assumes nothing.
 use mathlib.Core.Path.{_≡_, ap, _∙_}
 use mathlib.Core.List.{List}
@@ -6,20 +6,15 @@ use Prim.Native.Nat.{ℕ, _*_, _<_, _≤_, min}
 use lib.ListN.{length}
 use borrow.Author.Tests.{lt-ltb, le-ltb}
 use Rattle.laws.specs.Copied.{copied}
-use Rattle.capi.specs.Items.{itemWord, itemOut}
+use Rattle.errors.specs.Told.{gives, refuses, Built}
+use Rattle.capi.specs.Items.{itemFrom}
 
-module _ (n number : ℕ) (e : n ≡ number) where
-  pub refused-word : (encoded : ℕ) → 0 < n → n * 65536 ≡ itemWord number encoded
-  refused-word encoded h = simp (← e, lt-ltb _ _ h)
+module _ {I B : Type 0} (bytes : I → List ℕ) (r : Built I B) (n : ℕ) (e : n ≡ r .number) where
+  pub refused-item : 0 < n → refuses n ≡ itemFrom bytes r
+  refused-item h = simp (← e, lt-ltb _ _ h)
 
-  pub refused-out : (out bytes : List ℕ) → 0 < n → out ≡ itemOut number out bytes
-  refused-out out bytes h = simp (← e, lt-ltb _ _ h)
-
-  pub built-word : (x encoded : ℕ) → n ≤ 0 → x ≡ encoded → x ≡ itemWord number encoded
-  built-word x encoded h d = simp (← e, le-ltb _ _ h) d
-
-  pub built-out : (now out bytes : List ℕ) → n ≤ 0 → now ≡ copied out bytes → now ≡ itemOut number out bytes
-  built-out now out bytes h d = simp (← e, le-ltb _ _ h) d
+  pub built-item : n ≤ 0 → gives (bytes (r .item)) ≡ itemFrom bytes r
+  built-item h = simp (← e, le-ltb _ _ h)
 
 -- a list that was copied, by what it is
 pub copied-as : (n : ℕ) (after out bytes l : List ℕ) → bytes ≡ l → (n ≡ min (length bytes) (length out)) × (after ≡ copied out bytes)

@@ -1,3 +1,2 @@
 -- The definitions that the contracts of `capi` cite.
-pub mod Points
 pub mod Items

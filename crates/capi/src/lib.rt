@@ -8,12 +8,11 @@ ghost use mathlib.Core.Bool.{true, false, cond};
 ghost use lib.Dec.{ltb};
 ghost use Prim.Native.Nat.{min};
 ghost use lib.ListN.{length};
+ghost use Rattle.errors.specs.Packed.{packed};
 ghost use Rattle.snippet.specs.Point.{point, pointTold, rampIn, timebasesIn, amplitudeIn};
-ghost use Rattle.snippet.specs.Snippet.{snippetBytes};
-ghost use Rattle.frame.specs.Frame.{frameBytes};
-ghost use Rattle.sequence.specs.Sequence.{sequenceBytes};
 ghost use Rattle.laws.specs.Copied.{copied};
-ghost use Rattle.assemble.specs.Assembled.{first, numbers, patternCallsIn, assembled, imageOut};
+ghost use Rattle.calls.specs.Calls.{callsIn};
+ghost use Rattle.assemble.specs.Lists.{answersOf, buildersOf, builtOf, imageOut, strictly, strictOut};
 ghost use Rattle.content.specs.ReadImage.{readImage};
 ghost use Rattle.readings.specs.Readings.{countsWord, pointAnswer, frameAnswer};
 ghost use Rattle.field.specs.Field.{codeOf};
@@ -23,24 +22,30 @@ ghost use Rattle.registers_interrupts.specs.Table as interrupts;
 ghost use Rattle.registers_actuator.specs.Table as actuator;
 ghost use Rattle.registers_control.specs.Table as control;
 ghost use Rattle.registers_trigger.specs.Table as trigger;
-ghost use Rattle.capi.specs.Points.{pointWord};
-ghost use Rattle.capi.specs.Items.{buildersOf, snippetOf, frameOf, sequenceOf, answered, itemWord, itemOut};
+ghost use Rattle.capi.specs.Items.{snippetItem, frameItem, sequenceItem, fullLength, copiedLength, itemOut};
+use calls::UnderWay;
+use errors::Error;
 use snippet::PointAnswer;
 use snippet::PwlPoint;
 
+// What a refusal's number is multiplied by beside a length or a count, and beside a point's byte.
+const REFUSED: u32 = 65536;
+
+const REFUSED_POINT: u16 = 256;
+
 // A point's answer as one number.
 fn word(made: PointAnswer) -> u16
-    ensures { λ r. ⌜ r ≡ pointWord (pointTold made) ⌝ }
+    ensures { λ r. ⌜ r ≡ packed 8 (pointTold made) ⌝ }
 {
     match made {
         PointAnswer::Point(p) => p.as_byte() as u16,
-        PointAnswer::Refused(e) => (e.number() as u16) * 256,
+        PointAnswer::Refused(e) => (e.number() as u16) * REFUSED_POINT,
     }
 }
 
 #[no_mangle]
 pub extern "C" fn da728x_point(ramp: u8, timebases: u8, amplitude: u8) -> u16
-    ensures { λ r. ⌜ r ≡ pointWord (point (ltb 0 ramp) timebases amplitude) ⌝ }
+    ensures { λ r. ⌜ r ≡ packed 8 (point (ltb 0 ramp) timebases amplitude) ⌝ }
 {
     if 0 < ramp {
         return word(PwlPoint::ramp(timebases, amplitude));
@@ -69,80 +74,91 @@ pub extern "C" fn da728x_point_amplitude(byte: u8) -> u8
     PwlPoint::from_byte(byte).amplitude()
 }
 
+// Builds the snippet and encodes it into the front of `out`; answers its full length.
 #[no_mangle]
-pub extern "C" fn da728x_snippet(calls: &[u8], answers: &mut [u8], out: &mut [u8]) -> u32
-    ensures { λ r. ⌜ r
-        ≡ itemWord (snippetOf (now (calls .entry)) .number)
-        (length (snippetBytes (snippetOf (now (calls .entry)) .item))) ⌝ }
-    ensures { λ _. ⌜ now (answers .exit) ≡ answered (now (calls .entry)) (now (answers .entry)) ⌝ }
-    ensures { λ _. ⌜ now (out .exit)
-        ≡ itemOut (snippetOf (now (calls .entry)) .number) (now (out .entry))
-        (snippetBytes (snippetOf (now (calls .entry)) .item)) ⌝ }
+pub extern "C" fn da728x_snippet(calls: &[u8], out: &mut [u8]) -> u32
+    ensures answer { λ r. ⌜ r ≡ packed 16 (fullLength (snippetItem (now (calls .entry)))) ⌝ }
+    ensures out { λ _. ⌜ now (out .exit) ≡ itemOut (snippetItem (now (calls .entry))) (now (out .entry)) ⌝ }
 {
-    let b = calls::run(calls, answers);
+    let b = assemble::builders(calls);
     let s = b.snippet;
     let r = s.build();
     let a = r.answer;
     let n = a.number();
     if 0 < n {
-        return (n as u32) * 65536;
+        return (n as u32) * REFUSED;
     }
     let item = r.snippet;
     item.encode_into(out) as u32
 }
 
+// Builds the frame and encodes it into the front of `out`; answers the bytes copied.
 #[no_mangle]
-pub extern "C" fn da728x_frame(calls: &[u8], answers: &mut [u8], out: &mut [u8]) -> u32
-    ensures { λ r. ⌜ r
-        ≡ min (length (frameBytes (frameOf (now (calls .entry))))) (length (now (out .entry))) ⌝ }
-    ensures { λ _. ⌜ now (answers .exit) ≡ answered (now (calls .entry)) (now (answers .entry)) ⌝ }
-    ensures { λ _. ⌜ now (out .exit)
-        ≡ copied (now (out .entry)) (frameBytes (frameOf (now (calls .entry)))) ⌝ }
+pub extern "C" fn da728x_frame(calls: &[u8], out: &mut [u8]) -> u32
+    ensures answer { λ r. ⌜ r ≡ packed 16 (copiedLength (length (now (out .entry))) (frameItem (now (calls .entry)))) ⌝ }
+    ensures out { λ _. ⌜ now (out .exit) ≡ itemOut (frameItem (now (calls .entry))) (now (out .entry)) ⌝ }
 {
-    let b = calls::run(calls, answers);
+    let b = assemble::builders(calls);
     let f = b.frame;
-    f.build().encode_into(out) as u32
+    match f {
+        UnderWay::NotBegun => (Error::InvalidSnippetId.number() as u32) * REFUSED,
+        UnderWay::Begun(x) => x.build().encode_into(out) as u32,
+    }
 }
 
+// Builds the sequence and encodes it into the front of `out`; answers the bytes copied.
 #[no_mangle]
-pub extern "C" fn da728x_sequence(calls: &[u8], answers: &mut [u8], out: &mut [u8]) -> u32
-    ensures { λ r. ⌜ r
-        ≡ itemWord (sequenceOf (now (calls .entry)) .number)
-        (min (length (sequenceBytes (sequenceOf (now (calls .entry)) .item))) (length (now (out .entry)))) ⌝ }
-    ensures { λ _. ⌜ now (answers .exit) ≡ answered (now (calls .entry)) (now (answers .entry)) ⌝ }
-    ensures { λ _. ⌜ now (out .exit)
-        ≡ itemOut (sequenceOf (now (calls .entry)) .number) (now (out .entry))
-        (sequenceBytes (sequenceOf (now (calls .entry)) .item)) ⌝ }
+pub extern "C" fn da728x_sequence(calls: &[u8], out: &mut [u8]) -> u32
+    ensures answer { λ r. ⌜ r ≡ packed 16 (copiedLength (length (now (out .entry))) (sequenceItem (now (calls .entry)))) ⌝ }
+    ensures out { λ _. ⌜ now (out .exit) ≡ itemOut (sequenceItem (now (calls .entry))) (now (out .entry)) ⌝ }
 {
-    let b = calls::run(calls, answers);
+    let b = assemble::builders(calls);
     let q = b.sequence;
     let r = q.build();
     let a = r.answer;
     let n = a.number();
     if 0 < n {
-        return (n as u32) * 65536;
+        return (n as u32) * REFUSED;
     }
     let item = r.sequence;
     item.encode_into(out) as u32
 }
 
+// How many bytes the sequence under construction has.
 #[no_mangle]
-pub extern "C" fn da728x_current_len(calls: &[u8], answers: &mut [u8]) -> usize
+pub extern "C" fn da728x_current_len(calls: &[u8]) -> usize
     ensures { λ r. ⌜ r ≡ buildersOf (now (calls .entry)) .sequence .len ⌝ }
-    ensures { λ _. ⌜ now (answers .exit) ≡ answered (now (calls .entry)) (now (answers .entry)) ⌝ }
 {
-    let b = calls::run(calls, answers);
+    let b = assemble::builders(calls);
     let q = b.sequence;
     q.current_len()
 }
 
+// Stores the answer to each call, and answers how many calls there are.
 #[no_mangle]
-pub extern "C" fn da728x_assemble(calls: &[u8], answers: &mut [u8], image: &mut [u8]) -> u8
-    ensures { λ r. ⌜ r ≡ assembled (now (calls .entry)) .number ⌝ }
-    ensures { λ _. ⌜ now (answers .exit) ≡ copied (now (answers .entry)) (numbers first (patternCallsIn (now (calls .entry)))) ⌝ }
-    ensures { λ _. ⌜ now (image .exit) ≡ imageOut (assembled (now (calls .entry))) (now (image .entry)) ⌝ }
+pub extern "C" fn da728x_answers(calls: &[u8], answers: &mut [u8]) -> usize
+    ensures count { λ r. ⌜ r ≡ length (callsIn (now (calls .entry))) ⌝ }
+    ensures answers { λ _. ⌜ now (answers .exit) ≡ copied (now (answers .entry)) (answersOf (now (calls .entry))) ⌝ }
 {
-    assemble::assemble(calls, answers, image)
+    assemble::answers(calls, answers)
+}
+
+// Builds the image of what the accepted calls added.
+#[no_mangle]
+pub extern "C" fn da728x_assemble(calls: &[u8], image: &mut [u8]) -> u8
+    ensures answer { λ r. ⌜ r ≡ builtOf (now (calls .entry)) .number ⌝ }
+    ensures image { λ _. ⌜ now (image .exit) ≡ imageOut (builtOf (now (calls .entry))) (now (image .entry)) ⌝ }
+{
+    assemble::assemble(calls, image)
+}
+
+// Builds the image if no call is refused.
+#[no_mangle]
+pub extern "C" fn da728x_assemble_strict(calls: &[u8], image: &mut [u8]) -> u32
+    ensures answer { λ r. ⌜ r ≡ strictly (now (calls .entry)) ⌝ }
+    ensures image { λ _. ⌜ now (image .exit) ≡ strictOut (now (calls .entry)) (now (image .entry)) ⌝ }
+{
+    assemble::assemble_strict(calls, image)
 }
 
 #[no_mangle]
