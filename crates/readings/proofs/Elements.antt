@@ -18,9 +18,9 @@ use Rattle.content.proofs.Codec.{none-some, some-inj, then-some}
 use Rattle.reader.specs.Walk.{item}
 use Rattle.reader.proofs.Loops.{item-part}
 use Rattle.reader.proofs.Running.{took, refused}
-use Rattle.items.specs.declared.FrameAt.{FrameAt}
-use Rattle.items.specs.declared.FrameAt.the-variants as FrameAt
-use Rattle.items.proofs.Placed.{elem-some, elem-none, one-part}
+use Rattle.reader.specs.declared.items.FrameAt.{FrameAt}
+use Rattle.reader.specs.declared.items.FrameAt.the-variants as FrameAt
+use Rattle.reader.proofs.Placed.{elem-some, elem-none, one-part}
 use Rattle.readings.specs.InPlace.{beforeItem, itemAt, NthFrame, FrameOf}
 use Rattle.readings.specs.Readings.{byteCode, Small}
 

@@ -13,9 +13,9 @@ use Rattle.frame.specs.declared.FrameBuilder.{FrameBuilder}
 use Rattle.content.specs.Content.{Point, Content}
 use Rattle.content.specs.ReadImage.{andThen, pointsIn, readSnippet, readFrames, readSequence, readImage}
 use Rattle.content.proofs.Codec.{some-inj, cond-some}
-use Rattle.items.specs.declared.FrameAt.{FrameAt}
-use Rattle.items.specs.Items.{element, frameAtTold}
-use Rattle.items.proofs.Placed.{elem-some, elem-none}
+use Rattle.reader.specs.declared.items.FrameAt.{FrameAt}
+use Rattle.reader.specs.Items.{element, frameAtTold}
+use Rattle.reader.proofs.Placed.{elem-some, elem-none}
 use Rattle.readings.specs.InPlace.{present, itemAt, FrameOf}
 use Rattle.readings.specs.Readings.{countsWord, byteCode, Small, pointCode, pointAnswer, frameCode, frameAnswer}
 use Rattle.readings.proofs.Standing.{Known, known}

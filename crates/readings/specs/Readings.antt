@@ -10,7 +10,7 @@ use Rattle.frame.specs.declared.Frequency.the-variants as Frequency
 use Rattle.frame.specs.declared.FrameBuilder.{FrameBuilder}
 use Rattle.frame.specs.Frame.{gainCode, timebaseCode}
 use Rattle.content.specs.Content.{Point, Content, byteOf}
-use Rattle.items.specs.Items.{element}
+use Rattle.reader.specs.Items.{element}
 
 -- 256 times the number of snippets and the number of sequences, or 18 for what is no image
 abbrev pub countsWord : Option Content → ℕ

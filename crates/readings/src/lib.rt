@@ -4,16 +4,16 @@
 // specs/Readings.antt. The private functions answer specs/InPlace.antt.
 ghost use mathlib.Core.Path.{_≡_};
 ghost use Prim.Native.Nat.{_≤_, _<_};
-ghost use lib.ListN.{length, drop, getD, getElem?};
-ghost use Rattle.content.specs.ReadImage.{readImage, readFrames, allZero};
-ghost use Rattle.items.specs.Items.{frameAtTold};
+ghost use lib.ListN.{length, getD, getElem?};
+ghost use Rattle.content.specs.ReadImage.{readImage, readFrames};
+ghost use Rattle.reader.specs.Items.{frameAtTold};
 ghost use Rattle.readings.specs.InPlace.{present, itemFits, lastIn, indexTold, itemsFit, beforeItem, itemAt, NthFrame, FrameOf};
 ghost use Rattle.readings.specs.Readings.{countsWord, byteCode, Small, pointAnswer, loopByte, frequencyWord, frameWord, frameCode, frameAnswer};
 use frame::FrameBuilder;
 use frame::FrameRead;
 use frame::Frequency;
 use frame::LoopCount;
-use items::FrameAt;
+use reader::items::FrameAt;
 
 // 256 times the number of snippets and the number of sequences, or 18 for what is no image.
 pub fn counts(image: &[u8]) -> u16
@@ -87,7 +87,7 @@ fn items_fit(image: &[u8], s: usize, q: usize) -> bool
     if end < 1 {
         return false;
     }
-    zero_from(image, end + 1)
+    reader::zero_from(image, end + 1)
 }
 
 // The index of the last byte of the items that end at these indexes of the image, 0 where one does not fit; the byte before the first
@@ -100,7 +100,7 @@ fn items_end(image: &[u8], ends: &[u8], first: usize, snippets: bool) -> usize
     let mut last = first;
     let mut i = 0usize;
     while i < ends.len() {
-        let end = wide(ends[i]);
+        let end = laws::wide(ends[i]);
         if end <= last {
             return 0;
         }
@@ -153,19 +153,6 @@ fn frames_fit(bytes: &[u8]) -> bool
                 return false;
             }
         }
-    }
-    true
-}
-
-fn zero_from(image: &[u8], at: usize) -> bool
-    ensures { λ r. ⌜ r ≡ allZero (drop at (now (image .entry))) ⌝ }
-{
-    let mut i = at;
-    while i < image.len() {
-        if 0 < image[i] {
-            return false;
-        }
-        i += 1;
     }
     true
 }
@@ -254,14 +241,7 @@ fn byte(image: &[u8], at: usize) -> usize
     if image.len() <= at {
         return 0;
     }
-    wide(image[at])
-}
-
-fn wide(x: u8) -> usize
-    ensures { λ r. ⌜ r ≡ x ⌝ }
-    ensures { λ r. ⌜ r < 256 ⌝ }
-{
-    x as usize
+    laws::wide(image[at])
 }
 
 // ---- a frame as one number
