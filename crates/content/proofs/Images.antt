@@ -10,7 +10,7 @@ use native.Mathlib.Omega.{arith}
 use lib.ListN.{length, replicate, length-map, length-append}
 use Rattle.laws.specs.Bytes.{All, Bytes}
 use Rattle.frame.specs.declared.FrameBuilder.{FrameBuilder}
-use Rattle.frame.specs.Agreement.{canon}
+use Rattle.frame.proofs.Canon.{canon}
 use Rattle.memory.specs.Image.{joined, endPointers, imageSize, imageBytes}
 use Rattle.content.specs.Content.{Point, Content, pointBytes, framesBytes, imageOf, SnippetAdmitted, SequenceAdmitted, Admitted, Same}
 use Rattle.content.specs.ReadImage.{andThen, every, readSnippet, readSequence, Items, readItems, contentIn, readImage}

@@ -5,8 +5,8 @@ use mathlib.Core.List.{List, [], _∷_, map}
 use Prim.Native.Nat.{ℕ}
 use native.Mathlib.Omega.{arith}
 use Rattle.frame.specs.declared.FrameBuilder.{FrameBuilder}
-use Rattle.frame.specs.Agreement.{Agree, canon}
-use Rattle.frame.proofs.Canon.{canon-agree, agree-canon}
+use Rattle.frame.specs.Agreement.{Agree}
+use Rattle.frame.proofs.Canon.{canon, canon-agree, agree-canon}
 use Rattle.content.specs.Content.{Point, Content, Both, PointsSame, Same}
 use Rattle.content.proofs.Codec.{cons-eq, map-id}
 

@@ -11,10 +11,11 @@ use lib.Dec.{leb}
 use lib.ListN.{length, length-append}
 use Rattle.laws.specs.Bytes.{All, Bytes}
 use Rattle.frame.specs.declared.FrameBuilder.{FrameBuilder}
-use Rattle.frame.specs.Agreement.{FrameAdmitted, canon}
+use Rattle.frame.specs.Agreement.{FrameAdmitted}
 use Rattle.frame.specs.Frame.{bytesOf}
-use Rattle.frame.specs.Read.{Parsed, readFrame, Starts}
-use Rattle.frame.proofs.Reading.{first-small, complete}
+use Rattle.frame.specs.Read.{Parsed, readFrame}
+use Rattle.frame.proofs.Canon.{canon}
+use Rattle.frame.proofs.Reading.{first-small, Starts, complete}
 use Rattle.frame.proofs.Written.{sound}
 use Rattle.frame.proofs.Frames.{frame-bytes}
 use Rattle.content.specs.Content.{framesBytes, SequenceAdmitted}

@@ -1,4 +1,4 @@
--- Frames agree exactly when they are the same read back.
+-- A frame as it is read back; frames agree exactly when they are the same read back.
 -- Assumes nothing.
 use mathlib.Core.Path.{_≡_, refl, sym, ap, _∙_}
 use mathlib.Core.Bool.{Bool, true, false, cond}
@@ -8,7 +8,18 @@ use Rattle.frame.specs.declared.LoopCount.{LoopCount}
 use Rattle.frame.specs.declared.LoopCount.the-variants as LoopCount
 use Rattle.frame.specs.declared.Frequency.{Frequency}
 use Rattle.frame.specs.declared.FrameBuilder.{FrameBuilder}
-use Rattle.frame.specs.Agreement.{absentIsZero, LoopsAgree, Agree, written, canon}
+use Rattle.frame.specs.Agreement.{absentIsZero, LoopsAgree, Agree}
+use Rattle.frame.specs.Builder.{frameWith}
+
+-- the loop count that stands in the bytes: where an absent one equals 0, it is 0
+abbrev pub written : Bool → LoopCount → LoopCount
+written zero? (LoopCount.Given k) = LoopCount.Given k
+written zero? LoopCount.Absent = cond zero? (LoopCount.Given 0) LoopCount.Absent
+
+-- a frame as it is read back
+unfoldable pub canon : FrameBuilder → FrameBuilder
+canon f =
+    frameWith (f .«snippet_id») (f .gain) (f .timebase) (written (absentIsZero (f .«snippet_id») (f .frequency)) (f .«loop_count»)) (f .frequency)
 
 loops-agree : (z : Bool) (j k : LoopCount) → written z j ≡ written z k → LoopsAgree z j k
 loops-agree z LoopCount.Absent LoopCount.Absent e = tt
@@ -47,10 +58,4 @@ agree-canon f g a =
     let z : absentIsZero (f .«snippet_id») (f .frequency) ≡ absentIsZero (g .«snippet_id») (g .frequency) = λ i. absentIsZero (a .numbers i) (a .frequencies i) in
     let k : written (absentIsZero (f .«snippet_id») (f .frequency)) (f .«loop_count») ≡ written (absentIsZero (g .«snippet_id») (g .frequency)) (g .«loop_count») =
     loops-written (absentIsZero (f .«snippet_id») (f .frequency)) (f .«loop_count») (g .«loop_count») (a .loopCounts) ∙ ap (λ (b : Bool). written b (g .«loop_count»)) z in
-    λ i. record {
-      «snippet_id» = a .numbers i;
-      gain = a .gains i;
-      timebase = a .timebases i;
-      «loop_count» = k i;
-      frequency = a .frequencies i;
-    }
+    λ i. frameWith (a .numbers i) (a .gains i) (a .timebases i) (k i) (a .frequencies i)

@@ -1,6 +1,7 @@
 pub mod Built
 pub mod Canon
 pub mod Frames
+pub mod Packed
 pub mod Reading
 pub mod Slices
 pub mod Written

@@ -1,4 +1,4 @@
--- Reading undoes writing: what stands at the front is a frame's bytes, and a frame's bytes are read back.
+-- Reading undoes writing: a frame's bytes, and any bytes that begin no second byte, are read to the frame and the rest.
 -- Assumes nothing.
 use mathlib.Core.Path.{_≡_, refl, sym, ap, ap₂, _∙_, subst}
 use mathlib.Core.Bool.{Bool, true, false, cond, _||_}
@@ -18,9 +18,11 @@ use Rattle.frame.specs.declared.LoopCount.the-variants as LoopCount
 use Rattle.frame.specs.declared.Frequency.{Frequency}
 use Rattle.frame.specs.declared.Frequency.the-variants as Frequency
 use Rattle.frame.specs.declared.FrameBuilder.{FrameBuilder}
-use Rattle.frame.specs.Agreement.{FrameAdmitted, LoopAdmitted, FrequencyAdmitted, absentIsZero, written, canon}
+use Rattle.frame.specs.Agreement.{FrameAdmitted, LoopAdmitted, FrequencyAdmitted, absentIsZero}
+use Rattle.frame.specs.Builder.{frameWith}
 use Rattle.frame.specs.Frame.{gainCode, timebaseCode, firstByte, secondByte, thirdByte, loopGiven, loops, bytesOf}
-use Rattle.frame.specs.Read.{gainAt, timebaseAt, fieldsIn, oneByte, twoBytes, threeBytes, Parsed, parsed, readThird, readSecond, readAfter, readFrame, Starts}
+use Rattle.frame.specs.Read.{gainAt, timebaseAt, fieldsIn, oneByte, twoBytes, threeBytes, Parsed, parsed, readThird, readSecond, readAfter, readFrame}
+use Rattle.frame.proofs.Canon.{written, canon}
 
 -- ---- codes, both ways
 
@@ -54,7 +56,12 @@ module _ (f : FrameBuilder) where
       let b = first-back (gainCode (f .gain)) (timebaseCode (f .timebase)) (f .«snippet_id») (gain-back (f .gain) .1) (timebase-back (f .timebase) .1) in
       let eg : gainAt (firstByte f / 32 % 4) ≡ f .gain = ap gainAt (b .1) ∙ gain-back (f .gain) .0 in
       let et : timebaseAt (firstByte f / 8 % 4) ≡ f .timebase = ap timebaseAt (b .2) ∙ timebase-back (f .timebase) .0 in
-      λ i. record { «snippet_id» = en i; gain = eg i; timebase = et i; «loop_count» = ek i; frequency = eq i }
+      λ i. frameWith (en i) (eg i) (et i) (ek i) (eq i)
+
+-- what follows a frame begins no second byte
+abbrev pub Starts : List ℕ → Type 0
+Starts [] = Unit
+Starts (b ∷ r) = b < 128
 
 read-one : (a : ℕ) (r : List ℕ) → a < 128 → Starts r → readFrame (a ∷ r) ≡ parsed (oneByte a) r
 unfolding readFrame

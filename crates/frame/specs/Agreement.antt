@@ -1,9 +1,8 @@
--- When two frames agree, in the words of demand 3, what one is read back to, and which frames the builders admit (document 01, 'The
--- hundred bytes'); a frame is told by its builder's fields. Admitted frames agree exactly when their bytes are the same:
--- proofs/Frames.antt.
+-- When two frames agree, in the words of demand 3, and which frames the builders admit (document 01, 'The hundred bytes'); a frame is
+-- told by its builder's fields. Admitted frames agree exactly when their bytes are the same: proofs/Frames.antt.
 use Prim.Native.Nat.{ℕ, _≤_}
 use mathlib.Core.Path.{_≡_}
-use mathlib.Core.Bool.{Bool, true, false, cond}
+use mathlib.Core.Bool.{Bool, true, false}
 use lib.Dec.{leb}
 use Rattle.frame.specs.declared.LoopCount.{LoopCount}
 use Rattle.frame.specs.declared.LoopCount.the-variants as LoopCount
@@ -32,22 +31,6 @@ pub record Agree (a b : FrameBuilder) : Type 0 where
   pub numbers : a .«snippet_id» ≡ b .«snippet_id»
   pub frequencies : a .frequency ≡ b .frequency
   pub loopCounts : LoopsAgree (absentIsZero (a .«snippet_id») (a .frequency)) (a .«loop_count») (b .«loop_count»)
-
--- the loop count that stands in the bytes: where an absent one equals 0, it is 0
-abbrev pub written : Bool → LoopCount → LoopCount
-written zero? (LoopCount.Given k) = LoopCount.Given k
-written zero? LoopCount.Absent = cond zero? (LoopCount.Given 0) LoopCount.Absent
-
--- a frame as it is read back
-unfoldable pub canon : FrameBuilder → FrameBuilder
-canon f =
-    record {
-      «snippet_id» = f .«snippet_id»;
-      gain = f .gain;
-      timebase = f .timebase;
-      «loop_count» = written (absentIsZero (f .«snippet_id») (f .frequency)) (f .«loop_count»);
-      frequency = f .frequency;
-    }
 
 abbrev pub LoopAdmitted : LoopCount → Type 0
 LoopAdmitted LoopCount.Absent = Unit

@@ -9,23 +9,22 @@ use Rattle.frame.specs.declared.Gain.{Gain}
 use Rattle.frame.specs.declared.Gain.the-variants.{Full}
 use Rattle.frame.specs.declared.Timebase.{Timebase}
 use Rattle.frame.specs.declared.Timebase.the-variants.{«Ms5_44»}
+use Rattle.frame.specs.declared.LoopCount.{LoopCount}
 use Rattle.frame.specs.declared.LoopCount.the-variants as LoopCount
+use Rattle.frame.specs.declared.Frequency.{Frequency}
 use Rattle.frame.specs.declared.Frequency.the-variants as Frequency
 use Rattle.frame.specs.declared.FrameBuilder.{FrameBuilder}
 use Rattle.frame.specs.declared.NewFrame.{NewFrame}
 use Rattle.frame.specs.declared.NewFrame.the-variants as NewFrame
 use Rattle.frame.specs.declared.SetFrame.{SetFrame}
 
+-- a frame of its five fields
+abbrev pub frameWith : ℕ → Gain → Timebase → LoopCount → Frequency → FrameBuilder
+frameWith n g t k f = record { «snippet_id» = n; gain = g; timebase = t; «loop_count» = k; frequency = f }
+
 -- the Rust's defaults: full gain, 5.44 ms, no loop count, no frequency
 abbrev pub plainFrame : ℕ → FrameBuilder
-plainFrame n =
-    record {
-      «snippet_id» = n;
-      gain = Full;
-      timebase = «Ms5_44»;
-      «loop_count» = LoopCount.Absent;
-      frequency = Frequency.Absent;
-    }
+plainFrame n = frameWith n Full «Ms5_44» LoopCount.Absent Frequency.Absent
 
 -- "Number 0 is silence and comes from `silence` only"
 abbrev pub silentFrame : FrameBuilder
@@ -40,50 +39,22 @@ newTold (NewFrame.Builder b) = gives b
 newTold (NewFrame.Refused e) = refuses (errorNumber e)
 
 abbrev pub withGain : FrameBuilder → Gain → FrameBuilder
-withGain b g =
-    record {
-      «snippet_id» = b .«snippet_id»;
-      gain = g;
-      timebase = b .timebase;
-      «loop_count» = b .«loop_count»;
-      frequency = b .frequency;
-    }
+withGain b g = frameWith (b .«snippet_id») g (b .timebase) (b .«loop_count») (b .frequency)
 
 abbrev pub withTimebase : FrameBuilder → Timebase → FrameBuilder
-withTimebase b t =
-    record {
-      «snippet_id» = b .«snippet_id»;
-      gain = b .gain;
-      timebase = t;
-      «loop_count» = b .«loop_count»;
-      frequency = b .frequency;
-    }
+withTimebase b t = frameWith (b .«snippet_id») (b .gain) t (b .«loop_count») (b .frequency)
 
 -- 4 for a count above 15
 abbrev pub withLoopCount : FrameBuilder → ℕ → Handed FrameBuilder
 withLoopCount b k =
     cond (ltb 15 k) (refused 4 b)
-    (accepted
-    (record {
-      «snippet_id» = b .«snippet_id»;
-      gain = b .gain;
-      timebase = b .timebase;
-      «loop_count» = LoopCount.Given k;
-      frequency = b .frequency;
-    }))
+    (accepted (frameWith (b .«snippet_id») (b .gain) (b .timebase) (LoopCount.Given k) (b .frequency)))
 
 -- 5 for a frequency above 511
 abbrev pub withFrequency : FrameBuilder → ℕ → Handed FrameBuilder
 withFrequency b f =
     cond (ltb 511 f) (refused 5 b)
-    (accepted
-    (record {
-      «snippet_id» = b .«snippet_id»;
-      gain = b .gain;
-      timebase = b .timebase;
-      «loop_count» = b .«loop_count»;
-      frequency = Frequency.Given f;
-    }))
+    (accepted (frameWith (b .«snippet_id») (b .gain) (b .timebase) (b .«loop_count») (Frequency.Given f)))
 
 abbrev pub setTold : SetFrame → Handed FrameBuilder
 setTold r = record { number = answerNumber (r .answer); builder = r .builder }

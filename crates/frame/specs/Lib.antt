@@ -3,3 +3,4 @@ pub mod Agreement
 pub mod Builder
 pub mod Frame
 pub mod Read
+pub mod Word

@@ -1,6 +1,6 @@
 -- The first frame of bytes (each below 256) that are frames laid end to end, and the bytes after it; none where the first one to three
 -- bytes rule that out: document 01, 'The hundred bytes'. proofs/Reading.antt and Written.antt: this undoes writing, and nothing else.
-use Prim.Native.Nat.{ℕ, _+_, _-_, _*_, _/_, _%_, _<_}
+use Prim.Native.Nat.{ℕ, _+_, _-_, _*_, _/_, _%_}
 use mathlib.Core.Bool.{cond}
 use mathlib.Core.List.{List, [], _∷_}
 use mathlib.Core.Option.{Option, none, some}
@@ -17,9 +17,9 @@ use Rattle.frame.specs.declared.LoopCount.the-variants as LoopCount
 use Rattle.frame.specs.declared.Frequency.{Frequency}
 use Rattle.frame.specs.declared.Frequency.the-variants as Frequency
 use Rattle.frame.specs.declared.FrameBuilder.{FrameBuilder}
-use Rattle.frame.specs.declared.FrameFields.{FrameFields}
 use Rattle.frame.specs.declared.FrameRead.{FrameRead}
 use Rattle.frame.specs.declared.FrameRead.the-variants as FrameRead
+use Rattle.frame.specs.Builder.{frameWith}
 
 -- a code past the last counts as the last
 abbrev pub gainAt : ℕ → Gain
@@ -28,26 +28,9 @@ gainAt code = getD (Full ∷ Half ∷ Quarter ∷ []) code Eighth
 abbrev pub timebaseAt : ℕ → Timebase
 timebaseAt code = getD («Ms5_44» ∷ «Ms21_76» ∷ «Ms43_52» ∷ []) code «Ms87_04»
 
-abbrev pub fieldsOf : FrameBuilder → FrameFields
-fieldsOf b =
-    record {
-      «snippet_id» = b .«snippet_id»;
-      gain = b .gain;
-      timebase = b .timebase;
-      «loop_count» = b .«loop_count»;
-      frequency = b .frequency;
-    }
-
 -- gain and timebase from the first byte a, the other fields as given
 abbrev pub fieldsIn : ℕ → ℕ → LoopCount → Frequency → FrameBuilder
-fieldsIn a n k f =
-    record {
-      «snippet_id» = n;
-      gain = gainAt (a / 32 % 4);
-      timebase = timebaseAt (a / 8 % 4);
-      «loop_count» = k;
-      frequency = f;
-    }
+fieldsIn a n k f = frameWith n (gainAt (a / 32 % 4)) (timebaseAt (a / 8 % 4)) k f
 
 -- "an absent loop count for a one-byte frame, a present one otherwise"
 abbrev pub oneByte : ℕ → FrameBuilder
@@ -86,11 +69,6 @@ readAfter a (b ∷ r) = cond (ltb b 128) (parsed (oneByte a) (b ∷ r)) (readSec
 unfoldable pub readFrame : List ℕ → Option Parsed
 readFrame [] = none
 readFrame (a ∷ r) = cond (ltb a 128) (readAfter a r) none
-
--- what follows a frame begins no second byte
-abbrev pub Starts : List ℕ → Type 0
-Starts [] = Unit
-Starts (b ∷ r) = b < 128
 
 -- ---- as the code answers it
 

@@ -4,13 +4,17 @@
 // proofs/Written.antt and Reading.antt: `read` (added) undoes `build`, and reads nothing else.
 // `build` gives the frame itself, since it cannot refuse; `as_bytes` gives the array, of which the first `byte_len` are the
 // frame's; no function here takes a closure. Left out: `Default` and what the Rust derives.
+mod bits;
+
 ghost use mathlib.Core.Path.{_≡_};
-ghost use Prim.Native.Nat.{min, _%_, _+_, _≤_};
+ghost use Prim.Native.Nat.{min, _%_, _+_, _^_, _≤_, _<_};
 ghost use lib.ListN.{length, drop};
 ghost use Rattle.laws.specs.Copied.{copied};
-ghost use Rattle.frame.specs.Builder.{silentFrame, newFrame, newTold, withGain, withTimebase, withLoopCount, withFrequency, setTold};
-ghost use Rattle.frame.specs.Read.{gainAt, timebaseAt, fieldsOf, fieldsIn, oneByte, twoBytes, threeBytes, secondAt, firstFrame, readTold};
+ghost use Rattle.frame.specs.Builder.{frameWith, plainFrame, silentFrame, newFrame, newTold};
+ghost use Rattle.frame.specs.Builder.{withGain, withTimebase, withLoopCount, withFrequency, setTold};
+ghost use Rattle.frame.specs.Read.{gainAt, timebaseAt, fieldsIn, oneByte, twoBytes, threeBytes, secondAt, firstFrame, readTold};
 ghost use Rattle.frame.specs.Frame.{gainCode, timebaseCode, loops, frameBytes, builtFrame};
+ghost use Rattle.frame.specs.Word.{loopByte, frequencyWord, frameWord};
 use errors::Answer;
 use errors::Error;
 
@@ -55,15 +59,6 @@ pub struct FrameBuilder {
 pub enum NewFrame {
     Builder(FrameBuilder),
     Refused(Error),
-}
-
-// The fields of a frame that was read or is under construction.
-pub struct FrameFields {
-    pub snippet_id: u8,
-    pub gain: Gain,
-    pub timebase: Timebase,
-    pub loop_count: LoopCount,
-    pub frequency: Frequency,
 }
 
 // What reading a frame answers: the frame's fields, and how many bytes it took.
@@ -163,26 +158,14 @@ impl FrameBuilder {
         if 15 < snippet_id {
             return NewFrame::Refused(Error::InvalidSnippetId);
         }
-        NewFrame::Builder(FrameBuilder {
-            snippet_id: snippet_id,
-            gain: Gain::Full,
-            timebase: Timebase::Ms5_44,
-            loop_count: LoopCount::Absent,
-            frequency: Frequency::Absent,
-        })
+        NewFrame::Builder(FrameBuilder::plain(snippet_id))
     }
 
     // The built-in silence, number 0.
     pub fn silence() -> FrameBuilder
         ensures { λ r. ⌜ r ≡ silentFrame ⌝ }
     {
-        FrameBuilder {
-            snippet_id: 0,
-            gain: Gain::Full,
-            timebase: Timebase::Ms5_44,
-            loop_count: LoopCount::Absent,
-            frequency: Frequency::Absent,
-        }
+        FrameBuilder::plain(0)
     }
 
     pub fn gain(self, gain: Gain) -> FrameBuilder
@@ -191,13 +174,7 @@ impl FrameBuilder {
         let timebase = self.timebase;
         let loop_count = self.loop_count;
         let frequency = self.frequency;
-        FrameBuilder {
-            snippet_id: self.snippet_id,
-            gain: gain,
-            timebase: timebase,
-            loop_count: loop_count,
-            frequency: frequency,
-        }
+        FrameBuilder::with(self.snippet_id, gain, timebase, loop_count, frequency)
     }
 
     pub fn timebase(self, timebase: Timebase) -> FrameBuilder
@@ -206,13 +183,7 @@ impl FrameBuilder {
         let gain = self.gain;
         let loop_count = self.loop_count;
         let frequency = self.frequency;
-        FrameBuilder {
-            snippet_id: self.snippet_id,
-            gain: gain,
-            timebase: timebase,
-            loop_count: loop_count,
-            frequency: frequency,
-        }
+        FrameBuilder::with(self.snippet_id, gain, timebase, loop_count, frequency)
     }
 
     pub fn loop_count(self, count: u8) -> SetFrame
@@ -227,15 +198,10 @@ impl FrameBuilder {
         let gain = self.gain;
         let timebase = self.timebase;
         let frequency = self.frequency;
+        let given = LoopCount::Given(count);
         SetFrame {
             answer: Answer::Done,
-            builder: FrameBuilder {
-                snippet_id: self.snippet_id,
-                gain: gain,
-                timebase: timebase,
-                loop_count: LoopCount::Given(count),
-                frequency: frequency,
-            },
+            builder: FrameBuilder::with(self.snippet_id, gain, timebase, given, frequency),
         }
     }
 
@@ -251,15 +217,42 @@ impl FrameBuilder {
         let gain = self.gain;
         let timebase = self.timebase;
         let loop_count = self.loop_count;
+        let given = Frequency::Given(freq_hz);
         SetFrame {
             answer: Answer::Done,
-            builder: FrameBuilder {
-                snippet_id: self.snippet_id,
-                gain: gain,
-                timebase: timebase,
-                loop_count: loop_count,
-                frequency: Frequency::Given(freq_hz),
-            },
+            builder: FrameBuilder::with(self.snippet_id, gain, timebase, loop_count, given),
+        }
+    }
+
+    // The Rust's defaults.
+    fn plain(number: u8) -> FrameBuilder
+        ensures { λ r. ⌜ r ≡ plainFrame number ⌝ }
+    {
+        FrameBuilder::with(
+            number,
+            Gain::Full,
+            Timebase::Ms5_44,
+            LoopCount::Absent,
+            Frequency::Absent,
+        )
+    }
+
+    // A builder of its five fields.
+    fn with(
+        number: u8,
+        gain: Gain,
+        timebase: Timebase,
+        loop_count: LoopCount,
+        frequency: Frequency,
+    ) -> FrameBuilder
+        ensures { λ r. ⌜ r ≡ frameWith number gain timebase «loop_count» frequency ⌝ }
+    {
+        FrameBuilder {
+            snippet_id: number,
+            gain: gain,
+            timebase: timebase,
+            loop_count: loop_count,
+            frequency: frequency,
         }
     }
 
@@ -271,11 +264,11 @@ impl FrameBuilder {
         let timebase = self.timebase;
         let loop_count = self.loop_count;
         let frequency = self.frequency;
-        let b1 = frame_bits::first(gain.code(), timebase.code(), id);
+        let b1 = bits::first(gain.code(), timebase.code(), id);
         match frequency {
             Frequency::Given(f) => {
-                let b2 = frame_bits::second(loop_code(loop_count), frame_bits::frequency(f), id);
-                let b3 = frame_bits::low_byte(f);
+                let b2 = bits::second(loop_code(loop_count), bits::frequency(f), id);
+                let b3 = bits::low_byte(f);
                 Frame {
                     bytes: [b1, b2, b3],
                     len: 3,
@@ -283,20 +276,20 @@ impl FrameBuilder {
             }
             Frequency::Absent => match loop_count {
                 LoopCount::Given(n) => {
-                    let b2 = frame_bits::second(n, 0, id);
+                    let b2 = bits::second(n, 0, id);
                     Frame {
                         bytes: [b1, b2, 0],
                         len: 2,
                     }
                 }
                 LoopCount::Absent => {
-                    if frame_bits::low1(id >> 3) == 0 {
+                    if bits::low1(id >> 3) == 0 {
                         Frame {
                             bytes: [b1, 0, 0],
                             len: 1,
                         }
                     } else {
-                        let b2 = frame_bits::second(0, 0, id);
+                        let b2 = bits::second(0, 0, id);
                         Frame {
                             bytes: [b1, b2, 0],
                             len: 2,
@@ -318,26 +311,49 @@ fn loop_code(c: LoopCount) -> u8
     }
 }
 
-// ---- a frame read back from its bytes (added)
+// ---- a frame's fields as one number (added)
 
 impl FrameBuilder {
-    // The fields as they stand.
-    pub fn parts(self) -> FrameFields
-        ensures { λ r. ⌜ r ≡ fieldsOf self ⌝ }
+    // The fields as one number of 48 bits: the snippet's number in bits 7..0, the gain's code in 15..8, the timebase's in 23..16, the
+    // loop count in 31..24 (255 if absent), the frequency in 47..32 (65535 if absent).
+    pub fn word(self) -> u64
+        ensures { λ r. ⌜ r ≡ frameWord self ⌝ }
+        ensures { λ r. ⌜ r < 2 ^ 48 ⌝ }
     {
         let gain = self.gain;
         let timebase = self.timebase;
         let loop_count = self.loop_count;
         let frequency = self.frequency;
-        FrameFields {
-            snippet_id: self.snippet_id,
-            gain: gain,
-            timebase: timebase,
-            loop_count: loop_count,
-            frequency: frequency,
-        }
+        let a = self.snippet_id as u64;
+        let b = (gain.code() as u64) * 0x100;
+        let c = (timebase.code() as u64) * 0x1_0000;
+        let d = (loop_byte(loop_count) as u64) * 0x100_0000;
+        let e = (frequency_word(frequency) as u64) * 0x1_0000_0000;
+        a + b + c + d + e
     }
+}
 
+fn loop_byte(k: LoopCount) -> u8
+    ensures { λ r. ⌜ r ≡ loopByte k ⌝ }
+{
+    match k {
+        LoopCount::Absent => 255,
+        LoopCount::Given(n) => n,
+    }
+}
+
+fn frequency_word(f: Frequency) -> u16
+    ensures { λ r. ⌜ r ≡ frequencyWord f ⌝ }
+{
+    match f {
+        Frequency::Absent => 65535,
+        Frequency::Given(n) => n,
+    }
+}
+
+// ---- a frame read back from its bytes (added)
+
+impl FrameBuilder {
     // The first frame of the bytes from an index on, or NotAnImage.
     pub fn read(bytes: &[u8], at: usize) -> FrameRead
         ensures { λ r. ⌜ readTold r ≡ firstFrame (drop at (now (bytes .entry))) ⌝ }
@@ -346,14 +362,14 @@ impl FrameBuilder {
             return FrameRead::Refused(Error::NotAnImage);
         }
         let a = bytes[at];
-        if 0 < frame_bits::top(a) {
+        if 0 < bits::top(a) {
             return FrameRead::Refused(Error::NotAnImage);
         }
         if bytes.len() - at < 2 {
             return FrameRead::Frame(FrameBuilder::one_byte(a), 1);
         }
         let b = bytes[at + 1];
-        if frame_bits::top(b) < 1 {
+        if bits::top(b) < 1 {
             return FrameRead::Frame(FrameBuilder::one_byte(a), 1);
         }
         FrameBuilder::read_second(bytes, at, a, b)
@@ -364,8 +380,8 @@ impl FrameBuilder {
         requires { ⌜ at + 2 ≤ length (now bytes) ⌝ }
         ensures { λ r. ⌜ readTold r ≡ secondAt (now (bytes .entry)) at a b ⌝ }
     {
-        if frame_bits::present_in(b) < 1 {
-            if frame_bits::high_in(b) < 1 {
+        if bits::present_in(b) < 1 {
+            if bits::high_in(b) < 1 {
                 return FrameRead::Frame(FrameBuilder::two_bytes(a, b), 2);
             }
             return FrameRead::Refused(Error::NotAnImage);
@@ -381,7 +397,7 @@ impl FrameBuilder {
     {
         FrameBuilder::fields(
             a,
-            frame_bits::low_number_in(a),
+            bits::low_number_in(a),
             LoopCount::Absent,
             Frequency::Absent,
         )
@@ -392,8 +408,8 @@ impl FrameBuilder {
     {
         FrameBuilder::fields(
             a,
-            frame_bits::number_in(b, a),
-            LoopCount::Given(frame_bits::count_in(b)),
+            bits::number_in(b, a),
+            LoopCount::Given(bits::count_in(b)),
             Frequency::Absent,
         )
     }
@@ -403,9 +419,9 @@ impl FrameBuilder {
     {
         FrameBuilder::fields(
             a,
-            frame_bits::number_in(b, a),
-            LoopCount::Given(frame_bits::count_in(b)),
-            Frequency::Given(frame_bits::frequency_in(b, c)),
+            bits::number_in(b, a),
+            LoopCount::Given(bits::count_in(b)),
+            Frequency::Given(bits::frequency_in(b, c)),
         )
     }
 
@@ -413,14 +429,8 @@ impl FrameBuilder {
     fn fields(a: u8, id: u8, loop_count: LoopCount, frequency: Frequency) -> FrameBuilder
         ensures { λ r. ⌜ r ≡ fieldsIn a id «loop_count» frequency ⌝ }
     {
-        let gain = Gain::from_code(frame_bits::gain_in(a));
-        let timebase = Timebase::from_code(frame_bits::timebase_in(a));
-        FrameBuilder {
-            snippet_id: id,
-            gain: gain,
-            timebase: timebase,
-            loop_count: loop_count,
-            frequency: frequency,
-        }
+        let gain = Gain::from_code(bits::gain_in(a));
+        let timebase = Timebase::from_code(bits::timebase_in(a));
+        FrameBuilder::with(id, gain, timebase, loop_count, frequency)
     }
 }

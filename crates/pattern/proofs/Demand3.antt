@@ -1,16 +1,25 @@
 -- Demand 3, whole.
 -- Assumes nothing.
 use mathlib.Core.Path.{_≡_, sym, ap, _∙_}
-use mathlib.Core.Bool.{false}
+use mathlib.Core.Bool.{Bool, false}
+use mathlib.Core.List.{List, _++_}
 use lib.ListN.{length}
+use Rattle.memory.specs.Memory.{newMemory, builtMemory}
 use Rattle.content.specs.Content.{imageOf}
 use Rattle.content.specs.ReadImage.{readImage}
 use Rattle.content.proofs.Images.{image-codec, image-length, same-image, refuses-image, read-same}
 use Rattle.content.proofs.Sameness.{canonical}
+use Rattle.pattern.specs.Calls.{ran, MemoryCall, memoryStep, addedItem, builtFrom}
 use Rattle.pattern.specs.Demand.{Pattern, content, Demand3}
 use Rattle.pattern.proofs.Flag.{same-number, same-item}
 use Rattle.pattern.proofs.Memories.{image-from}
+use Rattle.pattern.proofs.Runs.{ran-append}
 use Rattle.pattern.proofs.Reached.{callsOf, content-reached, built-reached}
+
+-- `build` hands back the builder as it came in
+goes-on : (a : Bool) (ks js : List MemoryCall) → builtMemory (ran memoryStep addedItem (builtFrom a ks .builder) js) ≡ builtFrom a (ks ++ js)
+unfolding builtMemory
+goes-on a ks js = ap builtMemory (ran-append memoryStep addedItem (newMemory a) ks js)
 
 pub demand3 : Demand3
 demand3 =
@@ -26,6 +35,7 @@ demand3 =
           (λ h. s .0 (v .1 ∙ h ∙ sym (w .1)), λ h. sym (v .1) ∙ s .1 h ∙ w .1);
       returned = λ l h c e. image-codec .sound l c h e;
       refusal = λ l h. refuses-image l h;
+      goesOn = λ a ks js. goes-on a ks js;
       readBack = λ p e.
           let w = image-from (p .acceleration) (p .calls) e in
           (canonical (content p), ap readImage (sym (w .1)) ∙ image-codec .complete (content p) (w .0), read-same (content p) (w .0));

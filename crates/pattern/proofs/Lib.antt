@@ -4,5 +4,6 @@ pub mod Frames
 pub mod Memories
 pub mod Outcomes
 pub mod Reached
+pub mod Runs
 pub mod Sequences
 pub mod Snippets

@@ -93,7 +93,7 @@ with-snippet b is s ps h k = some (decLe 1 (s .len)) where
       (inl (
         refl,
         holds-of _ _ _ _ (snippets-append is (points ps ∷ [])) (sequences-append is (points ps ∷ []) ∙ append-nil (sequencesOf is))
-            (shows-more 15 snippetBytes pointBytes (b .snippets) (b .«num_snippets») (snippetsOf is) (record { points = s .points; len = s .len }) ps (h .snippets) q′ (map-take code.byteOf (s .len) (s .points) ∙ k .shows .shown))
+            (shows-more 15 snippetBytes pointBytes (b .snippets) (b .«num_snippets») (snippetsOf is) (record { points = s .points; len = s .len }) ps (h .snippets) q′ (map-take code.pwlByte (s .len) (s .points) ∙ k .shows .shown))
             (h .sequences)
             (all-append SnippetAdmitted (snippetsOf is) (ps ∷ []) (h .snippet) (record { nonempty = omega (arith, k .shows .counted); few = omega (arith, k .shows .counted, k .shows .room); each = k .good }, tt))
             (h .sequence),

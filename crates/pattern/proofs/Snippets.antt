@@ -26,7 +26,7 @@ use Rattle.pattern.specs.Calls.{SnippetCall, ramp, step, point, snippetS
 use Rattle.pattern.proofs.Outcomes.{Outcome, all-calls, Shows, shows-more}
 
 pub record Holds (b : SnippetBuilder) (ps : List Point) : Type 0 where
-  pub shows : Shows 16 code.byteOf byteOf (b .points) (b .len) ps
+  pub shows : Shows 16 code.pwlByte byteOf (b .points) (b .len) ps
   pub good : All Good ps
 
 pub none-held : Holds newSnippet []
@@ -43,7 +43,7 @@ with-point b ps x p e g h = go (decLe 16 (b .len)) where
   go (no f) =
       let l : b .len < 16 = omega arith in
       simp (lt-leb _ _ l)
-      (inl (refl, record { shows = shows-more 16 code.byteOf byteOf (b .points) (b .len) ps (pointOf x) p (h .shows) l e; good = all-append Good ps (p ∷ []) (h .good) (g, tt) }))
+      (inl (refl, record { shows = shows-more 16 code.pwlByte byteOf (b .points) (b .len) ps (pointOf x) p (h .shows) l e; good = all-append Good ps (p ∷ []) (h .good) (g, tt) }))
 
 with-made : (b : SnippetBuilder) (ps : List Point) (r : Bool) (t a : ℕ) → Holds b ps
     → Made b ps (withMade b (made.point r t a)) (record { ramp = r; timebases = t; amplitude = a })

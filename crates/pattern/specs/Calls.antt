@@ -42,6 +42,11 @@ module _ {B K X : Type 0} (step : B → K → Handed B) (adds : K → X) where
   held b [] = []
   held b (k ∷ ks) = cond (ltb 0 (step b k .number)) (held (step b k .builder) ks) (adds k ∷ held (step b k .builder) ks)
 
+  -- the answer to each call: 0 where it is accepted, else the number of its refusal
+  abbrev pub answersTo : B → List K → List ℕ
+  answersTo b [] = []
+  answersTo b (k ∷ ks) = step b k .number ∷ answersTo (step b k .builder) ks
+
 -- ---- a snippet
 
 pub data SnippetCall : Type 0 where
@@ -95,6 +100,14 @@ pub record FrameCalls : Type 0 where
 
 abbrev pub frameRan : FrameBuilder → List FrameCall → FrameBuilder
 frameRan b ks = ran frameStep (λ k. k) b ks
+
+-- the answer to a call on a frame: where `new` was refused, that refusal
+abbrev pub answerOn : Told FrameBuilder → List FrameCall → FrameCall → ℕ
+answerOn (gives f) ks k = frameStep (frameRan f ks) k .number
+answerOn (refuses n) ks k = n
+
+abbrev pub frameCalled : FrameCalls → FrameCall → ℕ
+frameCalled m k = answerOn (begunBy (m .begin)) (m .calls) k
 
 -- "A frame's field is what the last accepted call that sets it gave, else the Rust's default"
 abbrev pub numberOf : Begin → ℕ

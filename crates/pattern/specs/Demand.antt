@@ -4,13 +4,14 @@ use Prim.Native.Nat.{ℕ}
 use mathlib.Core.Path.{_≡_}
 use mathlib.Core.Logic.{_↔_}
 use mathlib.Core.Bool.{Bool, false}
-use mathlib.Core.List.{List}
+use mathlib.Core.List.{List, _++_}
 use mathlib.Core.Option.{Option, none, some}
 use lib.ListN.{length}
 use Rattle.laws.specs.Bytes.{Bytes}
+use Rattle.memory.specs.Memory.{builtMemory}
 use Rattle.content.specs.Content.{Content, Admitted, imageOf, Same}
 use Rattle.content.specs.ReadImage.{readImage}
-use Rattle.pattern.specs.Calls.{MemoryCall, contentFrom, builtFrom}
+use Rattle.pattern.specs.Calls.{ran, MemoryCall, memoryStep, addedItem, contentFrom, builtFrom}
 
 -- a pattern: an acceleration flag and the calls on a memory builder
 pub record Pattern : Type 0 where
@@ -47,5 +48,8 @@ pub record Demand3 : Type 0 where
   pub returned : (l : List ℕ) → Bytes l → (c : Content) → readImage l ≡ some c → ImageOf l c
   -- "and refuses exactly when there are no such lists"
   pub refusal : (l : List ℕ) → Bytes l → (readImage l ≡ none) ↔ ¬ ((c : Content) × Admitted c × (imageOf c ≡ l))
+  -- a `build`, refused or not, hands back its builder as it came in: more calls on it add to what was added before
+  pub goesOn : (a : Bool) (ks js : List MemoryCall)
+      → builtMemory (ran memoryStep addedItem (builtFrom a ks .builder) js) ≡ builtFrom a (ks ++ js)
   -- every built image is read back to the same content
   pub readBack : (p : Pattern) → IsBuilt p → (c : Content) × (readImage (image p) ≡ some c) × Same (content p) c

@@ -3,12 +3,8 @@ use Prim.Native.Nat.{ℕ, _+_, _*_, _<_}
 use mathlib.Core.List.{List}
 use mathlib.Core.Option.{Option, none, some}
 use lib.ListN.{length}
-use Rattle.frame.specs.declared.LoopCount.{LoopCount}
-use Rattle.frame.specs.declared.LoopCount.the-variants as LoopCount
-use Rattle.frame.specs.declared.Frequency.{Frequency}
-use Rattle.frame.specs.declared.Frequency.the-variants as Frequency
 use Rattle.frame.specs.declared.FrameBuilder.{FrameBuilder}
-use Rattle.frame.specs.Frame.{gainCode, timebaseCode}
+use Rattle.frame.specs.Word.{frameWord}
 use Rattle.content.specs.Content.{Point, Content, byteOf}
 use Rattle.reader.specs.Items.{element}
 
@@ -36,24 +32,6 @@ pointCode (some p) = byteOf p
 abbrev pub pointAnswer : Option Content → ℕ → ℕ → ℕ
 pointAnswer none i j = 4608
 pointAnswer (some c) i j = pointCode (element (c .snippets) i j)
-
--- a loop count, 255 if absent; a frequency, 65535 if absent
-abbrev pub loopByte : LoopCount → ℕ
-loopByte LoopCount.Absent = 255
-loopByte (LoopCount.Given k) = k
-
-abbrev pub frequencyWord : Frequency → ℕ
-frequencyWord Frequency.Absent = 65535
-frequencyWord (Frequency.Given f) = f
-
--- a frame's fields, eight bits each and sixteen for the frequency
-abbrev pub frameWord : FrameBuilder → ℕ
-frameWord f =
-    f .«snippet_id»
-    + gainCode (f .gain) * 256
-    + timebaseCode (f .timebase) * 65536
-    + loopByte (f .«loop_count») * 16777216
-    + frequencyWord (f .frequency) * 4294967296
 
 -- 2 ^ 48 where there is none
 abbrev pub frameCode : Option FrameBuilder → ℕ

@@ -8,11 +8,9 @@ ghost use lib.ListN.{length, getD, getElem?};
 ghost use Rattle.content.specs.ReadImage.{readImage, readFrames};
 ghost use Rattle.reader.specs.Items.{frameAtTold};
 ghost use Rattle.readings.specs.InPlace.{present, itemFits, lastIn, indexTold, itemsFit, beforeItem, itemAt, NthFrame, FrameOf};
-ghost use Rattle.readings.specs.Readings.{countsWord, byteCode, Small, pointAnswer, loopByte, frequencyWord, frameWord, frameCode, frameAnswer};
+ghost use Rattle.readings.specs.Readings.{countsWord, byteCode, Small, pointAnswer, frameCode, frameAnswer};
 use frame::FrameBuilder;
 use frame::FrameRead;
-use frame::Frequency;
-use frame::LoopCount;
 use reader::items::FrameAt;
 
 // 256 times the number of snippets and the number of sequences, or 18 for what is no image.
@@ -246,45 +244,11 @@ fn byte(image: &[u8], at: usize) -> usize
 
 // ---- a frame as one number
 
-fn loop_byte(k: LoopCount) -> u8
-    ensures { λ r. ⌜ r ≡ loopByte k ⌝ }
-{
-    match k {
-        LoopCount::Absent => 255,
-        LoopCount::Given(n) => n,
-    }
-}
-
-fn frequency_word(f: Frequency) -> u16
-    ensures { λ r. ⌜ r ≡ frequencyWord f ⌝ }
-{
-    match f {
-        Frequency::Absent => 65535,
-        Frequency::Given(n) => n,
-    }
-}
-
-fn frame_word(f: FrameBuilder) -> u64
-    ensures { λ r. ⌜ r ≡ frameWord f ⌝ }
-{
-    let p = f.parts();
-    let gain = p.gain;
-    let timebase = p.timebase;
-    let loops = p.loop_count;
-    let frequency = p.frequency;
-    let a = p.snippet_id as u64;
-    let b = (gain.code() as u64) * 256;
-    let c = (timebase.code() as u64) * 65536;
-    let d = (loop_byte(loops) as u64) * 16777216;
-    let e = (frequency_word(frequency) as u64) * 4294967296;
-    a + b + c + d + e
-}
-
 fn frame_code(f: FrameAt) -> u64
     ensures { λ r. ⌜ r ≡ frameCode (frameAtTold f) ⌝ }
 {
     match f {
-        FrameAt::Frame(x) => frame_word(x),
+        FrameAt::Frame(x) => x.word(),
         FrameAt::Absent => 281474976710656,
     }
 }

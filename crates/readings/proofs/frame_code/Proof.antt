@@ -4,7 +4,7 @@ use Rattle.readings.proofs.frame_code.Statement.{statement}
 use Rattle.readings.proofs.frame_code.Tie as tie
 
 returns : tie.Need-returns
-returns c = simp (c .before .before .f .given .1) (c .frame-word .ensures)
+returns c = simp (c .before .before .f .given .1) (c .word .ensures .0)
 
 pub frame-code-spec : {M : Type 1} → statement M
 frame-code-spec =
