@@ -5,53 +5,65 @@
 ghost use mathlib.Core.Path.{_≡_};
 ghost use Prim.Native.Nat.{_≤_, _<_};
 ghost use lib.ListN.{length, getD, getElem?};
+ghost use Rattle.errors.specs.Packed.{packed};
 ghost use Rattle.content.specs.ReadImage.{readImage, readFrames};
 ghost use Rattle.reader.specs.Items.{frameAtTold};
 ghost use Rattle.readings.specs.InPlace.{present, itemFits, lastIn, indexTold, itemsFit, beforeItem, itemAt, NthFrame, FrameOf};
-ghost use Rattle.readings.specs.Readings.{countsWord, byteCode, Small, pointAnswer, frameCode, frameAnswer};
+ghost use Rattle.readings.specs.Readings.{countsAnswer, byteCode, Small, pointAnswer, frameCode, frameAnswer};
 use frame::FrameBuilder;
 use frame::FrameRead;
 use reader::items::FrameAt;
 
-// 256 times the number of snippets and the number of sequences, or 18 for what is no image.
-pub fn counts(image: &[u8]) -> u16
-    ensures { λ r. ⌜ r ≡ countsWord (readImage (now (image .entry))) ⌝ }
+// The refusal 18 above the 16 bits of counts or of a point, and above the 56 bits of a frame.
+const NO_IMAGE: u32 = 18 << 16;
+
+const NO_IMAGE_WORD: u64 = 18 << 56;
+
+// Where an image has no such point or frame.
+const NO_POINT: u32 = 256;
+
+const NO_FRAME: u64 = 1 << 48;
+
+// 256 times the number of snippets and the number of sequences; 18 * 65536 for what is no image.
+pub fn counts(image: &[u8]) -> u32
+    ensures { λ r. ⌜ r ≡ packed 16 (countsAnswer (readImage (now (image .entry)))) ⌝ }
 {
     if is_image(image) {
         let s = byte(image, 0);
         let q = byte(image, 1);
-        return (s * 256 + q) as u16;
+        return (s * 256 + q) as u32;
     }
-    18
+    NO_IMAGE
 }
 
-// The byte of the j-th point of the i-th snippet, or 256, or 18 * 256 for what is no image.
-pub fn point(image: &[u8], i: usize, j: usize) -> u16
-    ensures { λ r. ⌜ r ≡ pointAnswer (readImage (now (image .entry))) i j ⌝ }
+// The byte of the j-th point of the i-th snippet, both counted from 0, or 256 where there is none; 18 * 65536 for what is no image.
+pub fn point(image: &[u8], i: usize, j: usize) -> u32
+    ensures { λ r. ⌜ r ≡ packed 16 (pointAnswer (readImage (now (image .entry))) i j) ⌝ }
 {
     if is_image(image) {
         let s = byte(image, 0);
         if s <= i {
-            return 256;
+            return NO_POINT;
         }
         return byte_of(image, i, j);
     }
-    4608
+    NO_IMAGE
 }
 
-// The fields of the j-th frame of the i-th sequence, or 2 to the power of 48, or 18 times that for what is no image.
+// The fields of the j-th frame of the i-th sequence as one number, or 2 to the power of 48 where there is none; 18 times 2 to the power
+// of 56 for what is no image.
 pub fn frame(image: &[u8], i: usize, j: usize) -> u64
-    ensures { λ r. ⌜ r ≡ frameAnswer (readImage (now (image .entry))) i j ⌝ }
+    ensures { λ r. ⌜ r ≡ packed 56 (frameAnswer (readImage (now (image .entry))) i j) ⌝ }
 {
     if is_image(image) {
         let s = byte(image, 0);
         let q = byte(image, 1);
         if q <= i {
-            return 281474976710656;
+            return NO_FRAME;
         }
         return frame_code(frame_of(image, s + i, j));
     }
-    5066549580791808
+    NO_IMAGE_WORD
 }
 
 // ---- whether bytes are an image
@@ -157,8 +169,8 @@ fn frames_fit(bytes: &[u8]) -> bool
 
 // ---- an image's items, snippets and sequences counted together
 
-// The j-th byte of the k-th item, or 256.
-fn byte_of(image: &[u8], k: usize, j: usize) -> u16
+// The j-th byte of the k-th item, or NO_POINT.
+fn byte_of(image: &[u8], k: usize, j: usize) -> u32
     requires { ⌜ k < 512 ⌝ }
     ensures { λ r. ⌜ r ≡ byteCode (getElem? (itemAt (now (image .entry)) k) j) ⌝ }
     ensures { λ _. ⌜ Small (getElem? (itemAt (now (image .entry)) k) j) ⌝ }
@@ -166,16 +178,16 @@ fn byte_of(image: &[u8], k: usize, j: usize) -> u16
     let last = item_before(image, k);
     let end = byte(image, 2 + k);
     if end <= last {
-        return 256;
+        return NO_POINT;
     }
     if end - last <= j {
-        return 256;
+        return NO_POINT;
     }
     let at = last + 1 + j;
     if image.len() <= at {
-        return 256;
+        return NO_POINT;
     }
-    byte(image, at) as u16
+    byte(image, at) as u32
 }
 
 // The j-th frame of the k-th item.
@@ -249,6 +261,6 @@ fn frame_code(f: FrameAt) -> u64
 {
     match f {
         FrameAt::Frame(x) => x.word(),
-        FrameAt::Absent => 281474976710656,
+        FrameAt::Absent => NO_FRAME,
     }
 }
