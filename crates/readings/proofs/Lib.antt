@@ -1,4 +1,6 @@
 pub mod Elements
 pub mod Fitting
+pub mod Laying
+pub mod Listing
 pub mod Standing
 pub mod Told

@@ -1,3 +1,5 @@
 -- The definitions that the contracts of `readings` cite.
 pub mod InPlace
+pub mod Laying
+pub mod Lists
 pub mod Readings

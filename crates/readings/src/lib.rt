@@ -4,20 +4,34 @@
 // specs/Readings.antt. The private functions answer specs/InPlace.antt.
 ghost use mathlib.Core.Path.{_≡_};
 ghost use Prim.Native.Nat.{_≤_, _<_};
-ghost use lib.ListN.{length, getD, getElem?};
+ghost use lib.ListN.{length, take, getD, getElem?};
+ghost use Rattle.laws.specs.Copied.{copied};
 ghost use Rattle.errors.specs.Packed.{packed};
 ghost use Rattle.content.specs.ReadImage.{readImage, readFrames};
 ghost use Rattle.reader.specs.Items.{frameAtTold};
+ghost use Rattle.reader.specs.Reading.{padded};
 ghost use Rattle.readings.specs.InPlace.{present, itemFits, lastIn, indexTold, itemsFit, beforeItem, itemAt, NthFrame, FrameOf};
 ghost use Rattle.readings.specs.Readings.{countsAnswer, byteCode, Small, pointAnswer, frameCode, frameAnswer};
+ghost use Rattle.readings.specs.Lists.{lowBytes, wordsBytes, listsOut};
+ghost use Rattle.readings.specs.Laying.{placed, laidBytes};
+use errors::Answer;
 use frame::FrameBuilder;
 use frame::FrameRead;
+use reader::Frames;
+use reader::Points;
 use reader::items::FrameAt;
 
 // The refusal 18 above the 16 bits of counts or of a point, and above the 56 bits of a frame.
 const NO_IMAGE: u32 = 18 << 16;
 
 const NO_IMAGE_WORD: u64 = 18 << 56;
+
+// Where the parts of an image's lists begin: the ends of the snippets, the frames, the ends of the sequences.
+const POINT_ENDS: usize = 96;
+
+const FRAMES: usize = 111;
+
+const FRAME_ENDS: usize = 687;
 
 // Where an image has no such point or frame.
 const NO_POINT: u32 = 256;
@@ -64,6 +78,88 @@ pub fn frame(image: &[u8], i: usize, j: usize) -> u64
         return frame_code(frame_of(image, s + i, j));
     }
     NO_IMAGE_WORD
+}
+
+// All lists of an image at once: the points' bytes and the ends of the snippets, six bytes for each frame and the ends of the sequences, as
+// many of these 703 bytes as fit. Answers as `counts` does; what is no image leaves the buffer alone.
+pub fn lists(image: &[u8], out: &mut [u8]) -> u32
+    ensures answer { λ r. ⌜ r ≡ packed 16 (countsAnswer (readImage (now (image .entry)))) ⌝ }
+    ensures buffer { λ _. ⌜ now (out .exit) ≡ listsOut (readImage (now (image .entry))) (now (out .entry)) ⌝ }
+{
+    let r = reader::read(image);
+    let answer = r.answer;
+    match answer {
+        Answer::Done => {
+            let snippets = r.snippets;
+            let sequences = r.sequences;
+            lay(snippets, sequences, out);
+            snippets.count as u32 * 256 + sequences.count as u32
+        }
+        Answer::Refused(_) => NO_IMAGE,
+    }
+}
+
+// ---- all lists in bytes
+
+fn lay(snippets: Points, sequences: Frames, out: &mut [u8])
+    ensures { λ _. ⌜ now (out .exit) ≡ copied (now (out .entry)) (laidBytes snippets sequences) ⌝ }
+{
+    let points = snippets.items;
+    let point_ends = snippets.ends;
+    let words = frame_bytes(sequences);
+    let frame_ends = sequences.ends;
+    copy_at(out, 0, &points);
+    copy_at(out, POINT_ENDS, &point_ends);
+    copy_at(out, FRAMES, &words);
+    copy_at(out, FRAME_ENDS, &frame_ends);
+}
+
+// The frames in use, six bytes each, then zeros.
+fn frame_bytes(frames: Frames) -> [u8; 576]
+    ensures { λ r. ⌜ r ≡ padded 576 0 (wordsBytes (take (frames .len) (frames .items))) ⌝ }
+{
+    let mut out = [0u8; 576];
+    let n = frames.len as usize;
+    let mut i = 0usize;
+    while i < n {
+        if 96 <= i {
+            return out;
+        }
+        let f = frames.items[i];
+        let six = low_bytes(f.word());
+        copy_at(&mut out, 6 * i, &six);
+        i += 1;
+    }
+    out
+}
+
+// The six low bytes of a number, the lowest first.
+fn low_bytes(w: u64) -> [u8; 6]
+    ensures { λ r. ⌜ r ≡ lowBytes 6 w ⌝ }
+{
+    let b = w / 256;
+    let c = b / 256;
+    let d = c / 256;
+    let e = d / 256;
+    let f = e / 256;
+    [
+        (w % 256) as u8,
+        (b % 256) as u8,
+        (c % 256) as u8,
+        (d % 256) as u8,
+        (e % 256) as u8,
+        (f % 256) as u8,
+    ]
+}
+
+// Copies as much as fits from an index on.
+fn copy_at(out: &mut [u8], at: usize, bytes: &[u8])
+    ensures { λ _. ⌜ now (out .exit) ≡ placed (now (out .entry)) at (now (bytes .entry)) ⌝ }
+{
+    if out.len() <= at {
+        return;
+    }
+    laws::copy_into(&mut out[at..], bytes);
 }
 
 // ---- whether bytes are an image
