@@ -4,3 +4,5 @@ pub mod Laying
 pub mod Listing
 pub mod Standing
 pub mod Told
+pub mod Words
+pub mod Telling

@@ -3,7 +3,7 @@
 use mathlib.Core.Path.{_≡_, refl, sym, ap, _∙_}
 use mathlib.Core.List.{List, _++_, map}
 use mathlib.Core.Option.{Option, none, some}
-use Prim.Native.Nat.{ℕ, _+_, _*_, _^_, _-_}
+use Prim.Native.Nat.{ℕ, _+_, _*_, _-_}
 use native.Mathlib.Omega.{arith}
 use lib.ListN.{length, replicate, length-map}
 use lib.Seq.{take-at}
@@ -43,6 +43,6 @@ module _ (r : Reading) (out last : List ℕ) where
       )
 
   pub lists-refused : (o : Option Content) (n : Error) → r ≡ readingOf o → r .answer ≡ Answer.Refused n
-      → (18 * 2 ^ 16 ≡ packed 16 (countsAnswer o)) × (out ≡ listsOut o out)
+      → (packed 16 (countsAnswer none) ≡ packed 16 (countsAnswer o)) × (out ≡ listsOut o out)
   lists-refused none n e d = (refl, refl)
   lists-refused (some c) n e d = done-refused n (sym (ap (λ (x : Reading). x .answer) e) ∙ d)

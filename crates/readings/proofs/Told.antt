@@ -4,7 +4,7 @@ use mathlib.Core.Path.{_≡_, refl, sym, ap, _∙_, subst}
 use mathlib.Core.Bool.{true, false, _&&_}
 use mathlib.Core.List.{List, [], _∷_}
 use mathlib.Core.Option.{Option, none, some}
-use Prim.Native.Nat.{ℕ, zero, suc, _*_, _+_, _^_, _≤_, _<_}
+use Prim.Native.Nat.{ℕ, zero, suc, _*_, _+_, _≤_, _<_}
 use native.Mathlib.Omega.{arith}
 use lib.Dec.{leb}
 use lib.ListN.{length, getD, getElem?}
@@ -49,13 +49,13 @@ an-element : {A : Type 0} (ls : List (List A)) (i j : ℕ) (h : i < length ls) �
 an-element ls i j h = ap (λ o. andThen o (λ l. getElem? l j)) (elem-some ls i [] h)
 
 module _ (image : List ℕ) where
-  pub counts-none : present (readImage image) ≡ false → 18 * 2 ^ 16 ≡ packed 16 (countsAnswer (readImage image))
+  pub counts-none : present (readImage image) ≡ false → packed 16 (countsAnswer none) ≡ packed 16 (countsAnswer (readImage image))
   counts-none t = ap (λ (o : Option Content). packed 16 (countsAnswer o)) (is-none (readImage image) t)
 
-  pub point-none : (i j : ℕ) → present (readImage image) ≡ false → 18 * 2 ^ 16 ≡ packed 16 (pointAnswer (readImage image) i j)
+  pub point-none : (i j : ℕ) → present (readImage image) ≡ false → packed 16 (pointAnswer none i j) ≡ packed 16 (pointAnswer (readImage image) i j)
   point-none i j t = ap (λ (o : Option Content). packed 16 (pointAnswer o i j)) (is-none (readImage image) t)
 
-  pub frame-none : (i j : ℕ) → present (readImage image) ≡ false → 18 * 2 ^ 56 ≡ packed 56 (frameAnswer (readImage image) i j)
+  pub frame-none : (i j : ℕ) → present (readImage image) ≡ false → packed 56 (frameAnswer none i j) ≡ packed 56 (frameAnswer (readImage image) i j)
   frame-none i j t = ap (λ (o : Option Content). packed 56 (frameAnswer o i j)) (is-none (readImage image) t)
 
   module _ (t : present (readImage image) ≡ true) where
