@@ -2,10 +2,11 @@
 ghost use Prim.Native.Nat.{_<_};
 use errors::Answer;
 use frame::FrameBuilder;
-use items::FrameAt;
-use items::PointAt;
 use reader::Frames;
 use reader::Points;
+use reader::items;
+use reader::items::FrameAt;
+use reader::items::PointAt;
 use snippet::PwlPoint;
 
 // The parts of the image of s snippets and q sequences, by its end pointers.

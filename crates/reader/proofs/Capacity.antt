@@ -18,7 +18,7 @@ use Rattle.reader.specs.declared.Points.{Points}
 use Rattle.reader.specs.declared.Frames.{Frames}
 use Rattle.reader.specs.Reading.{noPoints, noFrames}
 use Rattle.reader.specs.Flat.{pushPoint, pushPoints, pushFrame, endSnippet, endSequence}
-use Rattle.reader.specs.Walk.{runFrames, snippetStep, sequenceStep}
+use Rattle.reader.specs.Walk.{runFrames, pushSnippet, pushSequence}
 use Rattle.reader.proofs.Cuts.{inTurn}
 use Rattle.reader.proofs.Flats.{Flat, push, pushAll, close, joined-snoc, flatOf, add-list}
 use Rattle.reader.proofs.Running.{rest}
@@ -108,14 +108,14 @@ cond-some-then : {A B : Type 0} (t : Bool) (a : A) (f : A → B) → cond t (som
 cond-some-then true a f = refl
 cond-some-then false a f = refl
 
-snippet-raw : (bs : List ℕ) (o : Points) → snippetStep bs o ≡ andThen (rawSnippet bs) (λ x. some (addSnippet o x))
-unfolding snippetStep
+snippet-raw : (bs : List ℕ) (o : Points) → pushSnippet bs o ≡ andThen (rawSnippet bs) (λ x. some (addSnippet o x))
+unfolding pushSnippet
 snippet-raw bs o = cond-some-then (leb 1 (length bs) && leb (length bs) 16) bs (addSnippet o)
 
 pub tracks-snippets : (items : List (List ℕ)) → length (joined items) ≤ 96 → length items ≤ 15
-    → Tracks 0 15 flatPoints [] (inTurn snippetStep items noPoints) (every rawSnippet items)
+    → Tracks 0 15 flatPoints [] (inTurn pushSnippet items noPoints) (every rawSnippet items)
 tracks-snippets items f g =
-    tracks 0 15 flatPoints snippetStep rawSnippet addSnippet snippet-raw raw-long (λ o x. flatPoints-end (pushPoints o x) ∙ ap (close 15) (flatPoints-all x o)) items noPoints []
+    tracks 0 15 flatPoints pushSnippet rawSnippet addSnippet snippet-raw raw-long (λ o x. flatPoints-end (pushPoints o x) ∙ ap (close 15) (flatPoints-all x o)) items noPoints []
     refl (omega arith) (omega arith)
 
 -- ---- frames
@@ -176,8 +176,8 @@ sequence-long bs fs e = frames-long 32 bs fs (cond-some (leb 1 (length bs)) (rea
 abbrev addSequence : Frames → List FrameBuilder → Frames
 addSequence o x = endSequence (pushFrames o x)
 
-sequence-raw : (bs : List ℕ) (o : Frames) → sequenceStep bs o ≡ andThen (readSequence bs) (λ x. some (addSequence o x))
-unfolding sequenceStep readSequence
+sequence-raw : (bs : List ℕ) (o : Frames) → pushSequence bs o ≡ andThen (readSequence bs) (λ x. some (addSequence o x))
+unfolding pushSequence readSequence
 sequence-raw bs o =
     ap (λ (m : Option Frames). cond (leb 1 (length bs)) (andThen m (λ f. some (endSequence f))) none) (run-frames 32 bs o)
     ∙ go (leb 1 (length bs)) (readFrames 32 bs)
@@ -189,7 +189,7 @@ sequence-raw bs o =
     go false q = refl
 
 pub tracks-sequences : (items : List (List ℕ)) → length (joined items) ≤ 96 → length items ≤ 16
-    → Tracks silentFrame 16 flatFrames [] (inTurn sequenceStep items noFrames) (every readSequence items)
+    → Tracks silentFrame 16 flatFrames [] (inTurn pushSequence items noFrames) (every readSequence items)
 tracks-sequences items f g =
-    tracks silentFrame 16 flatFrames sequenceStep readSequence addSequence sequence-raw sequence-long (λ o x. flatFrames-end (pushFrames o x) ∙ ap (close 16) (flatFrames-all x o)) items noFrames []
+    tracks silentFrame 16 flatFrames pushSequence readSequence addSequence sequence-raw sequence-long (λ o x. flatFrames-end (pushFrames o x) ∙ ap (close 16) (flatFrames-all x o)) items noFrames []
     refl (omega arith) (omega arith)

@@ -17,7 +17,7 @@ use Rattle.reader.specs.declared.Reading.{Reading}
 use Rattle.reader.specs.declared.SnippetsRead.{SnippetsRead}
 use Rattle.reader.specs.declared.SequencesRead.{SequencesRead}
 use Rattle.reader.specs.Reading.{noPoints, noFrames}
-use Rattle.reader.specs.Walk.{Walked, item, walk, snippetStep, sequenceStep, walkSnippets, walkSequences, snippetsRead, sequencesRead, snippetsThen, sequencesThen, finished, afterSnippets, afterCounts, scanned, noReading}
+use Rattle.reader.specs.Walk.{Walked, item, walk, pushSnippet, pushSequence, walkSnippets, walkSequences, snippetsRead, sequencesRead, snippetsThen, sequencesThen, finished, afterSnippets, afterCounts, scanned, noReading}
 
 -- ---- the last index is one of the image
 
@@ -34,13 +34,13 @@ pub snippets-last : (image es : List ℕ) (p : ℕ) (r : SnippetsRead) → p < l
 snippets-last image es p r h e = subst (λ (x : SnippetsRead). x .last < length image) (sym e) (go (walkSnippets image p es noPoints) refl) where
   go : (m : Option (Walked Points)) → walkSnippets image p es noPoints ≡ m → snippetsRead m .last < length image
   go none k = omega arith
-  go (some w) k = walk-last snippetStep image es p noPoints w h k
+  go (some w) k = walk-last pushSnippet image es p noPoints w h k
 
 pub sequences-last : (image es : List ℕ) (p : ℕ) (r : SequencesRead) → p < length image → r ≡ sequencesRead (walkSequences image p es noFrames) → r .last < length image
 sequences-last image es p r h e = subst (λ (x : SequencesRead). x .last < length image) (sym e) (go (walkSequences image p es noFrames) refl) where
   go : (m : Option (Walked Frames)) → walkSequences image p es noFrames ≡ m → sequencesRead m .last < length image
   go none k = omega arith
-  go (some w) k = walk-last sequenceStep image es p noFrames w h k
+  go (some w) k = walk-last pushSequence image es p noFrames w h k
 
 -- ---- found or not
 

@@ -3,6 +3,6 @@ pub mod Cuts
 pub mod Flats
 pub mod Found
 pub mod Loops
+pub mod Placed
 pub mod Running
-pub mod Told
 pub mod Whole

@@ -6,9 +6,8 @@ use mathlib.Core.List.{List, [], _∷_, _++_}
 use mathlib.Core.Option.{Option, none, some}
 use Prim.Native.Nat.{ℕ, zero, suc, _+_, _-_, _/_, _%_, _≤_, _<_}
 use native.Mathlib.Omega.{arith}
-use borrow.Author.Tests.{lt-ltb, le-ltb}
 use lib.Dec.{ltb}
-use lib.ListN.{length, drop, set, length-append, drop-of-length-le}
+use lib.ListN.{length, drop, length-append, drop-of-length-le}
 use lib.Seq.{drop-drop, drop-at}
 use Rattle.errors.specs.Told.{gives, refuses}
 use Rattle.frame.specs.declared.FrameBuilder.{FrameBuilder}
@@ -104,13 +103,3 @@ module _ (s : List ℕ) (at k : ℕ) (o : Frames) (h : at < length s) where
   run-full g =
       let z : 32 - k ≡ 0 = omega arith in
       ap (λ (n : ℕ). runFrames n (drop at s) o) z ∙ ap (λ (l : List ℕ). runFrames 0 l o) (drop-one s at h)
-
--- a frame stored in place, or left out for want of room
-pub push-in : (o z : Frames) (f : FrameBuilder) → o .len < 96
-    → z ≡ record { items = set (o .items) (o .len) f; len = o .len + 1; ends = o .ends; count = o .count } → z ≡ pushFrame o f
-unfolding pushFrame
-push-in o z f h e = e ∙ sym (simp (lt-ltb (o .len) 96 h))
-
-pub push-out : (o z : Frames) (f : FrameBuilder) → 96 ≤ o .len → z ≡ o → z ≡ pushFrame o f
-unfolding pushFrame
-push-out o z f h e = e ∙ sym (simp (le-ltb (o .len) 96 h))

@@ -24,8 +24,8 @@ use Rattle.reader.specs.declared.Points.{Points}
 use Rattle.reader.specs.declared.Frames.{Frames}
 use Rattle.reader.specs.declared.Reading.{Reading}
 use Rattle.reader.specs.Reading.{noPoints, noFrames, readingOf}
-use Rattle.reader.specs.Walk.{snippetStep, sequenceStep, walkSequences, noReading, sequencesThen, afterSnippets, snippetsThen, afterCounts, scanned}
-use Rattle.reader.proofs.Told.{readingTold, imageTold}
+use Rattle.reader.specs.Walk.{pushSnippet, pushSequence, walkSequences, noReading, sequencesThen, afterSnippets, snippetsThen, afterCounts, scanned}
+use Rattle.reader.specs.Told.{readingTold, imageTold}
 use Rattle.reader.proofs.Capacity.{Tracks, flatPoints, flatFrames, rawSnippet, raw-same, tracks-snippets, tracks-sequences}
 use Rattle.reader.proofs.Cuts.{lastOf, inTurn, afterCut, walk-cut, joinCut, cutMore, cut-append, cond-then, WasCut, was-cut}
 use Rattle.reader.proofs.Flats.{flatOf, shows}
@@ -159,9 +159,9 @@ module _ (s q : ℕ) (l : List ℕ) (h : length l ≡ 98) (t : countsFit s q ≡
     last = lastOf first ends
 
     after-snippets : (n : Option Cut) → cut last more (drop (last + 1) image) ≡ n
-        → Right (andThen (andThen (andThen n (joinCut c)) (itemsFrom s)) contentIn) (snippetsThen image s q (afterCut snippetStep image last noPoints c))
+        → Right (andThen (andThen (andThen n (joinCut c)) (itemsFrom s)) contentIn) (snippetsThen image s q (afterCut pushSnippet image last noPoints c))
     after-snippets none e =
-        via {o = none} {o′ = none} refl (snippets-none image s q last (inTurn snippetStep (c .items) noPoints) (walk-cut sequenceStep image more last noFrames ∙ rw e)) none-right
+        via {o = none} {o′ = none} refl (snippets-none image s q last (inTurn pushSnippet (c .items) noPoints) (walk-cut pushSequence image more last noFrames ∙ rw e)) none-right
     after-snippets (some d) e =
         let b = counts-sound s q t in
         let v = was-cut more last image d e in
@@ -174,15 +174,15 @@ module _ (s q : ℕ) (l : List ℕ) (h : length l ≡ 98) (t : countsFit s q ≡
         let z : allZero (d .left) ≡ allZero (drop (lastOf last more + 1) image) = ap allZero (v .left) in
         let y : List (List ℕ) → List (List ℕ) → Option Content = λ a b. made (every rawSnippet a) (every readSequence b) in
         via (items-read s c d (w .count ∙ n1) ∙ ap (λ (x : Bool). cond x (y (c .items) (d .items)) none) z)
-        (snippets-some image s q last (inTurn snippetStep (c .items) noPoints) (inTurn sequenceStep (d .items) noFrames) (lastOf last more) (walk-cut sequenceStep image more last noFrames ∙ rw e))
-        (last-step (allZero (drop (lastOf last more + 1) image)) (inTurn snippetStep (c .items) noPoints) (every rawSnippet (c .items)) k (λ xs e. subst (All Bytes) (raw-same (c .items) xs e) (w .bytes small)) (inTurn sequenceStep (d .items) noFrames) (every readSequence (d .items)) j)
+        (snippets-some image s q last (inTurn pushSnippet (c .items) noPoints) (inTurn pushSequence (d .items) noFrames) (lastOf last more) (walk-cut pushSequence image more last noFrames ∙ rw e))
+        (last-step (allZero (drop (lastOf last more + 1) image)) (inTurn pushSnippet (c .items) noPoints) (every rawSnippet (c .items)) k (λ xs e. subst (All Bytes) (raw-same (c .items) xs e) (w .bytes small)) (inTurn pushSequence (d .items) noFrames) (every readSequence (d .items)) j)
 
   after-counts : (m : Option Cut) → cut first ends (drop (first + 1) image) ≡ m
-      → Right (andThen (andThen (andThen m (cutMore (lastOf first ends) more)) (itemsFrom s)) contentIn) (snippetsThen image s q (andThen m (afterCut snippetStep image (lastOf first ends) noPoints)))
+      → Right (andThen (andThen (andThen m (cutMore (lastOf first ends) more)) (itemsFrom s)) contentIn) (snippetsThen image s q (andThen m (afterCut pushSnippet image (lastOf first ends) noPoints)))
   after-counts none e = none-right
   after-counts (some c) e =
       let w = was-cut ends first image c e in
-      let r : Reading = snippetsThen image s q (afterCut snippetStep image (lastOf first ends) noPoints c) in
+      let r : Reading = snippetsThen image s q (afterCut pushSnippet image (lastOf first ends) noPoints c) in
       subst (λ (x : List ℕ). Right (andThen (andThen (andThen (cut (lastOf first ends) more x) (joinCut c)) (itemsFrom s)) contentIn) r) (sym (w .left))
       (after-snippets c w (cut (lastOf first ends) more (drop (lastOf first ends + 1) image)) refl)
 
@@ -190,7 +190,7 @@ module _ (s q : ℕ) (l : List ℕ) (h : length l ≡ 98) (t : countsFit s q ≡
   unfolding afterCounts
   counts-right =
       let m : Option Cut = cut first ends (drop (first + 1) image) in
-      via image-cut (ap (snippetsThen image s q) (walk-cut snippetStep image ends first noPoints)) (after-counts m refl)
+      via image-cut (ap (snippetsThen image s q) (walk-cut pushSnippet image ends first noPoints)) (after-counts m refl)
 
 -- what is refused at once
 image-none : (s q : ℕ) (l : List ℕ) (t u : Bool) → eqb (length l) 98 ≡ t → countsFit s q ≡ u → (t && u) ≡ false → readImage (s ∷ q ∷ l) ≡ none
@@ -213,5 +213,5 @@ whole (s ∷ q ∷ l) small = go (eqb (length (s ∷ q ∷ l)) 100) (countsFit s
       refused-right (image-none s q l false u (ne-eqb (length l) 98 (λ n. d (omega arith))) f refl)
 
 -- a reading that holds what the image says tells it
-pub told : (image : List ℕ) → Bytes image → (r : Reading) → r ≡ readingOf (readImage image) → readingTold r ≡ imageTold (readImage image)
-told image small r e = let w = whole image small in ap readingTold (e ∙ sym (w .1)) ∙ w .0
+pub told : (l : List ℕ) → Bytes l → (r : Reading) → r ≡ readingOf (readImage l) → readingTold r ≡ imageTold (readImage l)
+told l small r e = let w = whole l small in ap readingTold (e ∙ sym (w .1)) ∙ w .0

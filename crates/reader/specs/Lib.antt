@@ -1,4 +1,7 @@
--- The definitions that the contracts of `reader` cite.
+-- The definitions that the contracts and the theorem of `reader` cite.
 pub mod Flat
+pub mod Items
+pub mod Places
 pub mod Reading
+pub mod Told
 pub mod Walk

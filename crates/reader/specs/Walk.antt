@@ -34,11 +34,11 @@ abbrev pub framesRead : Option Frames → FramesRead
 framesRead none = framesLost
 framesRead (some o) = record { found = true; frames = o }
 
-unfoldable pub snippetStep : List ℕ → Points → Option Points
-snippetStep bs o = cond (leb 1 (length bs) && leb (length bs) 16) (some (endSnippet (pushPoints o bs))) none
+unfoldable pub pushSnippet : List ℕ → Points → Option Points
+pushSnippet bs o = cond (leb 1 (length bs) && leb (length bs) 16) (some (endSnippet (pushPoints o bs))) none
 
-unfoldable pub sequenceStep : List ℕ → Frames → Option Frames
-sequenceStep bs o = cond (leb 1 (length bs)) (andThen (runFrames 32 bs o) (λ f. some (endSequence f))) none
+unfoldable pub pushSequence : List ℕ → Frames → Option Frames
+pushSequence bs o = cond (leb 1 (length bs)) (andThen (runFrames 32 bs o) (λ f. some (endSequence f))) none
 
 -- ---- the items that end at the pointers
 
@@ -57,7 +57,7 @@ module _ {S : Type 0} (step : List ℕ → S → Option S) (image : List ℕ) wh
   walk p (e ∷ es) o = cond (ltb p e) (cond (ltb e (length image)) (andThen (step (item image p e) o) (λ o′. walk e es o′)) none) none
 
 abbrev pub walkSnippets : List ℕ → ℕ → List ℕ → Points → Option (Walked Points)
-walkSnippets = walk snippetStep
+walkSnippets = walk pushSnippet
 
 abbrev pub noSnippets : SnippetsRead
 noSnippets = record { found = false; snippets = noPoints; last = 0 }
@@ -67,7 +67,7 @@ snippetsRead none = noSnippets
 snippetsRead (some w) = record { found = true; snippets = w .state; last = w .last }
 
 abbrev pub walkSequences : List ℕ → ℕ → List ℕ → Frames → Option (Walked Frames)
-walkSequences = walk sequenceStep
+walkSequences = walk pushSequence
 
 abbrev pub noSequences : SequencesRead
 noSequences = record { found = false; sequences = noFrames; last = 0 }

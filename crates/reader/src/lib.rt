@@ -3,9 +3,11 @@
 // Proved: `read` answers the content that content/specs/ReadImage says, for any slice; what it refuses holds no lists.
 // The private functions answer specs/Flat.antt and specs/Walk.antt, which drop what finds no room; proofs/Capacity.antt: nothing is
 // dropped, since a hundred bytes hold no more.
+pub mod items;
+
 ghost use mathlib.Core.Path.{_≡_};
 ghost use Prim.Native.Nat.{_+_, _≤_, _<_};
-ghost use lib.ListN.{length};
+ghost use lib.ListN.{length, drop};
 ghost use Rattle.errors.specs.Number.{answerNumber};
 ghost use Rattle.content.specs.ReadImage.{readImage, countsFit, allZero};
 ghost use Rattle.reader.specs.Reading.{readNumber, readingOf, noPoints, noFrames};
@@ -176,12 +178,6 @@ fn read_frames(lists: Frames, bytes: &[u8]) -> FramesRead
 
 // ---- the items that end at the pointers
 
-fn wide(x: u8) -> usize
-    ensures { λ r. ⌜ r ≡ x ⌝ }
-{
-    x as usize
-}
-
 fn no_snippets() -> SnippetsRead
     ensures { λ r. ⌜ r ≡ noSnippets ⌝ }
 {
@@ -212,7 +208,7 @@ fn read_snippets(image: &[u8], ends: &[u8], first: usize) -> SnippetsRead
     let mut before = first;
     let mut i = 0usize;
     while i < ends.len() {
-        let end = wide(ends[i]);
+        let end = laws::wide(ends[i]);
         if end <= before {
             return no_snippets();
         }
@@ -244,7 +240,7 @@ fn read_sequences(image: &[u8], ends: &[u8], first: usize) -> SequencesRead
     let mut last = first;
     let mut i = 0usize;
     while i < ends.len() {
-        let end = wide(ends[i]);
+        let end = laws::wide(ends[i]);
         if end <= last {
             return no_sequences();
         }
@@ -284,12 +280,13 @@ fn refused() -> Reading
     }
 }
 
-fn all_zero(bytes: &[u8]) -> bool
-    ensures { λ r. ⌜ r ≡ allZero (now (bytes .entry)) ⌝ }
+// Whether all bytes from an index on are zero; past the end there are none.
+pub fn zero_from(image: &[u8], at: usize) -> bool
+    ensures { λ r. ⌜ r ≡ allZero (drop at (now (image .entry))) ⌝ }
 {
-    let mut i = 0usize;
-    while i < bytes.len() {
-        if 0 < bytes[i] {
+    let mut i = at;
+    while i < image.len() {
+        if 0 < image[i] {
             return false;
         }
         i += 1;
@@ -302,8 +299,7 @@ fn finish(image: &[u8], snippets: Points, sequences: Frames, last: usize) -> Rea
     requires { ⌜ last < length (now image) ⌝ }
     ensures { λ r. ⌜ r ≡ finished (now (image .entry)) snippets sequences last ⌝ }
 {
-    let tail = last + 1;
-    if all_zero(&image[tail..]) {
+    if zero_from(image, last + 1) {
         return Reading {
             answer: Answer::Done,
             snippets: snippets,
@@ -361,8 +357,8 @@ fn scan(image: &[u8]) -> Reading
     ensures { λ r. ⌜ r ≡ scanned (now (image .entry)) ⌝ }
 {
     if image.len() == 100 {
-        let s = wide(image[0]);
-        let q = wide(image[1]);
+        let s = laws::wide(image[0]);
+        let q = laws::wide(image[1]);
         if counts_fit(s, q) {
             return snippets_of(image, s, q);
         }

@@ -18,11 +18,11 @@ use Rattle.content.proofs.Codec.{none-some, some-inj, then-some}
 use Rattle.reader.specs.Walk.{item}
 use Rattle.reader.proofs.Loops.{item-part}
 use Rattle.reader.proofs.Running.{took, refused}
-use Rattle.items.specs.declared.FrameAt.{FrameAt}
-use Rattle.items.specs.declared.FrameAt.the-variants as FrameAt
-use Rattle.items.proofs.Placed.{elem-some, elem-none, one-part}
+use Rattle.reader.specs.declared.items.FrameAt.{FrameAt}
+use Rattle.reader.specs.declared.items.FrameAt.the-variants as FrameAt
+use Rattle.reader.proofs.Placed.{elem-some, elem-none, one-part}
 use Rattle.readings.specs.InPlace.{beforeItem, itemAt, NthFrame, FrameOf}
-use Rattle.readings.specs.Readings.{byteCode, Small}
+use Rattle.readings.specs.Readings.{absentPoint, byteCode, Small}
 
 -- ---- an item's bytes
 
@@ -46,17 +46,17 @@ module _ (image : List ℕ) (k j last end : ℕ) (e : last ≡ beforeItem image 
   abbrev pub Byte : ℕ → Type 0
   Byte r = (r ≡ byteCode (getElem? (itemAt image k) j)) × Small (getElem? (itemAt image k) j)
 
-  no-byte : getElem? (itemAt image k) j ≡ none → Byte 256
+  no-byte : getElem? (itemAt image k) j ≡ none → Byte absentPoint
   no-byte d = (ap byteCode (sym d), subst Small (sym d) tt)
 
-  pub byte-short : end - last ≤ j → Byte 256
+  pub byte-short : end - last ≤ j → Byte absentPoint
   byte-short g = no-byte (byte-is ∙ simp (le-ltb j (end - last) g))
 
   module _ (g : j < end - last) where
     byte-in : getElem? (itemAt image k) j ≡ getElem? image (last + 1 + j)
     byte-in = byte-is ∙ simp (lt-ltb j (end - last) g)
 
-    pub byte-past : length image ≤ last + 1 + j → Byte 256
+    pub byte-past : length image ≤ last + 1 + j → Byte absentPoint
     byte-past h = no-byte (byte-in ∙ elem-none image (last + 1 + j) h)
 
     pub byte-there : last + 1 + j < length image → (b : ℕ) → b ≡ getD image (last + 1 + j) 0 → b < 256 → Byte b

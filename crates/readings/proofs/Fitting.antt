@@ -22,7 +22,7 @@ use Rattle.reader.specs.declared.Frames.{Frames}
 use Rattle.reader.specs.declared.Reading.{Reading}
 use Rattle.reader.specs.Reading.{noPoints, noFrames, readingOf}
 use Rattle.reader.specs.Flat.{pushFrame, pushPoints, endSnippet, endSequence}
-use Rattle.reader.specs.Walk.{runFrames, snippetStep, sequenceStep, Walked, item, walk, walkSnippets, walkSequences, noReading, sequencesThen, afterSnippets, snippetsThen, afterCounts, scanned}
+use Rattle.reader.specs.Walk.{runFrames, pushSnippet, pushSequence, Walked, item, walk, walkSnippets, walkSequences, noReading, sequencesThen, afterSnippets, snippetsThen, afterCounts, scanned}
 use Rattle.reader.proofs.Loops.{drop-one}
 use Rattle.reader.proofs.Running.{run-step, run-stop, run-full, run-end}
 use Rattle.reader.proofs.Whole.{whole}
@@ -49,12 +49,12 @@ frames-found (suc k) (b ∷ bs) o = go (λ r o′. frames-found k r o′) (readF
   go ih none = refl
   go ih (some p) = ih (p .rest) (pushFrame o (p .frame)) ∙ more-found (p .frame) (readFrames k (p .rest))
 
-snippet-found : (bs : List ℕ) (o : Points) → present (snippetStep bs o) ≡ itemFits true bs
-unfolding snippetStep itemFits
+snippet-found : (bs : List ℕ) (o : Points) → present (pushSnippet bs o) ≡ itemFits true bs
+unfolding pushSnippet itemFits
 snippet-found bs o = some-found (leb 1 (length bs) && leb (length bs) 16) (endSnippet (pushPoints o bs))
 
-sequence-found : (bs : List ℕ) (o : Frames) → present (sequenceStep bs o) ≡ itemFits false bs
-unfolding sequenceStep itemFits
+sequence-found : (bs : List ℕ) (o : Frames) → present (pushSequence bs o) ≡ itemFits false bs
+unfolding pushSequence itemFits
 sequence-found bs o = go (leb 1 (length bs)) (runFrames 32 bs o) (present (readFrames 32 bs)) (frames-found 32 bs o) where
   go : (t : Bool) (m : Option Frames) (n : Bool) → present m ≡ n → present (cond t (andThen m (λ f. some (endSequence f))) none) ≡ (t && n)
   go false m n h = refl
@@ -105,14 +105,14 @@ snippets-done image s q none = refl
 snippets-done image s q (some w) =
     let es : List ℕ = take q (drop (2 + s) image) in
     sequences-done image (w .state) (walkSequences image (w .last) es noFrames)
-    ∙ ap (zerosAfter image) (walk-last sequenceStep false image sequence-found es (w .last) noFrames)
+    ∙ ap (zerosAfter image) (walk-last pushSequence false image sequence-found es (w .last) noFrames)
 
 counts-done : (image : List ℕ) (s q : ℕ) → done (afterCounts image s q .answer) ≡ itemsFit image s q
 unfolding afterCounts itemsFit
 counts-done image s q =
     let es : List ℕ = take s (drop 2 image) in
     snippets-done image s q (walkSnippets image (1 + s + q) es noPoints)
-    ∙ ap (sequencesFit image (2 + s) q) (walk-last snippetStep true image snippet-found es (1 + s + q) noPoints)
+    ∙ ap (sequencesFit image (2 + s) q) (walk-last pushSnippet true image snippet-found es (1 + s + q) noPoints)
 
 module _ (image : List ℕ) (small : Bytes image) where
   abbrev fits : Bool → Bool → Bool

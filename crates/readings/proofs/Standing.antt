@@ -16,8 +16,8 @@ use Rattle.content.proofs.Codec.{none-some, some-inj, cond-some, then-some}
 use Rattle.reader.specs.Walk.{item}
 use Rattle.reader.proofs.Cuts.{drop-on, was-cut}
 use Rattle.content.proofs.Items.{counts-sound}
-use Rattle.items.specs.Places.{startIn}
-use Rattle.items.proofs.Placed.{elem-take, elem-drop}
+use Rattle.reader.specs.Places.{startIn}
+use Rattle.reader.proofs.Placed.{elem-take, elem-drop}
 use Rattle.readings.specs.InPlace.{beforeItem, itemAt}
 
 -- ---- each of a list, read

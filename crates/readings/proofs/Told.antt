@@ -8,16 +8,17 @@ use Prim.Native.Nat.{ℕ, zero, suc, _*_, _+_, _≤_, _<_}
 use native.Mathlib.Omega.{arith}
 use lib.Dec.{leb}
 use lib.ListN.{length, getD, getElem?}
+use Rattle.errors.specs.Packed.{packed}
 use Rattle.snippet.proofs.Points.{byte-back}
 use Rattle.frame.specs.declared.FrameBuilder.{FrameBuilder}
 use Rattle.content.specs.Content.{Point, Content}
 use Rattle.content.specs.ReadImage.{andThen, pointsIn, readSnippet, readFrames, readSequence, readImage}
 use Rattle.content.proofs.Codec.{some-inj, cond-some}
-use Rattle.items.specs.declared.FrameAt.{FrameAt}
-use Rattle.items.specs.Items.{element, frameAtTold}
-use Rattle.items.proofs.Placed.{elem-some, elem-none}
+use Rattle.reader.specs.declared.items.FrameAt.{FrameAt}
+use Rattle.reader.specs.Items.{element, frameAtTold}
+use Rattle.reader.proofs.Placed.{elem-some, elem-none}
 use Rattle.readings.specs.InPlace.{present, itemAt, FrameOf}
-use Rattle.readings.specs.Readings.{countsWord, byteCode, Small, pointCode, pointAnswer, frameCode, frameAnswer}
+use Rattle.readings.specs.Readings.{countsAnswer, absentPoint, byteCode, Small, pointCode, pointAnswer, absentFrame, frameCode, frameAnswer}
 use Rattle.readings.proofs.Standing.{Known, known}
 
 false-true : {X : Type 0} → false ≡ true → X
@@ -48,14 +49,14 @@ an-element : {A : Type 0} (ls : List (List A)) (i j : ℕ) (h : i < length ls) �
 an-element ls i j h = ap (λ o. andThen o (λ l. getElem? l j)) (elem-some ls i [] h)
 
 module _ (image : List ℕ) where
-  pub counts-none : present (readImage image) ≡ false → 18 ≡ countsWord (readImage image)
-  counts-none t = ap countsWord (is-none (readImage image) t)
+  pub counts-none : present (readImage image) ≡ false → packed 16 (countsAnswer none) ≡ packed 16 (countsAnswer (readImage image))
+  counts-none t = ap (λ (o : Option Content). packed 16 (countsAnswer o)) (is-none (readImage image) t)
 
-  pub point-none : (i j : ℕ) → present (readImage image) ≡ false → 4608 ≡ pointAnswer (readImage image) i j
-  point-none i j t = ap (λ (o : Option Content). pointAnswer o i j) (is-none (readImage image) t)
+  pub point-none : (i j : ℕ) → present (readImage image) ≡ false → packed 16 (pointAnswer none i j) ≡ packed 16 (pointAnswer (readImage image) i j)
+  point-none i j t = ap (λ (o : Option Content). packed 16 (pointAnswer o i j)) (is-none (readImage image) t)
 
-  pub frame-none : (i j : ℕ) → present (readImage image) ≡ false → 5066549580791808 ≡ frameAnswer (readImage image) i j
-  frame-none i j t = ap (λ (o : Option Content). frameAnswer o i j) (is-none (readImage image) t)
+  pub frame-none : (i j : ℕ) → present (readImage image) ≡ false → packed 56 (frameAnswer none i j) ≡ packed 56 (frameAnswer (readImage image) i j)
+  frame-none i j t = ap (λ (o : Option Content). packed 56 (frameAnswer o i j)) (is-none (readImage image) t)
 
   module _ (t : present (readImage image) ≡ true) where
     -- what holds of any content that is known holds of what is read
@@ -65,21 +66,21 @@ module _ (image : List ℕ) where
       go none e t = false-true t
       go (some c) e t = f c (known image c e)
 
-    pub counts-told : (s q : ℕ) → s ≡ getD image 0 0 → q ≡ getD image 1 0 → s * 256 + q ≡ countsWord (readImage image)
+    pub counts-told : (s q : ℕ) → s ≡ getD image 0 0 → q ≡ getD image 1 0 → s * 256 + q ≡ packed 16 (countsAnswer (readImage image))
     counts-told s q e f =
-        of-content (λ (o : Option Content). s * 256 + q ≡ countsWord o)
+        of-content (λ (o : Option Content). s * 256 + q ≡ packed 16 (countsAnswer o))
         (λ c k. λ i. (e ∙ sym (k .snippets)) i * 256 + (f ∙ sym (k .sequences)) i)
 
     module _ (i j : ℕ) where
-      pub point-past : (s : ℕ) → s ≡ getD image 0 0 → s ≤ i → 256 ≡ pointAnswer (readImage image) i j
+      pub point-past : (s : ℕ) → s ≡ getD image 0 0 → s ≤ i → absentPoint ≡ packed 16 (pointAnswer (readImage image) i j)
       point-past s e h =
-          of-content (λ (o : Option Content). 256 ≡ pointAnswer o i j)
+          of-content (λ (o : Option Content). absentPoint ≡ packed 16 (pointAnswer o i j))
           (λ c k. ap pointCode (no-element (c .snippets) i j (omega (arith, k .snippets))))
 
       pub point-there : (s r : ℕ) → s ≡ getD image 0 0 → i < s → r ≡ byteCode (getElem? (itemAt image i) j) → Small (getElem? (itemAt image i) j)
-          → r ≡ pointAnswer (readImage image) i j
+          → r ≡ packed 16 (pointAnswer (readImage image) i j)
       point-there s r e h d w =
-          of-content (λ (o : Option Content). r ≡ pointAnswer o i j)
+          of-content (λ (o : Option Content). r ≡ packed 16 (pointAnswer o i j))
           (λ c k.
           let g : i < length (c .snippets) = omega (arith, k .snippets) in
           let p : readSnippet (itemAt image i) ≡ some (getD (c .snippets) i []) = sym (k .snippet i (omega arith)) ∙ elem-some (c .snippets) i [] g in
@@ -87,15 +88,15 @@ module _ (image : List ℕ) where
           ∙ ap (λ (l : List Point). pointCode (getElem? l j)) (snippet-points (itemAt image i) _ p)
           ∙ ap pointCode (sym (an-element (c .snippets) i j g)))
 
-      pub frame-past : (q : ℕ) → q ≡ getD image 1 0 → q ≤ i → 281474976710656 ≡ frameAnswer (readImage image) i j
+      pub frame-past : (q : ℕ) → q ≡ getD image 1 0 → q ≤ i → absentFrame ≡ packed 56 (frameAnswer (readImage image) i j)
       frame-past q e h =
-          of-content (λ (o : Option Content). 281474976710656 ≡ frameAnswer o i j)
+          of-content (λ (o : Option Content). absentFrame ≡ packed 56 (frameAnswer o i j))
           (λ c k. ap frameCode (no-element (c .sequences) i j (omega (arith, k .sequences))))
 
       pub frame-there : (s q : ℕ) (r : FrameAt) → s ≡ getD image 0 0 → q ≡ getD image 1 0 → i < q → FrameOf image (s + i) j r
-          → frameCode (frameAtTold r) ≡ frameAnswer (readImage image) i j
+          → frameCode (frameAtTold r) ≡ packed 56 (frameAnswer (readImage image) i j)
       frame-there s q r e f h w =
-          of-content (λ (o : Option Content). frameCode (frameAtTold r) ≡ frameAnswer o i j)
+          of-content (λ (o : Option Content). frameCode (frameAtTold r) ≡ packed 56 (frameAnswer o i j))
           (λ c k.
           let g : i < length (c .sequences) = omega (arith, k .sequences) in
           let v : FrameOf image (getD image 0 0 + i) j r = subst (λ (n : ℕ). FrameOf image (n + i) j r) e w in

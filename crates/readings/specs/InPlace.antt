@@ -10,8 +10,8 @@ use lib.ListN.{length, take, drop, getD, getElem?}
 use Rattle.frame.specs.declared.FrameBuilder.{FrameBuilder}
 use Rattle.content.specs.ReadImage.{readFrames, allZero}
 use Rattle.reader.specs.Walk.{item}
-use Rattle.items.specs.declared.FrameAt.{FrameAt}
-use Rattle.items.specs.Items.{frameAtTold}
+use Rattle.reader.specs.declared.items.FrameAt.{FrameAt}
+use Rattle.reader.specs.Items.{frameAtTold}
 
 -- whether there is one
 abbrev pub present : {A : Type 0} → Option A → Bool

@@ -4,54 +4,162 @@
 // specs/Readings.antt. The private functions answer specs/InPlace.antt.
 ghost use mathlib.Core.Path.{_≡_};
 ghost use Prim.Native.Nat.{_≤_, _<_};
-ghost use lib.ListN.{length, drop, getD, getElem?};
-ghost use Rattle.content.specs.ReadImage.{readImage, readFrames, allZero};
-ghost use Rattle.items.specs.Items.{frameAtTold};
+ghost use lib.ListN.{length, take, getD, getElem?};
+ghost use Rattle.laws.specs.Copied.{copied};
+ghost use Rattle.errors.specs.Packed.{packed};
+ghost use Rattle.content.specs.ReadImage.{readImage, readFrames};
+ghost use Rattle.reader.specs.Items.{frameAtTold};
+ghost use Rattle.reader.specs.Reading.{padded};
 ghost use Rattle.readings.specs.InPlace.{present, itemFits, lastIn, indexTold, itemsFit, beforeItem, itemAt, NthFrame, FrameOf};
-ghost use Rattle.readings.specs.Readings.{countsWord, byteCode, Small, pointAnswer, frameCode, frameAnswer};
+ghost use Rattle.readings.specs.Readings.{countsAnswer, byteCode, Small, pointAnswer, frameCode, frameAnswer};
+ghost use Rattle.readings.specs.Lists.{lowBytes, wordsBytes, listsOut};
+ghost use Rattle.readings.specs.Laying.{placed, laidBytes};
+use errors::Answer;
 use frame::FrameBuilder;
 use frame::FrameRead;
-use items::FrameAt;
+use reader::Frames;
+use reader::Points;
+use reader::items::FrameAt;
 
-// 256 times the number of snippets and the number of sequences, or 18 for what is no image.
-pub fn counts(image: &[u8]) -> u16
-    ensures { λ r. ⌜ r ≡ countsWord (readImage (now (image .entry))) ⌝ }
+// The refusal 18 above the 16 bits of counts or of a point, and above the 56 bits of a frame.
+const NO_IMAGE: u32 = 18 << 16;
+
+const NO_IMAGE_WORD: u64 = 18 << 56;
+
+// Where the parts of an image's lists begin: the ends of the snippets, the frames, the ends of the sequences.
+const POINT_ENDS: usize = 96;
+
+const FRAMES: usize = 111;
+
+const FRAME_ENDS: usize = 687;
+
+// Where an image has no such point or frame.
+const NO_POINT: u32 = 256;
+
+const NO_FRAME: u64 = 1 << 48;
+
+// 256 times the number of snippets and the number of sequences; 18 * 65536 for what is no image.
+pub fn counts(image: &[u8]) -> u32
+    ensures { λ r. ⌜ r ≡ packed 16 (countsAnswer (readImage (now (image .entry)))) ⌝ }
 {
     if is_image(image) {
         let s = byte(image, 0);
         let q = byte(image, 1);
-        return (s * 256 + q) as u16;
+        return (s * 256 + q) as u32;
     }
-    18
+    NO_IMAGE
 }
 
-// The byte of the j-th point of the i-th snippet, or 256, or 18 * 256 for what is no image.
-pub fn point(image: &[u8], i: usize, j: usize) -> u16
-    ensures { λ r. ⌜ r ≡ pointAnswer (readImage (now (image .entry))) i j ⌝ }
+// The byte of the j-th point of the i-th snippet, both counted from 0, or 256 where there is none; 18 * 65536 for what is no image.
+pub fn point(image: &[u8], i: usize, j: usize) -> u32
+    ensures { λ r. ⌜ r ≡ packed 16 (pointAnswer (readImage (now (image .entry))) i j) ⌝ }
 {
     if is_image(image) {
         let s = byte(image, 0);
         if s <= i {
-            return 256;
+            return NO_POINT;
         }
         return byte_of(image, i, j);
     }
-    4608
+    NO_IMAGE
 }
 
-// The fields of the j-th frame of the i-th sequence, or 2 to the power of 48, or 18 times that for what is no image.
+// The fields of the j-th frame of the i-th sequence as one number, or 2 to the power of 48 where there is none; 18 times 2 to the power
+// of 56 for what is no image.
 pub fn frame(image: &[u8], i: usize, j: usize) -> u64
-    ensures { λ r. ⌜ r ≡ frameAnswer (readImage (now (image .entry))) i j ⌝ }
+    ensures { λ r. ⌜ r ≡ packed 56 (frameAnswer (readImage (now (image .entry))) i j) ⌝ }
 {
     if is_image(image) {
         let s = byte(image, 0);
         let q = byte(image, 1);
         if q <= i {
-            return 281474976710656;
+            return NO_FRAME;
         }
         return frame_code(frame_of(image, s + i, j));
     }
-    5066549580791808
+    NO_IMAGE_WORD
+}
+
+// All lists of an image at once: the points' bytes and the ends of the snippets, six bytes for each frame and the ends of the sequences, as
+// many of these 703 bytes as fit. Answers as `counts` does; what is no image leaves the buffer alone.
+pub fn lists(image: &[u8], out: &mut [u8]) -> u32
+    ensures answer { λ r. ⌜ r ≡ packed 16 (countsAnswer (readImage (now (image .entry)))) ⌝ }
+    ensures buffer { λ _. ⌜ now (out .exit) ≡ listsOut (readImage (now (image .entry))) (now (out .entry)) ⌝ }
+{
+    let r = reader::read(image);
+    let answer = r.answer;
+    match answer {
+        Answer::Done => {
+            let snippets = r.snippets;
+            let sequences = r.sequences;
+            lay(snippets, sequences, out);
+            snippets.count as u32 * 256 + sequences.count as u32
+        }
+        Answer::Refused(_) => NO_IMAGE,
+    }
+}
+
+// ---- all lists in bytes
+
+fn lay(snippets: Points, sequences: Frames, out: &mut [u8])
+    ensures { λ _. ⌜ now (out .exit) ≡ copied (now (out .entry)) (laidBytes snippets sequences) ⌝ }
+{
+    let points = snippets.items;
+    let point_ends = snippets.ends;
+    let words = frame_bytes(sequences);
+    let frame_ends = sequences.ends;
+    copy_at(out, 0, &points);
+    copy_at(out, POINT_ENDS, &point_ends);
+    copy_at(out, FRAMES, &words);
+    copy_at(out, FRAME_ENDS, &frame_ends);
+}
+
+// The frames in use, six bytes each, then zeros.
+fn frame_bytes(frames: Frames) -> [u8; 576]
+    ensures { λ r. ⌜ r ≡ padded 576 0 (wordsBytes (take (frames .len) (frames .items))) ⌝ }
+{
+    let mut out = [0u8; 576];
+    let n = frames.len as usize;
+    let mut i = 0usize;
+    while i < n {
+        if 96 <= i {
+            return out;
+        }
+        let f = frames.items[i];
+        let six = low_bytes(f.word());
+        copy_at(&mut out, 6 * i, &six);
+        i += 1;
+    }
+    out
+}
+
+// The six low bytes of a number, the lowest first.
+fn low_bytes(w: u64) -> [u8; 6]
+    ensures { λ r. ⌜ r ≡ lowBytes 6 w ⌝ }
+{
+    let b = w / 256;
+    let c = b / 256;
+    let d = c / 256;
+    let e = d / 256;
+    let f = e / 256;
+    [
+        (w % 256) as u8,
+        (b % 256) as u8,
+        (c % 256) as u8,
+        (d % 256) as u8,
+        (e % 256) as u8,
+        (f % 256) as u8,
+    ]
+}
+
+// Copies as much as fits from an index on.
+fn copy_at(out: &mut [u8], at: usize, bytes: &[u8])
+    ensures { λ _. ⌜ now (out .exit) ≡ placed (now (out .entry)) at (now (bytes .entry)) ⌝ }
+{
+    if out.len() <= at {
+        return;
+    }
+    laws::copy_into(&mut out[at..], bytes);
 }
 
 // ---- whether bytes are an image
@@ -85,7 +193,7 @@ fn items_fit(image: &[u8], s: usize, q: usize) -> bool
     if end < 1 {
         return false;
     }
-    zero_from(image, end + 1)
+    reader::zero_from(image, end + 1)
 }
 
 // The index of the last byte of the items that end at these indexes of the image, 0 where one does not fit; the byte before the first
@@ -98,7 +206,7 @@ fn items_end(image: &[u8], ends: &[u8], first: usize, snippets: bool) -> usize
     let mut last = first;
     let mut i = 0usize;
     while i < ends.len() {
-        let end = wide(ends[i]);
+        let end = laws::wide(ends[i]);
         if end <= last {
             return 0;
         }
@@ -155,23 +263,10 @@ fn frames_fit(bytes: &[u8]) -> bool
     true
 }
 
-fn zero_from(image: &[u8], at: usize) -> bool
-    ensures { λ r. ⌜ r ≡ allZero (drop at (now (image .entry))) ⌝ }
-{
-    let mut i = at;
-    while i < image.len() {
-        if 0 < image[i] {
-            return false;
-        }
-        i += 1;
-    }
-    true
-}
-
 // ---- an image's items, snippets and sequences counted together
 
-// The j-th byte of the k-th item, or 256.
-fn byte_of(image: &[u8], k: usize, j: usize) -> u16
+// The j-th byte of the k-th item, or NO_POINT.
+fn byte_of(image: &[u8], k: usize, j: usize) -> u32
     requires { ⌜ k < 512 ⌝ }
     ensures { λ r. ⌜ r ≡ byteCode (getElem? (itemAt (now (image .entry)) k) j) ⌝ }
     ensures { λ _. ⌜ Small (getElem? (itemAt (now (image .entry)) k) j) ⌝ }
@@ -179,16 +274,16 @@ fn byte_of(image: &[u8], k: usize, j: usize) -> u16
     let last = item_before(image, k);
     let end = byte(image, 2 + k);
     if end <= last {
-        return 256;
+        return NO_POINT;
     }
     if end - last <= j {
-        return 256;
+        return NO_POINT;
     }
     let at = last + 1 + j;
     if image.len() <= at {
-        return 256;
+        return NO_POINT;
     }
-    byte(image, at) as u16
+    byte(image, at) as u32
 }
 
 // The j-th frame of the k-th item.
@@ -252,14 +347,7 @@ fn byte(image: &[u8], at: usize) -> usize
     if image.len() <= at {
         return 0;
     }
-    wide(image[at])
-}
-
-fn wide(x: u8) -> usize
-    ensures { λ r. ⌜ r ≡ x ⌝ }
-    ensures { λ r. ⌜ r < 256 ⌝ }
-{
-    x as usize
+    laws::wide(image[at])
 }
 
 // ---- a frame as one number
@@ -269,6 +357,6 @@ fn frame_code(f: FrameAt) -> u64
 {
     match f {
         FrameAt::Frame(x) => x.word(),
-        FrameAt::Absent => 281474976710656,
+        FrameAt::Absent => NO_FRAME,
     }
 }

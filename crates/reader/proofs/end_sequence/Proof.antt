@@ -1,18 +1,18 @@
 -- `end_sequence` meets its contract.
 -- Assumes nothing.
 use borrow.Author.Needs.{needs}
-use borrow.Author.Tests.{lt-ltb, le-ltb}
 use Rattle.reader.specs.Flat.{endSequence}
+use Rattle.reader.proofs.Loops.{has-room, no-room}
 use Rattle.reader.proofs.end_sequence.Statement.{statement}
 use Rattle.reader.proofs.end_sequence.Tie as tie
 
 returns : tie.Need-returns
 unfolding endSequence
-returns c = simp (lt-ltb _ _ (c .if1 .taken))
+returns c = has-room _ _ _ _ (c .if1 .taken)
 
 returns-2 : tie.Need-returns-2
 unfolding endSequence
-returns-2 c = simp (le-ltb _ _ (c .if1 .left))
+returns-2 c = no-room _ _ _ _ (c .if1 .left)
 
 pub end-sequence-spec : {M : Type 1} → statement M
 end-sequence-spec =

@@ -8,7 +8,7 @@ use denote.Ref.{now}
 use lib.ListN.{length, drop, getD}
 use Rattle.reader.specs.declared.Points.{Points}
 use Rattle.reader.specs.Flat.{pushPoint, pushPoints}
-use Rattle.reader.proofs.Loops.{points-step, points-end, push-in, push-out}
+use Rattle.reader.proofs.Loops.{points-step, points-end, has-room, no-room}
 use Rattle.reader.proofs.push_points.Statement.{statement}
 use Rattle.reader.proofs.push_points.Tie as tie
 
@@ -19,11 +19,12 @@ abbrev μ-loop : tie.MeasureT-loop
 μ-loop bytes out₀ i₀ out i = length bytes - i
 
 loop-again : tie.Need-loop-again Inv-loop μ-loop
+unfolding pushPoint
 loop-again c =
     let l = c .before .before .loop in
     let bytes = now (c .before .before .before .args .bytes) in
     let p =
-    ⊎-elim {C = c .if1 .out ≡ pushPoint (l .out) (getD bytes (l .i) 0)} (λ w. push-in (l .out) _ _ (w .0 .taken) (w .2)) (λ w. push-out (l .out) _ _ (w .0 .left) (w .1)) (c .if1 .came) in
+    ⊎-elim {C = c .if1 .out ≡ pushPoint (l .out) (getD bytes (l .i) 0)} (λ w. w .2 ∙ has-room (l .out .len) 96 _ (l .out) (w .0 .taken)) (λ w. w .1 ∙ no-room (l .out .len) 96 _ (l .out) (w .0 .left)) (c .if1 .came) in
     ap (λ (z : Points). pushPoints z (drop (l .i + 1) bytes)) p ∙ sym (points-step bytes (l .i) (l .out) (c .before .loop-test .taken)) ∙ l .inv
 
 returns : tie.Need-returns Inv-loop μ-loop

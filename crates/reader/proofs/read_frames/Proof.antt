@@ -10,7 +10,8 @@ use lib.ListN.{drop}
 use Rattle.frame.specs.Read.{readTold}
 use Rattle.reader.specs.Flat.{pushFrame}
 use Rattle.reader.specs.Walk.{runFrames, framesRead}
-use Rattle.reader.proofs.Running.{run-step, run-stop, run-full, run-end, push-in, push-out}
+use Rattle.reader.proofs.Running.{run-step, run-stop, run-full, run-end}
+use Rattle.reader.proofs.Loops.{has-room, no-room}
 use Rattle.reader.proofs.read_frames.Statement.{statement}
 use Rattle.reader.proofs.read_frames.Tie as tie
 
@@ -27,13 +28,14 @@ returns c =
     ∙ ap framesRead (sym (sym (l .inv .1) ∙ run-full _ (l .at) (l .k) (l .out) (c .before .before .loop-test .taken) (c .before .if1 .taken)))
 
 loop-again : tie.Need-loop-again Inv-loop μ-loop
+unfolding pushFrame
 loop-again c =
     let l = c .before .before .before .before .before .before .before .loop in
     let bytes = now (c .before .before .before .before .before .before .before .before .before .args .bytes) in
     let r = c .before .before .r .given in
     let told = sym (ap readTold (r .1)) ∙ c .before .before .before .before .read .ensures in
     let p : c .if2 .out ≡ pushFrame (l .out) (r .0 .0) =
-    ⊎-elim (λ w. push-in (l .out) _ _ (w .0 .taken) (w .1)) (λ w. push-out (l .out) _ _ (w .0 .left) (w .1)) (c .if2 .came) in (
+    ⊎-elim (λ w. w .1 ∙ has-room (l .out .len) 96 _ (l .out) (w .0 .taken)) (λ w. w .1 ∙ no-room (l .out .len) 96 _ (l .out) (w .0 .left)) (c .if2 .came) in (
       omega arith,
       ap (runFrames (32 - (l .k + 1)) (drop (l .at + r .0 .1 .0) bytes)) p
           ∙ sym (run-step bytes (l .at) (l .k) (l .out) (c .before .before .before .before .before .before .loop-test .taken) _ _ (omega arith) told)

@@ -7,7 +7,7 @@ use denote.Ref.{now}
 use lib.ListN.{length, drop}
 use Rattle.reader.specs.Reading.{noPoints}
 use Rattle.reader.specs.Flat.{pushPoints, endSnippet}
-use Rattle.reader.specs.Walk.{snippetStep, walkSnippets, snippetsRead}
+use Rattle.reader.specs.Walk.{pushSnippet, walkSnippets, snippetsRead}
 use Rattle.reader.proofs.Loops.{walk-end, walk-low, walk-high, walk-bad, walk-on, item-part, snippet-long, snippet-good}
 use Rattle.reader.proofs.read_snippets.Statement.{statement}
 use Rattle.reader.proofs.read_snippets.Tie as tie
@@ -25,52 +25,44 @@ returns : tie.Need-returns Inv-loop μ-loop
 returns c =
     let l = c .before .before .before .before .before .loop in
     let a = c .before .before .before .before .before .before .before .before .before .args in
-    let t = c .before .before .before .before .loop-test .taken in
-    let w = c .before .before .wide .ensures in
-    c .no-snippets .ensures
-    ∙ ap snippetsRead (sym (sym (l .inv) ∙ walk-low snippetStep (now (a .image)) (now (a .ends)) (l .before) (l .i) (l .out) t _ w (c .before .if1 .taken)))
+    let w = c .before .before .wide .ensures .0 in
+    walk-low pushSnippet snippetsRead (now (a .image)) (now (a .ends)) (a .first) noPoints (l .before) (l .i) (l .out) (l .inv) (c .before .before .before .before .loop-test .taken) _ w
+    _ (c .no-snippets .ensures) (c .before .if1 .taken)
 
 returns-2 : tie.Need-returns-2 Inv-loop μ-loop
 returns-2 c =
     let l = c .before .before .before .before .before .before .loop in
     let a = c .before .before .before .before .before .before .before .before .before .before .args in
-    let t = c .before .before .before .before .before .loop-test .taken in
-    let w = c .before .before .before .wide .ensures in
-    let f = c .before .before .if1 .left in
-    c .no-snippets2 .ensures
-    ∙ ap snippetsRead (sym (sym (l .inv) ∙ walk-high snippetStep (now (a .image)) (now (a .ends)) (l .before) (l .i) (l .out) t _ w f (c .before .if2 .taken)))
+    let w = c .before .before .before .wide .ensures .0 in
+    walk-high pushSnippet snippetsRead (now (a .image)) (now (a .ends)) (a .first) noPoints (l .before) (l .i) (l .out) (l .inv) (c .before .before .before .before .before .loop-test .taken) _ w
+    _ (c .no-snippets2 .ensures) (c .before .before .if1 .left) (c .before .if2 .taken)
 
 returns-3 : tie.Need-returns-3 Inv-loop μ-loop
 returns-3 c =
     let l = c .before .before .before .before .before .before .before .loop in
     let a = c .before .before .before .before .before .before .before .before .before .before .before .args in
-    let t = c .before .before .before .before .before .before .loop-test .taken in
-    let w = c .before .before .before .before .wide .ensures in
+    let w = c .before .before .before .before .wide .ensures .0 in
     let f = c .before .before .before .if1 .left in
     let g = c .before .before .if2 .left in
-    let n = snippet-long (now (a .image)) (l .before) _ f g (l .out) (c .before .if3 .taken) in
-    c .no-snippets3 .ensures
-    ∙ ap snippetsRead (sym (sym (l .inv) ∙ walk-bad snippetStep (now (a .image)) (now (a .ends)) (l .before) (l .i) (l .out) t _ w f g n))
+    walk-bad pushSnippet snippetsRead (now (a .image)) (now (a .ends)) (a .first) noPoints (l .before) (l .i) (l .out) (l .inv) (c .before .before .before .before .before .before .loop-test .taken) _ w
+    _ (c .no-snippets3 .ensures) f g (snippet-long (now (a .image)) (l .before) _ f g (l .out) (c .before .if3 .taken))
 
 loop-again : tie.Need-loop-again Inv-loop μ-loop
 loop-again c =
     let l = c .before .before .before .before .before .before .before .before .before .loop in
     let a = c .before .before .before .before .before .before .before .before .before .before .before .before .before .args in
-    let t = c .before .before .before .before .before .before .before .before .loop-test .taken in
-    let e = c .before .before .before .before .before .before .wide .result in
+    let w = c .before .before .before .before .before .before .wide in
     let f = c .before .before .before .before .before .if1 .left in
     let g = c .before .before .before .before .if2 .left in
-    let o = c .end-snippet .ensures ∙ ap endSnippet (c .before .push-points .ensures ∙ ap (pushPoints (l .out)) (item-part (now (a .image)) (l .before) e)) in
-    let s = snippet-good (now (a .image)) (l .before) e f g (l .out) (c .before .before .before .if3 .left) in
-    ap (walkSnippets (now (a .image)) e (drop (l .i + 1) (now (a .ends)))) o
-    ∙ sym (walk-on snippetStep (now (a .image)) (now (a .ends)) (l .before) (l .i) (l .out) t e (c .before .before .before .before .before .before .wide .ensures) _ f g s)
-    ∙ l .inv
+    let o = c .end-snippet .ensures ∙ ap endSnippet (c .before .push-points .ensures ∙ ap (pushPoints (l .out)) (item-part (now (a .image)) (l .before) (w .result))) in
+    walk-on pushSnippet snippetsRead (now (a .image)) (now (a .ends)) (a .first) noPoints (l .before) (l .i) (l .out) (l .inv) (c .before .before .before .before .before .before .before .before .loop-test .taken) (w .result) (w .ensures .0)
+    _ _ f g (snippet-good (now (a .image)) (l .before) (w .result) f g (l .out) (c .before .before .before .if3 .left)) o
 
 returns-4 : tie.Need-returns-4 Inv-loop μ-loop
 returns-4 c =
     let l = c .before .loop in
     let a = c .before .before .before .before .before .args in
-    ap snippetsRead (sym (sym (l .inv) ∙ walk-end snippetStep (now (a .image)) (now (a .ends)) (l .before) (l .i) (l .out) (c .loop-test .left)))
+    walk-end pushSnippet snippetsRead (now (a .image)) (now (a .ends)) (a .first) noPoints (l .before) (l .i) (l .out) (l .inv) (c .loop-test .left)
 
 pub read-snippets-spec : {M : Type 1} → statement M
 read-snippets-spec =

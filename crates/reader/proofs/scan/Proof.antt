@@ -16,14 +16,14 @@ returns : tie.Need-returns
 returns c =
     let w = c .before .before .before in
     let v = w .before .before in
-    scan-good (now (v .before .before .before .before .args .image)) _ _ _ (v .before .before .if1 .taken) (v .wide .ensures) (w .wide2 .ensures)
+    scan-good (now (v .before .before .before .before .args .image)) _ _ _ (v .before .before .if1 .taken) (v .wide .ensures .0) (w .wide2 .ensures .0)
     (sym (c .before .before .counts-fit .ensures) ∙ c .before .if2 .taken) (c .snippets-of .ensures)
 
 returns-2 : tie.Need-returns-2
 returns-2 c =
     let w = c .before .before .before in
     let v = w .before .before in
-    scan-bad (now (v .before .before .before .before .args .image)) _ _ _ (v .before .before .if1 .taken) (v .wide .ensures) (w .wide2 .ensures)
+    scan-bad (now (v .before .before .before .before .args .image)) _ _ _ (v .before .before .if1 .taken) (v .wide .ensures .0) (w .wide2 .ensures .0)
     (sym (c .before .before .counts-fit .ensures) ∙ c .before .if2 .left) (c .refused .ensures)
 
 returns-3 : tie.Need-returns-3

@@ -4,11 +4,11 @@
 ghost use mathlib.Core.Path.{_≡_};
 ghost use Prim.Native.Nat.{_<_};
 ghost use lib.ListN.{take, length};
-ghost use Rattle.items.specs.Items.{pointAt, pointAtTold, frameAt, frameAtTold};
-ghost use Rattle.items.specs.Places.{startIn, placeIn, placeTold};
+ghost use Rattle.reader.specs.Items.{pointAt, pointAtTold, frameAt, frameAtTold};
+ghost use Rattle.reader.specs.Places.{startIn, placeIn, placeTold};
+use crate::Frames;
+use crate::Points;
 use frame::FrameBuilder;
-use reader::Frames;
-use reader::Points;
 use snippet::PwlPoint;
 
 pub enum PointAt {

@@ -4,9 +4,9 @@ use mathlib.Core.Path.{_≡_, refl, sym, _∙_}
 use Prim.Native.Nat.{_-_}
 use lib.ListN.{length, drop}
 use Rattle.content.specs.ReadImage.{allZero}
 use Rattle.reader.proofs.Loops.{zero-step, zero-stop, zero-end}
-use Rattle.readings.proofs.zero_from.Statement.{statement}
-use Rattle.readings.proofs.zero_from.Tie as tie
+use Rattle.reader.proofs.zero_from.Statement.{statement}
+use Rattle.reader.proofs.zero_from.Tie as tie
 
 abbrev Inv-loop : tie.InvT-loop
 Inv-loop image at i₀ i = allZero (drop i image) ≡ allZero (drop at image)

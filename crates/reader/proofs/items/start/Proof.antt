@@ -5,10 +5,10 @@ use denote.Ref.{now}
 use Prim.Native.Nat.{ℕ, zero, suc, _-_}
 use mathlib.Core.List.{List}
 use lib.ListN.{getD}
-use Rattle.items.specs.Places.{startIn}
+use Rattle.reader.specs.Places.{startIn}
 use borrow.Author.Needs.{needs}
-use Rattle.items.proofs.start.Statement.{statement}
-use Rattle.items.proofs.start.Tie as tie
+use Rattle.reader.proofs.items.start.Statement.{statement}
+use Rattle.reader.proofs.items.start.Tie as tie
 
 behind : (l : List ℕ) (i : ℕ) → (i ≡ 0 → ⊥) → getD l (i - 1) 0 ≡ startIn 0 l i
 behind l zero h = absurd (h refl)

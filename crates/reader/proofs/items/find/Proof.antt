@@ -2,10 +2,10 @@
 use native.Mathlib.Omega.{arith}
 use mathlib.Core.Path.{_≡_, refl, sym, ap, _∙_}
 use denote.Ref.{now}
-use Rattle.items.proofs.Placed.{place-out, place-unused, place-short, place-there}
+use Rattle.reader.proofs.Placed.{place-out, place-unused, place-short, place-there}
 use borrow.Author.Needs.{needs}
-use Rattle.items.proofs.find.Statement.{statement}
-use Rattle.items.proofs.find.Tie as tie
+use Rattle.reader.proofs.items.find.Statement.{statement}
+use Rattle.reader.proofs.items.find.Tie as tie
 
 returns : tie.Need-returns
 returns c = place-out (now (c .before .before .args .ends)) (c .before .before .args .count) (c .before .before .args .i) (c .before .before .args .j) (c .if1 .taken)

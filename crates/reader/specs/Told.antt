@@ -1,4 +1,4 @@
--- What a reading tells: the content that its arrays hold, or the number of the refusal.
+-- What a reading tells, for the theorem `told` (proofs/Whole.antt): the content that its arrays hold, or the number of the refusal.
 use mathlib.Core.List.{List, map}
 use mathlib.Core.Option.{Option, none, some}
 use lib.ListN.{take}
@@ -16,16 +16,18 @@ use Rattle.reader.specs.Reading.{parts, sequencesIn}
 abbrev pub snippetsIn : Points → List (List Point)
 snippetsIn p = map pointsIn (parts 0 (take (p .count) (p .ends)) (p .items))
 
-abbrev pub contentIn : Reading → Content
-contentIn r = record { snippets = snippetsIn (r .snippets); sequences = sequencesIn (r .sequences) }
+-- the content that the arrays hold
+abbrev pub readContent : Reading → Content
+readContent r = record { snippets = snippetsIn (r .snippets); sequences = sequencesIn (r .sequences) }
 
-abbrev pub toldBy : Answer → Reading → Told Content
-toldBy Answer.Done r = gives (contentIn r)
-toldBy (Answer.Refused e) r = refuses (errorNumber e)
+-- the content, if nothing was refused
+abbrev pub contentTold : Answer → Content → Told Content
+contentTold Answer.Done c = gives c
+contentTold (Answer.Refused e) c = refuses (errorNumber e)
 
 -- what a reading tells
 abbrev pub readingTold : Reading → Told Content
-readingTold r = toldBy (r .answer) r
+readingTold r = contentTold (r .answer) (readContent r)
 
 -- the content whose image the bytes are, or 18
 abbrev pub imageTold : Option Content → Told Content

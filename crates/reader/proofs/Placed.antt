@@ -12,9 +12,9 @@ use lib.Dec.{ltb}
 use lib.ListN.{length, take, drop, getD, getElem?, length-take}
 use lib.Seq.{getD-take}
 use Rattle.content.specs.ReadImage.{andThen}
 use Rattle.reader.specs.Reading.{parts}
-use Rattle.items.specs.Items.{element}
-use Rattle.items.specs.Places.{startIn, placeIn}
+use Rattle.reader.specs.Items.{element}
+use Rattle.reader.specs.Places.{startIn, placeIn}
 
 module _ {A : Type 0} where
   -- an index past the end is that of no element

@@ -5,8 +5,8 @@ use mathlib.Core.List.{List, [], _∷_}
 use mathlib.Core.Option.{Option, none, some}
 use lib.Dec.{ltb}
 use lib.ListN.{getD}
-use Rattle.items.specs.declared.Place.{Place}
-use Rattle.items.specs.declared.Place.the-variants as Place
+use Rattle.reader.specs.declared.items.Place.{Place}
+use Rattle.reader.specs.declared.items.Place.the-variants as Place
 
 -- where the i-th list starts
 abbrev pub startIn : ℕ → List ℕ → ℕ → ℕ

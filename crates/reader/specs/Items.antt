@@ -5,13 +5,13 @@ use mathlib.Core.Option.{Option, none, some}
 use lib.ListN.{take, getElem?}
 use Rattle.frame.specs.declared.FrameBuilder.{FrameBuilder}
 use Rattle.content.specs.ReadImage.{andThen}
 use Rattle.reader.specs.declared.Points.{Points}
 use Rattle.reader.specs.declared.Frames.{Frames}
 use Rattle.reader.specs.Reading.{parts, sequencesIn}
-use Rattle.items.specs.declared.PointAt.{PointAt}
-use Rattle.items.specs.declared.PointAt.the-variants as PointAt
-use Rattle.items.specs.declared.FrameAt.{FrameAt}
-use Rattle.items.specs.declared.FrameAt.the-variants as FrameAt
+use Rattle.reader.specs.declared.items.PointAt.{PointAt}
+use Rattle.reader.specs.declared.items.PointAt.the-variants as PointAt
+use Rattle.reader.specs.declared.items.FrameAt.{FrameAt}
+use Rattle.reader.specs.declared.items.FrameAt.the-variants as FrameAt
 
 -- the j-th of the i-th list, both counted from 0, if there is one
 abbrev pub element : {A : Type 0} → List (List A) → ℕ → ℕ → Option A

@@ -1,0 +1,305 @@
+-- Images that are answered alike are read alike: what is answered gives back the lists, and those the image.
+-- Assumes nothing.
+use mathlib.Core.Path.{_≡_, refl, sym, ap, _∙_, subst}
+use mathlib.Core.List.{List, [], _∷_, _++_, map, append-nil}
+use mathlib.Core.Option.{Option, none, some}
+use Prim.Native.Nat.{ℕ, zero, suc, _+_, _-_, _*_, _^_, _≤_, _<_}
+use native.Mathlib.Omega.{arith}
+use lib.ListN.{length, take, drop, replicate, getElem?, length-append, length-map, length-replicate, drop-of-length-le}
+use lib.Seq.{take-all, take-at, drop-at}
+use Rattle.laws.specs.Bytes.{All, Bytes}
+use Rattle.laws.specs.Copied.{copied}
+use Rattle.errors.specs.Packed.{packed, Room}
+use Rattle.errors.proofs.Packed.{packed-apart}
+use Rattle.frame.specs.declared.FrameBuilder.{FrameBuilder}
+use Rattle.frame.specs.Builder.{silentFrame}
+use Rattle.frame.specs.Frame.{bytesOf}
+use Rattle.frame.specs.Agreement.{FrameAdmitted}
+use Rattle.memory.specs.Image.{joined, endPointers, imageBytes}
+use Rattle.memory.proofs.Images.{joined-length}
+use Rattle.content.specs.Content.{Point, Content, byteOf, pointBytes, framesBytes, imageOf, SnippetAdmitted, SequenceAdmitted, Admitted}
+use Rattle.content.specs.ReadImage.{readImage}
+use Rattle.content.proofs.Codec.{none-some, some-inj, cons-eq, all-append, all-map}
+use Rattle.content.proofs.Points.{snippet-codec}
+use Rattle.content.proofs.Items.{length-pointers}
+use Rattle.content.proofs.Images.{image-codec}
+use Rattle.reader.specs.Reading.{parts, padded}
+use Rattle.reader.specs.Items.{element}
+use Rattle.reader.proofs.Cuts.{lastOf}
+use Rattle.reader.proofs.Flats.{flatOf, shows}
+use Rattle.readings.specs.Readings.{countsAnswer, pointCode, pointAnswer, frameCode, frameAnswer, byteCode}
+use Rattle.readings.specs.Lists.{wordsBytes, listsOf, listsOut}
+use Rattle.readings.specs.Telling.{AnswersFit, SameAnswers, SameLists, ReadingsTold}
+use Rattle.readings.proofs.Laying.{words-length}
+use Rattle.readings.proofs.Words.{word-small, word-told, words-told}
+
+-- ---- an element of a list of lists
+
+-- what is there has the property
+abbrev Of : {A : Type 0} → (A → Type 0) → Option A → Type 0
+Of P none = Unit
+Of P (some x) = P x
+
+module _ {A : Type 0} where
+  at-all : (P : A → Type 0) (l : List A) (j : ℕ) → All P l → Of P (getElem? l j)
+  at-all P [] j h = tt
+  at-all P (x ∷ l) zero h = h .0
+  at-all P (x ∷ l) (suc j) h = at-all P l j (h .1)
+
+  element-all : (P : A → Type 0) (ls : List (List A)) (i j : ℕ) → All (All P) ls → Of P (element ls i j)
+  element-all P [] i j h = tt
+  element-all P (l ∷ ls) zero j h = at-all P l j (h .0)
+  element-all P (l ∷ ls) (suc i) j h = element-all P ls i j (h .1)
+
+  same-list : (l m : List A) → ((j : ℕ) → getElem? l j ≡ getElem? m j) → l ≡ m
+  same-list [] [] h = refl
+  same-list [] (y ∷ m) h = none-some y (h 0)
+  same-list (x ∷ l) [] h = none-some x (sym (h 0))
+  same-list (x ∷ l) (y ∷ m) h = cons-eq (some-inj (h 0)) (same-list l m (λ j. h (suc j)))
+
+  same-elements : (ls ms : List (List A)) → length ls ≡ length ms → ((i j : ℕ) → element ls i j ≡ element ms i j) → ls ≡ ms
+  same-elements [] [] n h = refl
+  same-elements [] (m ∷ ms) n h = absurd (omega arith)
+  same-elements (l ∷ ls) [] n h = absurd (omega arith)
+  same-elements (l ∷ ls) (m ∷ ms) n h = cons-eq (same-list l m (h 0)) (same-elements ls ms (omega arith) (λ i. h (suc i)))
+
+  all-joined : (P : A → Type 0) (ls : List (List A)) → All (All P) ls → All P (joined ls)
+  all-joined P [] h = tt
+  all-joined P (l ∷ ls) h = all-append P l (joined ls) (h .0) (all-joined P ls (h .1))
+
+-- ---- codes
+
+point-byte : (ps : List Point) (j : ℕ) → pointCode (getElem? ps j) ≡ byteCode (getElem? (pointBytes ps) j)
+point-byte [] j = refl
+point-byte (p ∷ ps) zero = refl
+point-byte (p ∷ ps) (suc j) = point-byte ps j
+
+points-bytes : (ls : List (List Point)) (i j : ℕ) → pointCode (element ls i j) ≡ byteCode (element (map pointBytes ls) i j)
+points-bytes [] i j = refl
+points-bytes (l ∷ ls) zero j = point-byte l j
+points-bytes (l ∷ ls) (suc i) j = points-bytes ls i j
+
+byte-room : (o : Option ℕ) → Of (λ b. b < 256) o → byteCode o < 2 ^ 16
+byte-room none h = omega arith
+byte-room (some b) h = omega arith
+
+byte-told : (o p : Option ℕ) → Of (λ b. b < 256) o → Of (λ b. b < 256) p → byteCode o ≡ byteCode p → o ≡ p
+byte-told none none h g e = refl
+byte-told none (some c) h g e = absurd (omega arith)
+byte-told (some b) none h g e = absurd (omega arith)
+byte-told (some b) (some c) h g e = ap some e
+
+frame-room : (o : Option FrameBuilder) → Of FrameAdmitted o → frameCode o < 2 ^ 56
+frame-room none h = omega arith
+frame-room (some f) h = omega (arith, word-small f h)
+
+frame-told : (o p : Option FrameBuilder) → Of FrameAdmitted o → Of FrameAdmitted p → frameCode o ≡ frameCode p → o ≡ p
+frame-told none none h g e = refl
+frame-told none (some d) h g e = absurd (omega (arith, word-small d g))
+frame-told (some c) none h g e = absurd (omega (arith, word-small c h))
+frame-told (some c) (some d) h g e = ap some (word-told c d h g e)
+
+-- ---- what is known of a content that was read
+
+record Held (l : List ℕ) (c : Content) : Type 0 where
+  admitted : Admitted c
+  image : imageOf c ≡ l
+  bytes : All Bytes (map pointBytes (c .snippets))
+  frames : All (All FrameAdmitted) (c .sequences)
+
+all-frames : (qs : List (List FrameBuilder)) → All SequenceAdmitted qs → All (All FrameAdmitted) qs
+all-frames [] h = tt
+all-frames (q ∷ qs) h = (h .0 .each, all-frames qs (h .1))
+
+held : (l : List ℕ) (c : Content) → Bytes l → readImage l ≡ some c → Held l c
+held l c h e =
+    let s = image-codec .sound l c h e in
+    record {
+      admitted = s .0;
+      image = s .1;
+      bytes = all-map Bytes pointBytes (snippet-codec .fit) (c .snippets) (s .0 .snippet);
+      frames = all-frames (c .sequences) (s .0 .sequence);
+    }
+
+-- the same points and the same frames are of the same image
+one-image : (l k : List ℕ) (c d : Content) → Held l c → Held k d → map pointBytes (c .snippets) ≡ map pointBytes (d .snippets) → c .sequences ≡ d .sequences
+    → readImage l ≡ readImage k
+unfolding imageOf
+one-image l k c d a b p q =
+    ap readImage (sym (a .image) ∙ (λ i. imageBytes (p i) (map framesBytes (q i))) ∙ b .image)
+
+counts-room : (l : List ℕ) (c : Content) → Held l c → Room 16 (countsAnswer (some c))
+counts-room l c a = omega (arith, a .admitted .fewSnippets, a .admitted .fewSequences)
+
+same-counts : (l k : List ℕ) (c d : Content) → Held l c → Held k d → packed 16 (countsAnswer (some c)) ≡ packed 16 (countsAnswer (some d))
+    → (length (c .snippets) ≡ length (d .snippets)) × (length (c .sequences) ≡ length (d .sequences))
+same-counts l k c d a b e =
+    let g = a .admitted .fewSequences in
+    let h = b .admitted .fewSequences in
+    (omega (arith, e), omega (arith, e))
+
+-- an image is not answered as what is none
+not-refused : {X : Type 0} (l : List ℕ) (c : Content) → Held l c → packed 16 (countsAnswer none) ≡ packed 16 (countsAnswer (some c)) → X
+not-refused l c a e =
+    let w : countsAnswer none ≡ countsAnswer (some c) = packed-apart 16 (countsAnswer none) (countsAnswer (some c)) (omega arith) (counts-room l c a) e in
+    let z : _≡_ {A = ℕ} 0 1 = cc in absurd (omega arith)
+
+-- ---- item by item
+
+-- what holds of a refusal and of any content that was read
+of-read : (P : Option Content → Type 0) (l : List ℕ) → Bytes l → P none → ((c : Content) → Held l c → P (some c)) → P (readImage l)
+of-read P l h n f = go (readImage l) refl where
+  go : (o : Option Content) → readImage l ≡ o → P o
+  go none e = n
+  go (some c) e = f c (held l c h e)
+
+fit : (l : List ℕ) → Bytes l → AnswersFit l
+fit l h =
+    record {
+      counts = of-read (λ (o : Option Content). Room 16 (countsAnswer o)) l h (omega arith) (counts-room l);
+      point = λ i j.
+          of-read (λ (o : Option Content). Room 16 (pointAnswer o i j)) l h (omega arith)
+          (λ c a. subst (λ (n : ℕ). n < 2 ^ 16) (sym (points-bytes (c .snippets) i j)) (byte-room (element (map pointBytes (c .snippets)) i j) (element-all (λ b. b < 256) (map pointBytes (c .snippets)) i j (a .bytes))));
+      frame = λ i j.
+          of-read (λ (o : Option Content). Room 56 (frameAnswer o i j)) l h (omega arith)
+          (λ c a. frame-room (element (c .sequences) i j) (element-all FrameAdmitted (c .sequences) i j (a .frames)));
+    }
+
+same-readings : (l k : List ℕ) → Bytes l → Bytes k → SameAnswers l k → readImage l ≡ readImage k
+same-readings l k hl hk s = go (readImage l) (readImage k) refl refl (s .counts) (s .point) (s .frame) where
+  go : (o p : Option Content) → readImage l ≡ o → readImage k ≡ p → packed 16 (countsAnswer o) ≡ packed 16 (countsAnswer p)
+      → ((i j : ℕ) → packed 16 (pointAnswer o i j) ≡ packed 16 (pointAnswer p i j)) → ((i j : ℕ) → packed 56 (frameAnswer o i j) ≡ packed 56 (frameAnswer p i j))
+      → readImage l ≡ readImage k
+  go none none e f n u v = e ∙ sym f
+  go none (some d) e f n u v = not-refused k d (held k d hk f) n
+  go (some c) none e f n u v = not-refused l c (held l c hl e) (sym n)
+  go (some c) (some d) e f n u v =
+      let a = held l c hl e in
+      let b = held k d hk f in
+      let m = same-counts l k c d a b n in
+      let X : List (List ℕ) = map pointBytes (c .snippets) in
+      let Y : List (List ℕ) = map pointBytes (d .snippets) in
+      one-image l k c d a b
+      (same-elements X Y (length-map (c .snippets) pointBytes ∙ m .0 ∙ sym (length-map (d .snippets) pointBytes))
+      (λ i j. byte-told (element X i j) (element Y i j) (element-all (λ b. b < 256) X i j (a .bytes)) (element-all (λ b. b < 256) Y i j (b .bytes)) (sym (points-bytes (c .snippets) i j) ∙ u i j ∙ points-bytes (d .snippets) i j)))
+      (same-elements (c .sequences) (d .sequences) (m .1)
+      (λ i j. frame-told (element (c .sequences) i j) (element (d .sequences) i j) (element-all FrameAdmitted (c .sequences) i j (a .frames)) (element-all FrameAdmitted (d .sequences) i j (b .frames)) (v i j)))
+
+-- ---- all lists at once
+
+copied-whole : (out b : List ℕ) → length b ≡ length out → copied out b ≡ b
+copied-whole out b n =
+    ap (λ (l : List ℕ). l ++ drop (length b) out) (take-all (length out) b (omega arith))
+    ∙ ap (λ (l : List ℕ). b ++ l) (drop-of-length-le out {i = length b} (omega arith))
+    ∙ append-nil b
+
+-- lists whose fronts are equally long
+same-parts : {A : Type 0} (a b x y : List A) (n : ℕ) → length a ≡ n → length b ≡ n → a ++ x ≡ b ++ y → (a ≡ b) × (x ≡ y)
+same-parts a b x y n p q e = (sym (take-at a x n p) ∙ ap (take n) e ∙ take-at b y n q, sym (drop-at a x n p) ∙ ap (drop n) e ∙ drop-at b y n q)
+
+padded-length : {A : Type 0} (n : ℕ) (blank : A) (l : List A) → length l ≤ n → length (padded n blank l) ≡ n
+padded-length n blank l h = omega (arith, length-append l (replicate (n - length l) blank), length-replicate (n - length l) blank)
+
+-- what was padded, where the same number of elements was
+padded-told : {A : Type 0} (n : ℕ) (blank : A) (l m : List A) → length l ≡ length m → padded n blank l ≡ padded n blank m → l ≡ m
+padded-told n blank l m h e = same-parts l m _ _ (length m) h refl e .0
+
+-- lists laid end to end, by their number, their elements and their ends
+laid-told : {A : Type 0} (blank : A) (most : ℕ) (xs ys : List (List A)) → length xs ≡ length ys → padded 96 blank (joined xs) ≡ padded 96 blank (joined ys)
+    → padded most 0 (endPointers 0 xs) ≡ padded most 0 (endPointers 0 ys) → xs ≡ ys
+laid-told blank most xs ys n p e =
+    sym (shows blank most (flatOf blank most xs) xs refl)
+    ∙ (λ i. parts 0 (take (n i) (e i)) (p i))
+    ∙ shows blank most (flatOf blank most ys) ys refl
+
+-- the last end is where all end
+last-end : {A : Type 0} (xs : List (List A)) (p : ℕ) → lastOf p (endPointers p xs) ≡ p + length (joined xs)
+last-end [] p = omega arith
+last-end (x ∷ xs) p = last-end xs (p + length x) ∙ omega (arith, length-append x (joined xs))
+
+frames-bytes : (fs : List FrameBuilder) → length fs ≤ length (framesBytes fs)
+frames-bytes [] = omega arith
+frames-bytes (f ∷ fs) = omega (arith, frames-bytes fs, length-append (bytesOf f) (framesBytes fs))
+
+sequences-bytes : (qs : List (List FrameBuilder)) → length (joined qs) ≤ length (joined (map framesBytes qs))
+sequences-bytes [] = omega arith
+sequences-bytes (q ∷ qs) =
+    omega (arith, frames-bytes q, sequences-bytes qs, length-append q (joined qs), length-append (framesBytes q) (joined (map framesBytes qs)))
+
+-- the four parts of an image's lists
+abbrev points : Content → List ℕ
+points c = padded 96 0 (joined (map pointBytes (c .snippets)))
+
+abbrev pointEnds : Content → List ℕ
+pointEnds c = padded 15 0 (endPointers 0 (map pointBytes (c .snippets)))
+
+abbrev frames : Content → List ℕ
+frames c = padded 576 0 (wordsBytes (joined (c .sequences)))
+
+abbrev frameEnds : Content → List ℕ
+frameEnds c = padded 16 0 (endPointers 0 (c .sequences))
+
+record Lengths (c : Content) : Type 0 where
+  one : length (points c) ≡ 96
+  two : length (points c ++ pointEnds c) ≡ 111
+  three : length (points c ++ pointEnds c ++ frames c) ≡ 687
+  all : length (points c ++ pointEnds c ++ frames c ++ frameEnds c) ≡ 703
+
+lengths : (l : List ℕ) (c : Content) → Held l c → Lengths c
+lengths l c a =
+    let g = a .admitted in
+    let xs : List (List ℕ) = map pointBytes (c .snippets) in
+    let ys : List (List ℕ) = map framesBytes (c .sequences) in
+    let n = length-map (c .snippets) pointBytes in
+    let m = length-map (c .sequences) framesBytes in
+    let j = joined-length xs ys in
+    let f = sequences-bytes (c .sequences) in
+    let p = padded-length 96 0 (joined xs) (omega (arith, g .fits, g .someSnippets, g .someSequences)) in
+    let q = padded-length 15 0 (endPointers 0 xs) (omega (arith, length-pointers 0 xs, g .fewSnippets)) in
+    let r = padded-length 576 0 (wordsBytes (joined (c .sequences))) (omega (arith, words-length (joined (c .sequences)), g .fits, g .someSnippets, g .someSequences)) in
+    let s = padded-length 16 0 (endPointers 0 (c .sequences)) (omega (arith, length-pointers 0 (c .sequences), g .fewSequences)) in
+    let two = length-append (points c) (pointEnds c) in
+    let three = length-append (points c ++ pointEnds c) (frames c) in
+    record { one = p; two = omega arith; three = omega arith; all = omega (arith, length-append (points c ++ pointEnds c ++ frames c) (frameEnds c)) }
+
+lists-told : (l k : List ℕ) (c d : Content) → Held l c → Held k d → packed 16 (countsAnswer (some c)) ≡ packed 16 (countsAnswer (some d)) → listsOf c ≡ listsOf d
+    → readImage l ≡ readImage k
+unfolding listsOf
+lists-told l k c d a b n e =
+    let m = same-counts l k c d a b n in
+    let u = lengths l c a in
+    let v = lengths k d b in
+    let p = same-parts (points c ++ pointEnds c ++ frames c) (points d ++ pointEnds d ++ frames d) (frameEnds c) (frameEnds d) 687 (u .three) (v .three) e in
+    let q = same-parts (points c ++ pointEnds c) (points d ++ pointEnds d) (frames c) (frames d) 111 (u .two) (v .two) (p .0) in
+    let r = same-parts (points c) (points d) (pointEnds c) (pointEnds d) 96 (u .one) (v .one) (q .0) in
+    let xs : List (List ℕ) = map pointBytes (c .snippets) in
+    let ys : List (List ℕ) = map pointBytes (d .snippets) in
+    let ends : endPointers 0 (c .sequences) ≡ endPointers 0 (d .sequences) =
+    padded-told 16 0 _ _ (length-pointers 0 (c .sequences) ∙ m .1 ∙ sym (length-pointers 0 (d .sequences))) (p .1) in
+    let many : length (joined (c .sequences)) ≡ length (joined (d .sequences)) = omega (arith, last-end (c .sequences) 0, ap (lastOf 0) ends, last-end (d .sequences) 0) in
+    let words : wordsBytes (joined (c .sequences)) ≡ wordsBytes (joined (d .sequences)) =
+    padded-told 576 0 _ _ (omega (arith, words-length (joined (c .sequences)), words-length (joined (d .sequences)))) (q .1) in
+    let same = words-told (joined (c .sequences)) (joined (d .sequences)) (all-joined FrameAdmitted (c .sequences) (a .frames)) (all-joined FrameAdmitted (d .sequences) (b .frames)) many words in
+    one-image l k c d a b
+    (laid-told 0 15 xs ys (length-map (c .snippets) pointBytes ∙ m .0 ∙ sym (length-map (d .snippets) pointBytes)) (r .0) (r .1))
+    (laid-told silentFrame 16 (c .sequences) (d .sequences) (m .1) (ap (padded 96 silentFrame) same) (p .1))
+
+lists-length : (l out : List ℕ) (c : Content) → Held l c → length out ≡ 703 → length (listsOf c) ≡ length out
+unfolding listsOf
+lists-length l out c a h = lengths l c a .all ∙ sym h
+
+same-lists : (l k out : List ℕ) → Bytes l → Bytes k → SameLists l k out → readImage l ≡ readImage k
+same-lists l k out hl hk s = go (readImage l) (readImage k) refl refl (s .counts) (s .buffer) where
+  go : (o p : Option Content) → readImage l ≡ o → readImage k ≡ p → packed 16 (countsAnswer o) ≡ packed 16 (countsAnswer p) → listsOut o out ≡ listsOut p out
+      → readImage l ≡ readImage k
+  go none none e f n u = e ∙ sym f
+  go none (some d) e f n u = not-refused k d (held k d hk f) n
+  go (some c) none e f n u = not-refused l c (held l c hl e) (sym n)
+  go (some c) (some d) e f n u =
+      let a = held l c hl e in
+      let b = held k d hk f in
+      lists-told l k c d a b n
+      (sym (copied-whole out (listsOf c) (lists-length l out c a (s .full))) ∙ u ∙ copied-whole out (listsOf d) (lists-length k out d b (s .full)))
+
+pub readings-told : ReadingsTold
+readings-told = record { answers = fit; readings = same-readings; lists = same-lists }
