@@ -11,6 +11,7 @@ use lib.ListN.{length}
 use Rattle.laws.specs.Copied.{copied}
 use Rattle.assemble.specs.Lists.{answersOf, builtOf, imageOut, placed, firstRefused, strictly, strictOut}
 use Rattle.assemble.specs.Strict.{Accepted, Strict}
+use Rattle.assemble.proofs.Numbers.{answer-numbers}
 
 -- ---- as the code answers it
 
@@ -74,4 +75,4 @@ module _ (calls : List ℕ) where
       ∙ ap (λ (j : ℕ). n + 256 * j) (min-eq-left {n = length before + 1} {m = 16777215} (omega (arith, room)))
 
   pub strict : Strict calls
-  strict = record { whole = (λ e. only (ltb 0 f) refl e, λ w. none (w .0) ∙ w .1); first = at-first; builds = none }
+  strict = record { whole = (λ e. only (ltb 0 f) refl e, λ w. none (w .0) ∙ w .1); first = at-first; numbers = answer-numbers calls; builds = none }

@@ -18,5 +18,7 @@ pub record Strict (calls : List ℕ) : Type 0 where
   -- where a call is refused, the first that is: its number, and 256 times its place, counted from 1
   pub first : (before : List ℕ) (number : ℕ) (rest : List ℕ) → answersOf calls ≡ before ++ (number ∷ rest) → Accepted before → 0 < number
       → length before < 16777215 → strictly calls ≡ number + 256 * (length before + 1)
+  -- number and place can be told apart in that sum
+  pub numbers : All (λ n. n ≤ 14) (answersOf calls)
   -- where none is, what building answers
   pub builds : Accepted (answersOf calls) → strictly calls ≡ builtOf calls .number

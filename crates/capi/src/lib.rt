@@ -14,7 +14,8 @@ ghost use Rattle.laws.specs.Copied.{copied};
 ghost use Rattle.calls.specs.Calls.{callsIn};
 ghost use Rattle.assemble.specs.Lists.{answersOf, buildersOf, builtOf, imageOut, strictly, strictOut};
 ghost use Rattle.content.specs.ReadImage.{readImage};
-ghost use Rattle.readings.specs.Readings.{countsWord, pointAnswer, frameAnswer};
+ghost use Rattle.readings.specs.Readings.{countsAnswer, pointAnswer, frameAnswer};
+ghost use Rattle.readings.specs.Lists.{listsOut};
 ghost use Rattle.field.specs.Field.{codeOf};
 ghost use Rattle.field.specs.Layout.{readings, replacements};
 ghost use Rattle.registers.specs.Addresses.{addresses};
@@ -161,25 +162,37 @@ pub extern "C" fn da728x_assemble_strict(calls: &[u8], image: &mut [u8]) -> u32
     assemble::assemble_strict(calls, image)
 }
 
+// How many snippets and sequences an image has.
 #[no_mangle]
-pub extern "C" fn da728x_read_counts(image: &[u8]) -> u16
-    ensures { λ r. ⌜ r ≡ countsWord (readImage (now (image .entry))) ⌝ }
+pub extern "C" fn da728x_read_counts(image: &[u8]) -> u32
+    ensures { λ r. ⌜ r ≡ packed 16 (countsAnswer (readImage (now (image .entry)))) ⌝ }
 {
     readings::counts(image)
 }
 
+// The byte of a point of an image.
 #[no_mangle]
-pub extern "C" fn da728x_read_point(image: &[u8], i: usize, j: usize) -> u16
-    ensures { λ r. ⌜ r ≡ pointAnswer (readImage (now (image .entry))) i j ⌝ }
+pub extern "C" fn da728x_read_point(image: &[u8], i: usize, j: usize) -> u32
+    ensures { λ r. ⌜ r ≡ packed 16 (pointAnswer (readImage (now (image .entry))) i j) ⌝ }
 {
     readings::point(image, i, j)
 }
 
+// The fields of a frame of an image, as one number.
 #[no_mangle]
 pub extern "C" fn da728x_read_frame(image: &[u8], i: usize, j: usize) -> u64
-    ensures { λ r. ⌜ r ≡ frameAnswer (readImage (now (image .entry))) i j ⌝ }
+    ensures { λ r. ⌜ r ≡ packed 56 (frameAnswer (readImage (now (image .entry))) i j) ⌝ }
 {
     readings::frame(image, i, j)
+}
+
+// All lists of an image.
+#[no_mangle]
+pub extern "C" fn da728x_read_lists(image: &[u8], lists: &mut [u8]) -> u32
+    ensures answer { λ r. ⌜ r ≡ packed 16 (countsAnswer (readImage (now (image .entry)))) ⌝ }
+    ensures lists { λ _. ⌜ now (lists .exit) ≡ listsOut (readImage (now (image .entry))) (now (lists .entry)) ⌝ }
+{
+    readings::lists(image, lists)
 }
 
 #[no_mangle]
