@@ -1,20 +1,22 @@
--- By what the run leaves, the frame that it builds, and what encoding answers. Assumes nothing.
+-- By the frame that the calls leave, if one is begun, and what encoding answers. Assumes nothing.
+use borrow.Author.Needs.{needs}
 use mathlib.Core.Path.{_≡_, ap, sym, _∙_}
 use mathlib.Core.List.{List}
-use Prim.Native.Nat.{ℕ, min}
+use Prim.Native.Nat.{ℕ, _*_, min}
 use native.Mathlib.Omega.{arith}
 use denote.Ref.{now}
 use lib.ListN.{length, length-take}
-use Rattle.laws.specs.Copied.{copied}
+use Rattle.errors.specs.Told.{Told, gives, refuses}
+use Rattle.errors.specs.Packed.{packed}
 use Rattle.calls.specs.declared.Builders.{Builders}
 use Rattle.frame.specs.declared.Frame.{Frame}
 use Rattle.frame.specs.Frame.{frameBytes, builtFrame}
-use borrow.Author.Needs.{needs}
+use Rattle.capi.specs.Items.{frameUnderWay, copiedLength, itemOut}
 use Rattle.capi.proofs.da728x_frame.Statement.{statement}
 use Rattle.capi.proofs.da728x_frame.Tie as tie
 
-cast-result : tie.Need-cast-result
-cast-result c =
+cast-result-2 : tie.Need-cast-result-2
+cast-result-2 c =
     let g = c .before .before .before .before .build .result in
     let h : length (g .bytes) ≡ 3 = search needs in
     let e : length (frameBytes g) ≡ min (g .len) 3 = simp (length-take, h) in
@@ -22,12 +24,21 @@ cast-result c =
 
 returns : tie.Need-returns
 returns c =
-    let r = c .before .before .before .before .before .before .before .before .run .ensures in
-    let a = c .before .before .before .before .before .before .before .before .before .before .before .before .before .args in
-    let e = ap frameBytes (c .before .before .before .before .build .ensures ∙ ap (λ (x : Builders). builtFrame (x .frame)) (r .0)) in
+    let a = c .before .before .before .before .before .before .args in
+    let item = ap frameUnderWay (sym (c .before .enum-told .given .1) ∙ ap (λ (x : Builders). x .frame) (c .before .before .before .builders .ensures)) in (
+      ap (λ (n : ℕ). n * 65536) (c .number .ensures) ∙ ap (λ (t : Told (List ℕ)). packed 16 (copiedLength (length (now (a .out))) t)) item,
+      ap (λ (t : Told (List ℕ)). itemOut t (now (a .out))) item,
+    )
+
+returns-2 : tie.Need-returns-2
+returns-2 c =
+    let a = c .before .before .before .before .before .before .before .before .before .before .before .args in
+    let item =
+    ap (λ (g : Frame). gives (frameBytes g)) (c .before .before .before .before .build .ensures)
+    ∙ ap frameUnderWay (sym (c .before .before .before .before .before .before .f .given .1) ∙ ap (λ (x : Builders). x .frame) (c .before .before .before .before .before .before .before .before .builders .ensures)) in
     let n = c .before .before .encode-into .ensures in (
-      n .0 ∙ ap (λ (l : List ℕ). min (length l) (length (now (a .out)))) e,
-      (r .1, n .1 ∙ ap (copied (now (a .out))) e),
+      n .0 ∙ ap (λ (t : Told (List ℕ)). packed 16 (copiedLength (length (now (a .out))) t)) item,
+      n .1 ∙ ap (λ (t : Told (List ℕ)). itemOut t (now (a .out))) item,
     )
 
 pub da728x-frame-spec : {M : Type 1} → statement M
@@ -35,9 +46,14 @@ da728x-frame-spec =
     tie.close
     (tie.spec
     (λ c κs. search needs)
+    (λ c. search needs)
     (λ c κs. search needs)
-    (λ c κs. search needs)
-    cast-result
     (λ c. search needs)
     (λ c. search needs)
-    returns)
+    (λ c. search needs)
+    (λ c κs. search needs)
+    (λ c κs. search needs)
+    cast-result-2
+    returns
+    (λ c. search needs)
+    returns-2)

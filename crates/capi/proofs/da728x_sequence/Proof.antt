@@ -1,46 +1,38 @@
--- By what the run leaves, the sequence that it builds, and what encoding answers. Assumes nothing.
+-- By the builders that the calls leave, the sequence that they build, and what encoding answers. Assumes nothing.
+use borrow.Author.Needs.{needs}
 use mathlib.Core.Path.{_≡_, ap, sym, _∙_}
 use mathlib.Core.List.{List}
-use Prim.Native.Nat.{ℕ, min}
+use Prim.Native.Nat.{ℕ, _*_, min}
 use native.Mathlib.Omega.{arith}
 use denote.Ref.{now}
 use lib.ListN.{length, length-take}
-use Rattle.laws.specs.Copied.{copied}
-use Rattle.errors.specs.Told.{Built}
+use Rattle.errors.specs.Told.{Told, gives, refuses}
+use Rattle.errors.specs.Packed.{packed}
 use Rattle.calls.specs.declared.Builders.{Builders}
-use Rattle.sequence.specs.declared.Sequence.{Sequence}
-use Rattle.sequence.specs.declared.SequenceBuilder.{SequenceBuilder}
-use Rattle.sequence.specs.Sequence.{sequenceBytes, builtSequence}
-use Rattle.capi.proofs.Words.{refused-word, refused-out, built-word, built-out}
-use borrow.Author.Needs.{needs}
+use Rattle.sequence.specs.Sequence.{sequenceBytes, builtSequence, builtTold}
+use Rattle.capi.specs.Items.{itemFrom, fullLength, copiedLength, itemOut}
+use Rattle.capi.proofs.Words.{refused-item, built-item}
 use Rattle.capi.proofs.da728x_sequence.Statement.{statement}
 use Rattle.capi.proofs.da728x_sequence.Tie as tie
 
 returns : tie.Need-returns
 returns c =
-    let r = c .before .before .before .before .before .before .run .ensures in
-    let a = c .before .before .before .before .before .before .before .before .before .before .before .args in
-    let w = c .before .before .build .ensures ∙ ap (λ (x : Builders). builtSequence (x .sequence)) (r .0) in
-    let m = c .before .number .ensures ∙ ap (λ (x : Built Sequence SequenceBuilder). x .number) w in
-    (refused-word _ _ m _ (c .if1 .taken), (r .1, refused-out _ _ m (now (a .out)) _ (c .if1 .taken)))
+    let w = c .before .before .build .ensures ∙ ap (λ (x : Builders). builtSequence (x .sequence)) (c .before .before .before .before .builders .ensures) in
+    let item = refused-item sequenceBytes (builtTold (c .before .before .build .result)) _ (c .before .number .ensures) (c .if1 .taken) ∙ ap (itemFrom sequenceBytes) w in
+    (ap (λ (t : Told (List ℕ)). packed 16 (copiedLength (length (now (c .before .before .before .before .before .before .before .args .out))) t)) item, ap (λ (t : Told (List ℕ)). itemOut t (now (c .before .before .before .before .before .before .before .args .out))) item)
 
 cast-result-2 : tie.Need-cast-result-2
 cast-result-2 c =
     let s = c .before .before .before .before .before .before .before .build .result .sequence in
     let h : length (s .«data») ≡ 96 = search needs in
-    let e : length (sequenceBytes s) ≡ min (s .len) 96 = simp (length-take, h) in
-    omega (arith, c .before .before .encode-into .ensures .0)
+    omega (arith, c .before .before .encode-into .ensures .0, length-take (s .len) (s .«data»))
 
 returns-2 : tie.Need-returns-2
 returns-2 c =
-    let r = c .before .before .before .before .before .before .before .before .before .before .before .run .ensures in
-    let a = c .before .before .before .before .before .before .before .before .before .before .before .before .before .before .before .before .args in
-    let w = c .before .before .before .before .before .before .before .build .ensures ∙ ap (λ (x : Builders). builtSequence (x .sequence)) (r .0) in
-    let m = c .before .before .before .before .before .before .number .ensures ∙ ap (λ (x : Built Sequence SequenceBuilder). x .number) w in
-    let e = ap (λ (x : Built Sequence SequenceBuilder). sequenceBytes (x .item)) w in
+    let w = c .before .before .before .before .before .before .before .build .ensures ∙ ap (λ (x : Builders). builtSequence (x .sequence)) (c .before .before .before .before .before .before .before .before .before .builders .ensures) in
+    let item = built-item sequenceBytes (builtTold (c .before .before .before .before .before .before .before .build .result)) _ (c .before .before .before .before .before .before .number .ensures) (c .before .before .before .before .before .if1 .left) ∙ ap (itemFrom sequenceBytes) w in
     let n = c .before .before .encode-into .ensures in
-    let h = c .before .before .before .before .before .if1 .left in
-    (built-word _ _ m _ _ h (n .0 ∙ ap (λ (l : List ℕ). min (length l) (length (now (a .out)))) e), (r .1, built-out _ _ m _ (now (a .out)) _ h (n .1 ∙ ap (copied (now (a .out))) e)))
+    (n .0 ∙ ap (λ (t : Told (List ℕ)). packed 16 (copiedLength (length (now (c .before .before .before .before .before .before .before .before .before .before .before .before .args .out))) t)) item, n .1 ∙ ap (λ (t : Told (List ℕ)). itemOut t (now (c .before .before .before .before .before .before .before .before .before .before .before .before .args .out))) item)
 
 pub da728x-sequence-spec : {M : Type 1} → statement M
 da728x-sequence-spec =
@@ -51,10 +43,8 @@ da728x-sequence-spec =
     (λ c κs. search needs)
     (λ c. search needs)
     (λ c. search needs)
-    (λ c. search needs)
     returns
     (λ c κs. search needs)
     cast-result-2
-    (λ c. search needs)
     (λ c. search needs)
     returns-2)
