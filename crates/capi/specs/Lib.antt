@@ -1,2 +1,3 @@
--- The definitions that the contracts of `capi` cite.
+-- The definitions that the contracts of `capi` cite, and the claim that its packed answers are told apart.
 pub mod Items
+pub mod Telling

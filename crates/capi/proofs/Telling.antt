@@ -1,0 +1,98 @@
+-- Every packed answer has room, so one law tells them apart. Assumes nothing.
+use mathlib.Core.Path.{_≡_, refl, sym, ap, _∙_}
+use mathlib.Core.Bool.{Bool, true, false, cond}
+use mathlib.Core.List.{List, _++_}
+use Prim.Native.Nat.{ℕ, _+_, _≤_, _<_, min}
+use native.Mathlib.Nat.{min-le-left, min-le-right, le-trans, le-of-eq}
+use native.Mathlib.Omega.{arith}
+use borrow.Author.Tests.{ltb-true, ltb-false}
+use lib.Dec.{ltb}
+use lib.ListN.{length, take, replicate, length-take}
+use Rattle.errors.specs.Told.{Told, gives, refuses, Built}
+use Rattle.errors.specs.Packed.{packed, Room}
+use Rattle.errors.proofs.Packed.{packed-apart}
+use Rattle.snippet.specs.declared.Snippet.{Snippet}
+use Rattle.snippet.specs.declared.SnippetBuilder.{SnippetBuilder}
+use Rattle.snippet.specs.Point.{pointByte, point}
+use Rattle.snippet.specs.Snippet.{noSnippet, snippetBytes, builtSnippet}
+use Rattle.snippet.proofs.Sizes.{snippet-length}
+use Rattle.frame.specs.Frame.{bytesOf, frameBytes, builtFrame}
+use Rattle.sequence.specs.declared.Sequence.{Sequence}
+use Rattle.sequence.specs.declared.SequenceBuilder.{SequenceBuilder}
+use Rattle.sequence.specs.Sequence.{noSequence, sequenceBytes, builtSequence}
+use Rattle.calls.specs.declared.UnderWay.{UnderWay}
+use Rattle.calls.specs.declared.UnderWay.the-variants as UnderWay
+use Rattle.pattern.specs.Calls.{snippetFrom, sequenceFrom}
+use Rattle.pattern.proofs.Snippets.{snippet-holds}
+use Rattle.pattern.proofs.Sequences.{sequence-holds}
+use Rattle.assemble.specs.Lists.{groupsOf, buildersOf}
+use Rattle.assemble.proofs.Strict.{strict}
+use Rattle.readings.proofs.Telling.{readings-told}
+use Rattle.capi.specs.Items.{itemFrom, frameUnderWay, snippetItem, frameItem, sequenceItem, fullLength, copiedLength}
+use Rattle.capi.specs.Telling.{Tells, Telling}
+
+tells : {A : Type 0} (bits : ℕ) (answer : A → Told ℕ) → ((x : A) → Room bits (answer x)) → Tells bits answer
+tells bits answer room x y = packed-apart bits (answer x) (answer y) (room x) (room y)
+
+point-room : (r : Bool) (t a : ℕ) → Room 8 (point r t a)
+point-room r t a = go (ltb t 1) (ltb 8 t) (ltb 15 a) refl refl refl where
+  byte : (b : Bool) → t ≤ 8 → a ≤ 15 → pointByte b t a < 256
+  byte true h k = omega arith
+  byte false h k = omega arith
+
+  go : (u v w : Bool) → ltb t 1 ≡ u → ltb 8 t ≡ v → ltb 15 a ≡ w → Room 8 (cond u (refuses 1) (cond v (refuses 1) (cond w (refuses 2) (gives (pointByte r t a)))))
+  go true v w e f g = omega arith
+  go false true w e f g = omega arith
+  go false false true e f g = omega arith
+  go false false false e f g = byte r (ltb-false 8 t f) (ltb-false 15 a g)
+
+-- an item of few bytes
+module _ {I B : Type 0} (bytes : I → List ℕ) (r : Built I B) (few : length (bytes (r .item)) ≤ 96) where
+  full-room : Room 16 (fullLength (itemFrom bytes r))
+  full-room = go (ltb 0 (r .number)) refl where
+    go : (t : Bool) → ltb 0 (r .number) ≡ t → Room 16 (fullLength (cond t (refuses (r .number)) (gives (bytes (r .item)))))
+    go true e = ltb-true 0 (r .number) e
+    go false e = let h : length (bytes (r .item)) < 65536 = omega arith in h
+
+  copied-room : (n : ℕ) → Room 16 (copiedLength n (itemFrom bytes r))
+  copied-room n = go (ltb 0 (r .number)) refl where
+    go : (t : Bool) → ltb 0 (r .number) ≡ t → Room 16 (copiedLength n (cond t (refuses (r .number)) (gives (bytes (r .item)))))
+    go true e = ltb-true 0 (r .number) e
+    go false e = let h : min (length (bytes (r .item))) n < 65536 = omega (arith, min-le-left (length (bytes (r .item))) n) in h
+
+snippet-few : (b : SnippetBuilder) → length (b .points) ≡ 16 → length (snippetBytes (builtSnippet b .item)) ≤ 96
+snippet-few b h = go (ltb (b .len) 1) where
+  short : (s : Snippet) → length (s .points) ≡ 16 → length (snippetBytes s) ≤ 96
+  short s e = omega (arith, snippet-length s e, min-le-right (s .len) 16)
+
+  go : (t : Bool) → length (snippetBytes (cond {A = Built Snippet SnippetBuilder} t (record { number = 9; item = noSnippet; builder = b }) (record { number = 0; item = record { points = b .points; len = b .len }; builder = b }) .item)) ≤ 96
+  go true = short noSnippet refl
+  go false = short (record { points = b .points; len = b .len }) h
+
+sequence-few : (b : SequenceBuilder) → length (b .«data») ≡ 96 → length (sequenceBytes (builtSequence b .item)) ≤ 96
+sequence-few b h = go (ltb (b .len) 1) where
+  go : (t : Bool) → length (sequenceBytes (cond {A = Built Sequence SequenceBuilder} t (record { number = 10; item = noSequence; builder = b }) (record { number = 0; item = record { «data» = b .«data»; len = b .len }; builder = b }) .item)) ≤ 96
+  go true = omega arith
+  go false = omega (arith, length-take (b .len) (b .«data»), min-le-right (b .len) (length (b .«data»)), h)
+
+frame-room : (n : ℕ) (u : UnderWay) → Room 16 (copiedLength n (frameUnderWay u))
+frame-room n UnderWay.NotBegun = omega arith
+frame-room n (UnderWay.Begun f) =
+    let l : List ℕ = bytesOf f ++ replicate 3 0 in
+    let e = length-take (length (bytesOf f)) (take 3 l) in
+    let d = length-take 3 l in
+    let h : min (length (frameBytes (builtFrame f))) n < 65536 =
+    omega (arith, e, d, min-le-left (length (frameBytes (builtFrame f))) n, min-le-right (length (bytesOf f)) (length (take 3 l)), min-le-left 3 (length l)) in
+    h
+
+pub telling : Telling
+telling =
+    record {
+      points = tells 8 _ (λ x. point-room (x .0) (x .1) (x .2));
+      snippets = tells 16 _ (λ calls. full-room snippetBytes (builtSnippet (buildersOf calls .snippet)) (snippet-few (buildersOf calls .snippet) (snippet-holds (groupsOf calls .snippet) .shows .long)));
+      frames = tells 16 _ (λ x. frame-room (x .0) (buildersOf (x .1) .frame));
+      sequences =
+          tells 16 _ (λ x. copied-room sequenceBytes (builtSequence (buildersOf (x .1) .sequence)) (sequence-few (buildersOf (x .1) .sequence) (sequence-holds (groupsOf (x .1) .sequence) .long)) (x .0));
+      images = readings-told;
+      strict = strict;
+    }

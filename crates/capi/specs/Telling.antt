@@ -1,0 +1,28 @@
+-- No packed answer misleads: of every exported function of this crate whose answer is a value or a refusal in one number, the number gives
+-- back which of the two it is, and the value or the refusal. Document 01, "refuses by one of the listed numbers".
+use Prim.Native.Nat.{ℕ}
+use mathlib.Core.Path.{_≡_}
+use mathlib.Core.Bool.{Bool}
+use mathlib.Core.List.{List}
+use Rattle.errors.specs.Told.{Told}
+use Rattle.errors.specs.Packed.{packed}
+use Rattle.snippet.specs.Point.{point}
+use Rattle.readings.specs.Telling.{ReadingsTold}
+use Rattle.assemble.specs.Strict.{Strict}
+use Rattle.capi.specs.Items.{snippetItem, frameItem, sequenceItem, fullLength, copiedLength}
+
+-- equal numbers are equal answers
+abbrev pub Tells : {A : Type 0} → ℕ → (A → Told ℕ) → Type 0
+Tells bits answer = (x y : _) → packed bits (answer x) ≡ packed bits (answer y) → answer x ≡ answer y
+
+pub record Telling : Type 0 where
+  -- da728x_point
+  pub points : Tells 8 (λ (x : Bool × ℕ × ℕ). point (x .0) (x .1) (x .2))
+  -- da728x_snippet; da728x_frame and da728x_sequence with buffers of any lengths
+  pub snippets : Tells 16 (λ (calls : List ℕ). fullLength (snippetItem calls))
+  pub frames : Tells 16 (λ (x : ℕ × List ℕ). copiedLength (x .0) (frameItem (x .1)))
+  pub sequences : Tells 16 (λ (x : ℕ × List ℕ). copiedLength (x .0) (sequenceItem (x .1)))
+  -- da728x_read_counts, da728x_read_point, da728x_read_frame, da728x_read_lists
+  pub images : ReadingsTold
+  -- da728x_assemble_strict: a number and a place
+  pub strict : (calls : List ℕ) → Strict calls
