@@ -25,7 +25,7 @@ use Rattle.calls.specs.declared.Call.the-variants as Call
 use Rattle.calls.specs.declared.UnderWay.{UnderWay}
 use Rattle.calls.specs.declared.UnderWay.the-variants as UnderWay
 use Rattle.calls.specs.declared.Builders.{Builders}
-use Rattle.calls.specs.Calls.{callsByCode, callAt, callsIn, onFrame, begins, withField, sets, adds}
+use Rattle.calls.specs.Calls.{chosen, callsByCode, callAt, callsIn, onFrame, begins, withField, sets, adds}
 use Rattle.memory.specs.declared.WaveformMemoryBuilder.{WaveformMemoryBuilder}
 use Rattle.memory.specs.Memory.{newMemory}
 use Rattle.pattern.specs.Calls.{ran, answersTo, SnippetCall, ramp, step, point, snippetStep, addedPoint, snippetFrom, FrameCall, frameStep, Begin, new, silence, begunBy, FrameCalls, frameRan, frameFrom, answerOn, withMadeFrame, sequenceStep, sequenceFrom, MemoryCall, addSnippet, addSequence, memoryStep, addedItem, memoryFrom}
@@ -47,11 +47,11 @@ abbrev mirrored : Handed Groups → Handed State
 mirrored r = record { number = r .number; builder = mirror (r .builder) }
 
 -- a `new` is refused with 3 only
-abbrev Three : Told FrameBuilder → Type 0
+abbrev pub Three : Told FrameBuilder → Type 0
 Three (gives f) = Unit
 Three (refuses n) = n ≡ 3
 
-three : (b : Begin) → Three (begunBy b)
+pub three : (b : Begin) → Three (begunBy b)
 three silence = tt
 three (new k) = go (ltb k 1) (ltb 15 k) where
   go : (t u : Bool) → Three (cond t (refuses 3) (cond u (refuses 3) (gives (plainFrame k))))
@@ -192,8 +192,14 @@ one-of P [] n d h e = e
 one-of P (x ∷ l) zero d h e = h .0
 one-of P (x ∷ l) (suc n) d h e = one-of P l n d (h .1) e
 
+chosen-fits : (k : FieldCall) (code : ℕ) → Fits (chosen k code)
+chosen-fits k code = go (ltb 3 code) where
+  go : (t : Bool) → Fits (cond t Call.Unknown (Call.Builder (Builder.Set k)))
+  go true = tt
+  go false = tt
+
 codes-fit : (a b : ℕ) → a < 256 → All Fits (callsByCode a b)
-codes-fit a b h = (tt, (tt, (tt, (tt, (h, (tt, (tt, (tt, (tt, (tt, (tt, (tt, (tt, (tt, (tt, tt)))))))))))))))
+codes-fit a b h = (tt, (tt, (tt, (tt, (h, (tt, (tt, (chosen-fits (Field.Gain a) a, (chosen-fits (Field.Timebase a) a, (tt, (tt, (tt, (tt, (tt, (tt, tt)))))))))))))))
 
 calls-fit : (l : List ℕ) → Bytes l → All Fits (callsIn l)
 unfolding callsIn

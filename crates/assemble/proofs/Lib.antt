@@ -5,3 +5,4 @@ pub mod Lists
 pub mod Numbers
 pub mod Running
 pub mod Strict
+pub mod UsedUp

@@ -26,7 +26,7 @@ use Rattle.calls.specs.Calls.{firstCall, callsIn, called}
 use Rattle.calls.proofs.Turns.{calls-next, calls-none}
 use Rattle.memory.specs.declared.WaveformMemoryBuilder.{WaveformMemoryBuilder}
 use Rattle.pattern.specs.Calls.{withBuiltSnippet, withBuiltSequence}
-use Rattle.assemble.specs.Lists.{placed, firstRefused}
+use Rattle.assemble.specs.Lists.{withPlace, firstRefused}
 use Rattle.assemble.specs.Flat.{State, state, lessSnippet, lessSequence, flatCalled, nothingYet, flatAfter, flatAnswers}
 use Rattle.assemble.specs.Holding.{KeepsMemory, StepsSnippets, StepsSequences, StepsMemory, shownBy}
 use Rattle.assemble.proofs.Holding.{spares-sequences, spares-snippets}
@@ -71,14 +71,14 @@ pub record Running (bytes answers₀ answers snippets sequences : List ℕ) (b :
   pub counts : length (callsIn bytes) ≡ i + length (callsIn (drop at bytes))
 
 -- the first refusal, with one answer more
-first-more : (told n i : ℕ) (ns : List ℕ) (told′ : ℕ) → told′ ≡ cond (ltb 0 told) told (cond (ltb 0 n) (placed n i) 0)
+first-more : (told n i : ℕ) (ns : List ℕ) (told′ : ℕ) → told′ ≡ cond (ltb 0 told) told (cond (ltb 0 n) (withPlace n i) 0)
     → cond (ltb 0 told) told (firstRefused i (n ∷ ns)) ≡ cond (ltb 0 told′) told′ (firstRefused (suc i) ns)
 first-more told n i ns told′ e = go (ltb 0 told) (ltb 0 n) refl refl ∙ ap (λ (x : ℕ). cond (ltb 0 x) x (firstRefused (suc i) ns)) (sym e) where
   go : (t u : Bool) → ltb 0 told ≡ t → ltb 0 n ≡ u
-      → cond t told (cond u (placed n i) (firstRefused (suc i) ns))
-      ≡ cond (ltb 0 (cond t told (cond u (placed n i) 0))) (cond t told (cond u (placed n i) 0)) (firstRefused (suc i) ns)
+      → cond t told (cond u (withPlace n i) (firstRefused (suc i) ns))
+      ≡ cond (ltb 0 (cond t told (cond u (withPlace n i) 0))) (cond t told (cond u (withPlace n i) 0)) (firstRefused (suc i) ns)
   go true u f g = simp f
-  go false true f g = let h = ltb-true 0 n g in simp (lt-ltb 0 (placed n i) (omega arith))
+  go false true f g = let h = ltb-true 0 n g in simp (lt-ltb 0 (withPlace n i) (omega arith))
   go false false f g = refl
 
 -- a refusal told stays, and 0 is none
@@ -92,7 +92,7 @@ module _ {bytes k₀ k ls qs : List ℕ} {b : Builders} {at i told : ℕ} (r : R
   -- one turn
   pub turn : (call : Call) (t : Handed Builders) (ls′ qs′ k′ : List ℕ) (b′ : Builders) (n at′ told′ : ℕ) → at < length bytes → at′ ≡ min (at + 4) (length bytes)
       → call ≡ firstCall (drop at bytes) → StepsMemory b call ls qs t ls′ qs′ → n ≡ t .number → b′ ≡ t .builder → k′ ≡ set k i n
-      → told′ ≡ cond (ltb 0 told) told (cond (ltb 0 n) (placed n i) 0) → Running bytes k₀ k′ ls′ qs′ b′ at′ (i + 1) told′
+      → told′ ≡ cond (ltb 0 told) told (cond (ltb 0 n) (withPlace n i) 0) → Running bytes k₀ k′ ls′ qs′ b′ at′ (i + 1) told′
   unfolding flatAfter flatAnswers
   turn call t ls′ qs′ k′ b′ n at′ told′ h e ec steps en eb ek et =
       let m = r .memory in

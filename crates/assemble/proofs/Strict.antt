@@ -9,7 +9,7 @@ use borrow.Author.Tests.{lt-ltb, le-ltb, ltb-true, ltb-false}
 use lib.Dec.{ltb}
 use lib.ListN.{length}
 use Rattle.laws.specs.Copied.{copied}
-use Rattle.assemble.specs.Lists.{answersOf, builtOf, imageOut, placed, firstRefused, strictly, strictOut}
+use Rattle.assemble.specs.Lists.{answersOf, builtOf, imageOut, lastPlace, withPlace, firstRefused, strictly, strictOut}
 use Rattle.assemble.specs.Strict.{Accepted, Strict}
 use Rattle.assemble.proofs.Numbers.{answer-numbers}
 
@@ -45,14 +45,14 @@ none-refused (n ∷ ns) i h = simp (h .0) (none-refused ns (suc i) (h .1))
 none-only : (ns : List ℕ) (i : ℕ) → firstRefused i ns ≡ 0 → Accepted ns
 none-only [] i e = tt
 none-only (n ∷ ns) i e = go (ltb 0 n) refl e (none-only ns (suc i)) where
-  go : (t : Bool) → ltb 0 n ≡ t → cond t (placed n i) (firstRefused (suc i) ns) ≡ 0 → (firstRefused (suc i) ns ≡ 0 → Accepted ns) → Accepted (n ∷ ns)
+  go : (t : Bool) → ltb 0 n ≡ t → cond t (withPlace n i) (firstRefused (suc i) ns) ≡ 0 → (firstRefused (suc i) ns ≡ 0 → Accepted ns) → Accepted (n ∷ ns)
   go true f g more = let h = ltb-true 0 n f in absurd (omega arith)
   go false f g more = let h = ltb-false 0 n f in (omega arith, more g)
 
-first-at : (before : List ℕ) (n : ℕ) (rest : List ℕ) (i : ℕ) → Accepted before → 0 < n → firstRefused i (before ++ (n ∷ rest)) ≡ placed n (i + length before)
-first-at [] n rest i h k = simp (lt-ltb 0 n k) (ap (placed n) (let z : i ≡ i + 0 = omega arith in z))
+first-at : (before : List ℕ) (n : ℕ) (rest : List ℕ) (i : ℕ) → Accepted before → 0 < n → firstRefused i (before ++ (n ∷ rest)) ≡ withPlace n (i + length before)
+first-at [] n rest i h k = simp (lt-ltb 0 n k) (ap (withPlace n) (let z : i ≡ i + 0 = omega arith in z))
 first-at (x ∷ before) n rest i h k =
-    simp (h .0) (first-at before n rest (suc i) (h .1) k ∙ ap (placed n) (let z : suc i + length before ≡ i + suc (length before) = omega arith in z))
+    simp (h .0) (first-at before n rest (suc i) (h .1) k ∙ ap (withPlace n) (let z : suc i + length before ≡ i + suc (length before) = omega arith in z))
 
 module _ (calls : List ℕ) where
   abbrev f : ℕ
@@ -66,13 +66,13 @@ module _ (calls : List ℕ) where
   only false e g = let h = ltb-false 0 f e in (none-only (answersOf calls) 0 (omega (arith, h)), g)
 
   at-first : (before : List ℕ) (n : ℕ) (rest : List ℕ) → answersOf calls ≡ before ++ (n ∷ rest) → Accepted before → 0 < n
-      → length before < 16777215 → strictly calls ≡ n + 256 * (length before + 1)
+      → length before < lastPlace → strictly calls ≡ n + 256 * (length before + 1)
   at-first before n rest e h k room =
-      let g : f ≡ placed n (length before) = ap (firstRefused 0) e ∙ first-at before n rest 0 h k ∙ ap (placed n) (let z : 0 + length before ≡ length before = omega arith in z) in
-      let z : 0 < placed n (length before) = omega arith in
+      let g : f ≡ withPlace n (length before) = ap (firstRefused 0) e ∙ first-at before n rest 0 h k ∙ ap (withPlace n) (let z : 0 + length before ≡ length before = omega arith in z) in
+      let z : 0 < withPlace n (length before) = omega arith in
       ap (λ (u : Bool). cond u f (builtOf calls .number)) (lt-ltb 0 f (omega (arith, g, z)))
       ∙ g
-      ∙ ap (λ (j : ℕ). n + 256 * j) (min-eq-left {n = length before + 1} {m = 16777215} (omega (arith, room)))
+      ∙ ap (λ (j : ℕ). n + 256 * j) (min-eq-left {n = length before + 1} {m = lastPlace} (omega (arith, room)))
 
   pub strict : Strict calls
-  strict = record { whole = (λ e. only (ltb 0 f) refl e, λ w. none (w .0) ∙ w .1); first = at-first; numbers = answer-numbers calls; builds = none }
+  strict = record { whole = (λ e. only (ltb 0 f) refl e, λ w. none (w .0) ∙ w .1); first = at-first; numbers = answer-numbers calls; builds = none; kept = λ buffer h. simp (lt-ltb 0 (strictly calls) h); image = λ buffer e. simp e }

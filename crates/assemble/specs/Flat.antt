@@ -1,9 +1,8 @@
 -- A run as the code has it: the snippet, the frame and the sequence by value, and a memory's builder that the bytes keep (Holding.antt).
 -- Only private contracts cite this; proofs/Assembly.antt: it answers and leaves what Lists.antt says.
 use Prim.Native.Nat.{ℕ}
-use mathlib.Core.Bool.{false, cond}
+use mathlib.Core.Bool.{false}
 use mathlib.Core.List.{List, [], _∷_}
-use lib.Dec.{ltb}
 use Rattle.errors.specs.Told.{Handed, refused}
 use Rattle.snippet.specs.Snippet.{newSnippet, builtSnippet}
 use Rattle.sequence.specs.Sequence.{newSequence, builtSequence}
@@ -14,7 +13,7 @@ use Rattle.calls.specs.Calls.{started, called}
 use Rattle.memory.specs.declared.WaveformMemoryBuilder.{WaveformMemoryBuilder}
 use Rattle.memory.specs.Memory.{newMemory}
 use Rattle.pattern.specs.Calls.{withBuiltSnippet, withBuiltSequence}
-use Rattle.assemble.specs.Lists.{leftBy}
+use Rattle.assemble.specs.Lists.{leftBy, noCall}
 
 -- the builders of all four kinds
 pub record State : Type 0 where
@@ -42,7 +41,7 @@ flatCalled s Call.AddSnippet =
     onMemory (lessSnippet (s .builders)) (withBuiltSnippet (s .memory) (builtSnippet (s .builders .snippet)))
 flatCalled s Call.AddSequence =
     onMemory (lessSequence (s .builders)) (withBuiltSequence (s .memory) (builtSequence (s .builders .sequence)))
-flatCalled s Call.Unknown = refused 14 s
+flatCalled s Call.Unknown = refused noCall s
 
 abbrev pub nothingYet : State
 nothingYet = state started (newMemory false)

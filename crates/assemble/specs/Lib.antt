@@ -4,3 +4,4 @@ pub mod Holding
 pub mod Kept
 pub mod Lists
 pub mod Strict
+pub mod UsedUp

@@ -97,6 +97,10 @@ fieldOf (Field.Timebase c) = timebase (timebaseAt c)
 fieldOf (Field.LoopCount k) = loopCount k
 fieldOf (Field.FrequencyHz f) = frequencyHz f
 
+-- a record that says no call is refused with 14, NotSupported
+abbrev pub noCall : ℕ
+noCall = 14
+
 abbrev pub grouped : Groups → Call → Handed Groups
 grouped g (Call.Builder Builder.SnippetNew) = record { number = 0; builder = record { snippet = []; frame = g .frame; sequence = g .sequence; memory = g .memory } }
 grouped g (Call.Builder (Builder.Ramp t a)) = toSnippet g (ramp t a)
@@ -109,8 +113,7 @@ grouped g (Call.Builder Builder.SequenceNew) = record { number = 0; builder = re
 grouped g (Call.Builder Builder.AddFrame) = toSequence g
 grouped g Call.AddSnippet = snippetToMemory g
 grouped g Call.AddSequence = sequenceToMemory g
--- a record that says no call is refused with 14 and changes nothing
-grouped g Call.Unknown = refused 14 g
+grouped g Call.Unknown = refused noCall g
 
 -- ---- a list of calls as bytes
 
@@ -126,13 +129,16 @@ abbrev pub underWay : List FrameCall → Told FrameBuilder → UnderWay
 underWay ks (gives f) = UnderWay.Begun (frameRan f ks)
 underWay ks (refuses n) = UnderWay.NotBegun
 
-abbrev pub buildersOf : List ℕ → Builders
-buildersOf bytes =
+abbrev pub buildersIn : Groups → Builders
+buildersIn g =
     record {
-      snippet = snippetFrom (groupsOf bytes .snippet);
-      frame = underWay (groupsOf bytes .frame .calls) (begunBy (groupsOf bytes .frame .begin));
-      sequence = sequenceFrom (groupsOf bytes .sequence);
+      snippet = snippetFrom (g .snippet);
+      frame = underWay (g .frame .calls) (begunBy (g .frame .begin));
+      sequence = sequenceFrom (g .sequence);
     }
+
+abbrev pub buildersOf : List ℕ → Builders
+buildersOf bytes = buildersIn (groupsOf bytes)
 
 -- what building the memory answers after the calls; the image goes to the front of a buffer where one was built
 abbrev pub builtOf : List ℕ → Built WaveformMemory WaveformMemoryBuilder
@@ -143,14 +149,18 @@ imageOut r buffer = cond (ltb 0 (r .number)) buffer (copied buffer (r .item .«d
 
 -- ---- a list of calls that stops at the first refusal
 
--- the number of a refusal and 256 times its place, counted from 1; a later place than has room counts as the last that has
-abbrev pub placed : ℕ → ℕ → ℕ
-placed number before = number + 256 * min (before + 1) 16777215
+-- the last place of a call that has room in an answer
+abbrev pub lastPlace : ℕ
+lastPlace = 16777215
+
+-- the number of a refusal and 256 times its place, counted from 1, where so many calls came before; a later place counts as the last
+abbrev pub withPlace : ℕ → ℕ → ℕ
+withPlace number before = number + 256 * min (before + 1) lastPlace
 
 -- the first answer that is a refusal, 0 where there is none; so many answers came before these
 abbrev pub firstRefused : ℕ → List ℕ → ℕ
 firstRefused before [] = 0
-firstRefused before (n ∷ ns) = cond (ltb 0 n) (placed n before) (firstRefused (suc before) ns)
+firstRefused before (n ∷ ns) = cond (ltb 0 n) (withPlace n before) (firstRefused (suc before) ns)
 
 -- the first refusal among the calls, else what building answers
 abbrev pub strictly : List ℕ → ℕ

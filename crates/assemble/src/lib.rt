@@ -15,7 +15,7 @@ ghost use Rattle.snippet.specs.Snippet as snippet;
 ghost use Rattle.sequence.specs.Sequence as sequence;
 ghost use Rattle.calls.specs.Calls.{callsIn, steppedTold};
 ghost use Rattle.pattern.specs.Calls.{memoryFrom, withBuiltSnippet, withBuiltSequence};
-ghost use Rattle.assemble.specs.Lists.{groupsOf, answersOf, buildersOf, builtOf, imageOut, placed, firstRefused, strictly, strictOut};
+ghost use Rattle.assemble.specs.Lists.{groupsOf, answersOf, buildersOf, builtOf, imageOut, lastPlace, withPlace, firstRefused, strictly, strictOut};
 ghost use Rattle.assemble.specs.Flat.{lessSnippet, lessSequence};
 ghost use Rattle.assemble.specs.Kept.{roomFor, PushedUnless, addedNumber};
 ghost use Rattle.assemble.specs.Holding.{KeepsMemory, StepsSnippets, StepsSequences, StepsMemory};
@@ -262,7 +262,7 @@ fn put(answers: &mut [u8], i: usize, x: u8)
 
 // The first refusal with its place: the one told before, else that of the i-th call, counted from 0.
 fn first(told: u32, number: u8, i: usize) -> u32
-    ensures { λ r. ⌜ r ≡ cond (ltb 0 told) told (cond (ltb 0 number) (placed number i) 0) ⌝ }
+    ensures { λ r. ⌜ r ≡ cond (ltb 0 told) told (cond (ltb 0 number) (withPlace number i) 0) ⌝ }
 {
     if 0 < told {
         return told;
@@ -274,8 +274,8 @@ fn first(told: u32, number: u8, i: usize) -> u32
 }
 
 fn place(i: usize) -> usize
-    ensures { λ r. ⌜ r ≡ min (i + 1) 16777215 ⌝ }
-    ensures { λ r. ⌜ r ≤ 16777215 ⌝ }
+    ensures { λ r. ⌜ r ≡ min (i + 1) lastPlace ⌝ }
+    ensures { λ r. ⌜ r ≤ lastPlace ⌝ }
 {
     if LAST_PLACE <= i {
         return LAST_PLACE;

@@ -28,7 +28,11 @@ use Rattle.calls.specs.declared.Stepped.{Stepped}
 
 -- ---- calls as bytes
 
--- the calls by their codes, from 0; a and b are the two bytes that follow the code
+-- a choice of four by its code; a code above 3 says none
+abbrev pub chosen : FieldCall → ℕ → Call
+chosen k code = cond (ltb 3 code) Call.Unknown (Call.Builder (Builder.Set k))
+
+-- the calls by their codes, of which 0 says none; a and b are the two bytes that follow the code
 abbrev pub callsByCode : ℕ → ℕ → List Call
 callsByCode a b =
     Call.Unknown
@@ -38,8 +42,8 @@ callsByCode a b =
     ∷ Call.Builder (Builder.Point a)
     ∷ Call.Builder (Builder.FrameNew a)
     ∷ Call.Builder Builder.Silence
-    ∷ Call.Builder (Builder.Set (Field.Gain a))
-    ∷ Call.Builder (Builder.Set (Field.Timebase a))
+    ∷ chosen (Field.Gain a) a
+    ∷ chosen (Field.Timebase a) a
     ∷ Call.Builder (Builder.Set (Field.LoopCount a))
     ∷ Call.Builder (Builder.Set (Field.FrequencyHz (a + b * 256)))
     ∷ Call.Builder Builder.SequenceNew
@@ -48,7 +52,7 @@ callsByCode a b =
     ∷ Call.AddSequence
     ∷ []
 
--- any other code says no call
+-- any other code says none
 abbrev pub callAt : ℕ → ℕ → ℕ → Call
 callAt code a b = getD (callsByCode a b) code Call.Unknown
 

@@ -10,7 +10,7 @@ ghost use Rattle.errors.specs.Told.{accepted, refused};
 ghost use Rattle.snippet.specs.Snippet as snippet;
 ghost use Rattle.frame.specs.Builder as frame;
 ghost use Rattle.sequence.specs.Sequence as sequence;
-ghost use Rattle.calls.specs.Calls.{callAt, firstCall, started, onSnippet, onFrame, onSequence, begins, withField, sets, uses, adds, called, steppedTold};
+ghost use Rattle.calls.specs.Calls.{chosen, callAt, firstCall, started, onSnippet, onFrame, onSequence, begins, withField, sets, uses, adds, called, steppedTold};
 use errors::Answer;
 use errors::Error;
 use frame::FrameBuilder;
@@ -21,6 +21,9 @@ use sequence::SequenceBuilder;
 use snippet::AddedPoint;
 use snippet::PwlPoint;
 use snippet::SnippetBuilder;
+
+// The last code of a gain or a timebase.
+const LAST_CHOICE: u8 = 3;
 
 // Sets a field of the frame.
 pub enum FieldCall {
@@ -96,8 +99,8 @@ impl Call {
             4 => Call::Builder(BuilderCall::Point(a)),
             5 => Call::Builder(BuilderCall::FrameNew(a)),
             6 => Call::Builder(BuilderCall::Silence),
-            7 => Call::Builder(BuilderCall::Set(FieldCall::Gain(a))),
-            8 => Call::Builder(BuilderCall::Set(FieldCall::Timebase(a))),
+            7 => chosen(FieldCall::Gain(a), a),
+            8 => chosen(FieldCall::Timebase(a), a),
             9 => Call::Builder(BuilderCall::Set(FieldCall::LoopCount(a))),
             10 => Call::Builder(BuilderCall::Set(FieldCall::FrequencyHz(wide(a, b)))),
             11 => Call::Builder(BuilderCall::SequenceNew),
@@ -272,6 +275,16 @@ impl Builders {
             builders: b,
         }
     }
+}
+
+// A choice of four by its code; a code above the last says no call.
+fn chosen(call: FieldCall, code: u8) -> Call
+    ensures { λ r. ⌜ r ≡ chosen call code ⌝ }
+{
+    if LAST_CHOICE < code {
+        return Call::Unknown;
+    }
+    Call::Builder(BuilderCall::Set(call))
 }
 
 fn with_field(f: FrameBuilder, call: FieldCall) -> SetFrame

@@ -25,10 +25,10 @@ returns-7 : tie.Need-returns-7
 returns-7 c = simp (c .match .keys7)
 
 returns-8 : tie.Need-returns-8
-returns-8 c = simp (c .match .keys8)
+returns-8 c = simp (c .chosen .ensures, c .before .match .keys8)
 
 returns-9 : tie.Need-returns-9
-returns-9 c = simp (c .match .keys9)
+returns-9 c = simp (c .chosen2 .ensures, c .before .match .keys9)
 
 returns-10 : tie.Need-returns-10
 returns-10 c = simp (c .match .keys10)
@@ -49,6 +49,8 @@ pub decode-spec : {M : Type 1} → statement M
 decode-spec =
     tie.close
     (tie.spec
+    (λ c κs. search needs)
+    (λ c κs. search needs)
     (λ c κs. search needs)
     (λ c. search needs)
     returns-2
