@@ -5,4 +5,5 @@ pub mod Found
 pub mod Loops
 pub mod Placed
 pub mod Running
+pub mod Turns
 pub mod Whole

@@ -14,9 +14,8 @@ use lib.Seq.{drop-cons, length-take-le}
 use Rattle.content.specs.ReadImage.{andThen, allZero}
 use Rattle.reader.specs.declared.Points.{Points}
 use Rattle.reader.specs.declared.Frames.{Frames}
-use Rattle.reader.specs.declared.FramesRead.{FramesRead}
 use Rattle.reader.specs.Flat.{pushPoint, pushPoints, endSnippet, endSequence}
-use Rattle.reader.specs.Walk.{Walked, item, walk, pushSnippet, pushSequence, runFrames, framesRead}
+use Rattle.reader.specs.Walk.{Walked, item, walk, pushSnippet, pushSequence, runFrames}
 
 pub drop-one : (s : List ℕ) (i : ℕ) → i < length s → drop i s ≡ getD s i 0 ∷ drop (i + 1) s
 drop-one s i h = rw (add-one, drop-cons s i 0)
@@ -87,7 +86,7 @@ pub item-part : (image : List ℕ) (p e : ℕ) → take (e + 1 - (p + 1)) (drop 
 item-part image p e = let k : e + 1 - (p + 1) ≡ e - p = omega arith in ap (λ (n : ℕ). take n (drop (p + 1) image)) k
 
 module _ (image : List ℕ) (p e : ℕ) (f : p < e) (g : e < length image) where
-  item-length : length (item image p e) ≡ e - p
+  pub item-length : length (item image p e) ≡ e - p
   item-length = length-take-le (e - p) (drop (p + 1) image) (omega (arith, length-drop (p + 1) image))
 
   item-some : leb 1 (length (item image p e)) ≡ true
@@ -101,25 +100,11 @@ module _ (image : List ℕ) (p e : ℕ) (f : p < e) (g : e < length image) where
   unfolding pushSnippet
   snippet-good o h = let n = item-length in simp (item-some, le-leb (length (item image p e)) 16 (omega arith))
 
-  sequence-run : (o : Frames) (m : Option Frames) → runFrames 32 (item image p e) o ≡ m → pushSequence (item image p e) o ≡ andThen m (λ x. some (endSequence x))
+  pub sequence-run : (o : Frames) (m : Option Frames) → runFrames 32 (item image p e) o ≡ m → pushSequence (item image p e) o ≡ andThen m (λ x. some (endSequence x))
   unfolding pushSequence
   sequence-run o m k =
       ap (λ (t : Bool). cond t (andThen (runFrames 32 (item image p e) o) (λ x. some (endSequence x))) none) item-some
       ∙ ap (λ (x : Option Frames). andThen x (λ y. some (endSequence y))) k
-
-  pub sequence-good : (o : Frames) (r : FramesRead) → r ≡ framesRead (runFrames 32 (item image p e) o) → r .found ≡ true
-      → pushSequence (item image p e) o ≡ some (endSequence (r .frames))
-  sequence-good o r d t = go (runFrames 32 (item image p e) o) refl d where
-    go : (m : Option Frames) → runFrames 32 (item image p e) o ≡ m → r ≡ framesRead m → pushSequence (item image p e) o ≡ some (endSequence (r .frames))
-    go none k d = let z : _≡_ {A = ℕ} 0 1 = cc (ap (λ (x : FramesRead). x .found) d) in absurd (omega arith)
-    go (some x) k d = sequence-run o (some x) k ∙ ap (λ (y : FramesRead). some (endSequence (y .frames))) (sym d)
-
-  pub sequence-bad : (o : Frames) (r : FramesRead) → r ≡ framesRead (runFrames 32 (item image p e) o) → r .found ≡ false
-      → pushSequence (item image p e) o ≡ none
-  sequence-bad o r d t = go (runFrames 32 (item image p e) o) refl d where
-    go : (m : Option Frames) → runFrames 32 (item image p e) o ≡ m → r ≡ framesRead m → pushSequence (item image p e) o ≡ none
-    go none k d = sequence-run o none k
-    go (some x) k d = let z : _≡_ {A = ℕ} 0 1 = cc (ap (λ (y : FramesRead). y .found) d) in absurd (omega arith)
 
 -- ---- parts of the image
 

@@ -96,10 +96,16 @@ module _ (ends : List ℕ) (count i j : ℕ) where
     pub place-there : j < to - from → some (from + j) ≡ placeIn 0 (take count ends) i j
     place-there g = sym (place-is ∙ simp (lt-ltb j (to - from) g))
 
--- an element by a place that was found
-module _ {A : Type 0} (es : List ℕ) (l : List A) (i j : ℕ) where
-  pub element-at : (k : ℕ) → some k ≡ placeIn 0 es i j → getElem? l k ≡ element (parts 0 es l) i j
-  element-at k e = sym (element-placed es 0 i j l ∙ ap (λ (o : Option ℕ). andThen o (getElem? l)) (sym e))
+-- an element by a place that was found, in a list of n
+module _ {A : Type 0} (es : List ℕ) (l : List A) (i j n : ℕ) (h : length l ≡ n) where
+  element-by : (o : Option ℕ) → o ≡ placeIn 0 es i j → andThen o (getElem? l) ≡ element (parts 0 es l) i j
+  element-by o e = sym (element-placed es 0 i j l ∙ ap (λ (o : Option ℕ). andThen o (getElem? l)) (sym e))
+
+  pub element-past : (k : ℕ) → some k ≡ placeIn 0 es i j → n ≤ k → none ≡ element (parts 0 es l) i j
+  element-past k e g = sym (elem-none l k (omega arith)) ∙ element-by (some k) e
+
+  pub element-there : (k : ℕ) (d : A) → some k ≡ placeIn 0 es i j → k < n → some (getD l k d) ≡ element (parts 0 es l) i j
+  element-there k d e g = sym (elem-some l k d (omega arith)) ∙ element-by (some k) e
 
   pub element-absent : none ≡ placeIn 0 es i j → none ≡ element (parts 0 es l) i j
-  element-absent e = sym (element-placed es 0 i j l ∙ ap (λ (o : Option ℕ). andThen o (getElem? l)) (sym e))
+  element-absent e = element-by none e

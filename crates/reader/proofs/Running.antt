@@ -74,7 +74,7 @@ refused l n e = go (readFrame l) refl e where
 
 -- ---- the loop
 
-run-nil : (k : ℕ) (o : Frames) → runFrames k [] o ≡ some o
+pub run-nil : (k : ℕ) (o : Frames) → runFrames k [] o ≡ some o
 run-nil zero o = refl
 run-nil (suc k) o = refl
 

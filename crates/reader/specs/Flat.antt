@@ -22,7 +22,13 @@ pushPoints o (b ∷ bs) = pushPoints (pushPoint o b) bs
 
 -- a list ends here
 unfoldable pub endSnippet : Points → Points
-endSnippet o = cond (ltb (o .count) 15) (record { items = o .items; len = o .len; ends = set (o .ends) (o .count) (o .len); count = o .count + 1 }) o
+endSnippet o =
+    cond (ltb (o .count) 15)
+    (record { items = o .items; len = o .len; ends = set (o .ends) (o .count) (o .len); count = o .count + 1 })
+    o
 
 unfoldable pub endSequence : Frames → Frames
-endSequence o = cond (ltb (o .count) 16) (record { items = o .items; len = o .len; ends = set (o .ends) (o .count) (o .len); count = o .count + 1 }) o
+endSequence o =
+    cond (ltb (o .count) 16)
+    (record { items = o .items; len = o .len; ends = set (o .ends) (o .count) (o .len); count = o .count + 1 })
+    o

@@ -38,10 +38,12 @@ padded n blank l = l ++ replicate (n - length l) blank
 
 -- lists laid end to end, and the index behind each
 abbrev pub laidPoints : List (List ℕ) → Points
-laidPoints ls = record { items = padded 96 0 (joined ls); len = length (joined ls); ends = padded 15 0 (endPointers 0 ls); count = length ls }
+laidPoints ls =
+    record { items = padded 96 0 (joined ls); len = length (joined ls); ends = padded 15 0 (endPointers 0 ls); count = length ls }
 
 abbrev pub laidFrames : List (List FrameBuilder) → Frames
-laidFrames ls = record { items = padded 96 silentFrame (joined ls); len = length (joined ls); ends = padded 16 0 (endPointers 0 ls); count = length ls }
+laidFrames ls =
+    record { items = padded 96 silentFrame (joined ls); len = length (joined ls); ends = padded 16 0 (endPointers 0 ls); count = length ls }
 
 -- 18 for what is no image
 abbrev pub readNumber : Option Content → ℕ
@@ -51,4 +53,5 @@ readNumber (some c) = 0
 -- the lists of a content; what is refused holds none
 abbrev pub readingOf : Option Content → Reading
 readingOf none = record { answer = Answer.Refused Error.NotAnImage; snippets = laidPoints []; sequences = laidFrames [] }
-readingOf (some c) = record { answer = Answer.Done; snippets = laidPoints (map pointBytes (c .snippets)); sequences = laidFrames (c .sequences) }
+readingOf (some c) =
+    record { answer = Answer.Done; snippets = laidPoints (map pointBytes (c .snippets)); sequences = laidFrames (c .sequences) }

@@ -7,12 +7,12 @@ use mathlib.Core.Option.{Option, none, some}
 use lib.Dec.{ltb, leb, eqb}
 use lib.ListN.{length, take, drop, getD}
 use Rattle.errors.specs.declared.Answer.the-variants as Answer
-use Rattle.frame.specs.Read.{readFrame}
+use Rattle.errors.specs.Told.{Told, refuses}
+use Rattle.frame.specs.Read.{readFrame, Taken, firstFrame}
 use Rattle.content.specs.ReadImage.{andThen, allZero, countsFit}
 use Rattle.reader.specs.declared.Points.{Points}
 use Rattle.reader.specs.declared.Frames.{Frames}
 use Rattle.reader.specs.declared.Reading.{Reading}
-use Rattle.reader.specs.declared.FramesRead.{FramesRead}
 use Rattle.reader.specs.declared.SnippetsRead.{SnippetsRead}
 use Rattle.reader.specs.declared.SequencesRead.{SequencesRead}
 use Rattle.reader.specs.Reading.{noPoints, noFrames, readingOf}
@@ -26,13 +26,6 @@ runFrames zero [] o = some o
 runFrames zero (b ∷ bs) o = none
 runFrames (suc k) [] o = some o
 runFrames (suc k) (b ∷ bs) o = andThen (readFrame (b ∷ bs)) (λ p. runFrames k (p .rest) (pushFrame o (p .frame)))
-
-abbrev pub framesLost : FramesRead
-framesLost = record { found = false; frames = noFrames }
-
-abbrev pub framesRead : Option Frames → FramesRead
-framesRead none = framesLost
-framesRead (some o) = record { found = true; frames = o }
 
 unfoldable pub pushSnippet : List ℕ → Points → Option Points
 pushSnippet bs o = cond (leb 1 (length bs) && leb (length bs) 16) (some (endSnippet (pushPoints o bs))) none
@@ -65,6 +58,11 @@ noSnippets = record { found = false; snippets = noPoints; last = 0 }
 abbrev pub snippetsRead : Option (Walked Points) → SnippetsRead
 snippetsRead none = noSnippets
 snippetsRead (some w) = record { found = true; snippets = w .state; last = w .last }
+
+-- the frame behind index p of a sequence that ends at index e, of which k frames were read
+abbrev pub nextFrame : List ℕ → ℕ → ℕ → ℕ → Told Taken
+nextFrame image p e k =
+    cond (ltb p e) (cond (ltb e (length image)) (cond (ltb k 32) (firstFrame (item image p e)) (refuses 18)) (refuses 18)) (refuses 18)
 
 abbrev pub walkSequences : List ℕ → ℕ → List ℕ → Frames → Option (Walked Frames)
 walkSequences = walk pushSequence

@@ -11,8 +11,10 @@ ghost use lib.ListN.{length, drop};
 ghost use Rattle.errors.specs.Number.{answerNumber};
 ghost use Rattle.content.specs.ReadImage.{readImage, countsFit, allZero};
 ghost use Rattle.reader.specs.Reading.{readNumber, readingOf, noPoints, noFrames};
-ghost use Rattle.reader.specs.Flat.{pushPoints, endSnippet, endSequence};
-ghost use Rattle.reader.specs.Walk.{runFrames, framesLost, framesRead, noSnippets, snippetsRead, walkSnippets, noSequences, sequencesRead, walkSequences, noReading, finished, afterSnippets, afterCounts, scanned};
+ghost use Rattle.frame.specs.Read.{readTold};
+ghost use Rattle.reader.specs.Flat.{pushPoints, endSnippet};
+ghost use Rattle.reader.specs.Walk.{nextFrame, noSnippets, snippetsRead, walkSnippets, noSequences, sequencesRead, walkSequences};
+ghost use Rattle.reader.specs.Walk.{noReading, finished, afterSnippets, afterCounts, scanned};
 use errors::Answer;
 use errors::Error;
 use frame::FrameBuilder;
@@ -39,12 +41,6 @@ pub struct Reading {
     pub answer: Answer,
     pub snippets: Points,
     pub sequences: Frames,
-}
-
-// The lists with the frames of one sequence more.
-struct FramesRead {
-    found: bool,
-    frames: Frames,
 }
 
 // All snippets, and the index of their last byte.
@@ -117,65 +113,6 @@ fn end_snippet(mut lists: Points) -> Points
     lists
 }
 
-fn end_sequence(mut lists: Frames) -> Frames
-    ensures { λ r. ⌜ r ≡ endSequence lists ⌝ }
-{
-    let n = lists.count;
-    if n < 16 {
-        let end = lists.len;
-        lists.ends[n as usize] = end;
-        lists.count = n + 1;
-        return lists;
-    }
-    lists
-}
-
-// ---- the frames of a sequence
-
-fn lost() -> FramesRead
-    ensures { λ r. ⌜ r ≡ framesLost ⌝ }
-{
-    let frames = no_frames();
-    FramesRead {
-        found: false,
-        frames: frames,
-    }
-}
-
-// At most 32 frames, up to the end of the bytes.
-fn read_frames(lists: Frames, bytes: &[u8]) -> FramesRead
-    requires { ⌜ length (now bytes) ≤ 100 ⌝ }
-    ensures { λ r. ⌜ r ≡ framesRead (runFrames 32 (now (bytes .entry)) lists) ⌝ }
-{
-    let mut out = lists;
-    let mut at = 0usize;
-    let mut k = 0usize;
-    while at < bytes.len() {
-        if 32 <= k {
-            return lost();
-        }
-        let r = FrameBuilder::read(bytes, at);
-        match r {
-            FrameRead::Frame(frame, len) => {
-                let n = out.len;
-                if n < 96 {
-                    out.items[n as usize] = frame;
-                    out.len = n + 1;
-                }
-                at += len as usize;
-                k += 1;
-            }
-            FrameRead::Refused(_) => {
-                return lost();
-            }
-        }
-    }
-    FramesRead {
-        found: true,
-        frames: out,
-    }
-}
-
 // ---- the items that end at the pointers
 
 fn no_snippets() -> SnippetsRead
@@ -231,32 +168,41 @@ fn read_snippets(image: &[u8], ends: &[u8], first: usize) -> SnippetsRead
     }
 }
 
-// The sequences that end at these indexes of the image; the byte before the first stands at `first`.
+// The sequences that end at these indexes of the image, a frame at each turn; the byte before the first stands at `first`. The lists are
+// changed in place: handing them to a function for each sequence copies 96 frames each time.
 fn read_sequences(image: &[u8], ends: &[u8], first: usize) -> SequencesRead
-    requires { ⌜ length (now image) ≤ 100 ⌝ }
     ensures { λ r. ⌜ r ≡ sequencesRead (walkSequences (now (image .entry)) first (now (ends .entry)) noFrames) ⌝ }
 {
     let mut out = no_frames();
     let mut last = first;
+    let mut k = 0usize;
     let mut i = 0usize;
     while i < ends.len() {
         let end = laws::wide(ends[i]);
-        if end <= last {
-            return no_sequences();
-        }
-        if image.len() <= end {
-            return no_sequences();
-        }
-        let a = last + 1;
-        let b = end + 1;
-        let r = read_frames(out, &image[a..b]);
-        let frames = r.frames;
-        if r.found {
-            out = end_sequence(frames);
-            last = end;
-            i += 1;
-        } else {
-            return no_sequences();
+        let r = next_frame(image, last, end, k);
+        match r {
+            FrameRead::Frame(frame, len) => {
+                let n = out.len;
+                if n < 96 {
+                    out.items[n as usize] = frame;
+                    out.len = n + 1;
+                }
+                last += len as usize;
+                k += 1;
+                if end <= last {
+                    let m = out.count;
+                    if m < 16 {
+                        let to = out.len;
+                        out.ends[m as usize] = to;
+                        out.count = m + 1;
+                    }
+                    k = 0;
+                    i += 1;
+                }
+            }
+            FrameRead::Refused(_) => {
+                return no_sequences();
+            }
         }
     }
     SequencesRead {
@@ -264,6 +210,24 @@ fn read_sequences(image: &[u8], ends: &[u8], first: usize) -> SequencesRead
         sequences: out,
         last: last,
     }
+}
+
+// The frame behind index `last` of a sequence that ends at `end`, of which k frames were read.
+fn next_frame(image: &[u8], last: usize, end: usize, k: usize) -> FrameRead
+    ensures { λ r. ⌜ readTold r ≡ nextFrame (now (image .entry)) last end k ⌝ }
+{
+    if end <= last {
+        return FrameRead::Refused(Error::NotAnImage);
+    }
+    if image.len() <= end {
+        return FrameRead::Refused(Error::NotAnImage);
+    }
+    if 32 <= k {
+        return FrameRead::Refused(Error::NotAnImage);
+    }
+    let a = last + 1;
+    let b = end + 1;
+    FrameBuilder::read(&image[a..b], 0)
 }
 
 // ---- the image

@@ -28,7 +28,7 @@ use Rattle.reader.specs.Items.{element}
 use Rattle.reader.proofs.Cuts.{lastOf}
 use Rattle.reader.proofs.Flats.{flatOf, shows}
 use Rattle.readings.specs.Readings.{countsAnswer, pointCode, pointAnswer, frameCode, frameAnswer, byteCode}
-use Rattle.readings.specs.Lists.{wordsBytes, listsOf, listsOut}
+use Rattle.readings.specs.Lists.{wordsBytes, listsOf, listsSize, listsOut}
 use Rattle.readings.specs.Telling.{AnswersFit, SameAnswers, SameLists, ReadingsTold}
 use Rattle.readings.proofs.Laying.{words-length}
 use Rattle.readings.proofs.Words.{word-small, word-told, words-told}
@@ -284,7 +284,7 @@ lists-told l k c d a b n e =
     (laid-told 0 15 xs ys (length-map (c .snippets) pointBytes ∙ m .0 ∙ sym (length-map (d .snippets) pointBytes)) (r .0) (r .1))
     (laid-told silentFrame 16 (c .sequences) (d .sequences) (m .1) (ap (padded 96 silentFrame) same) (p .1))
 
-lists-length : (l out : List ℕ) (c : Content) → Held l c → length out ≡ 703 → length (listsOf c) ≡ length out
+lists-length : (l out : List ℕ) (c : Content) → Held l c → length out ≡ listsSize → length (listsOf c) ≡ length out
 unfolding listsOf
 lists-length l out c a h = lengths l c a .all ∙ sym h
 

@@ -23,13 +23,17 @@ wordBytes f = lowBytes 6 (frameWord f)
 abbrev pub wordsBytes : List FrameBuilder → List ℕ
 wordsBytes fs = joined (map wordBytes fs)
 
--- 96 bytes of points, 15 ends of snippets, 96 frames in 576 bytes, 16 ends of sequences: 703 bytes
+-- 96 bytes of points, 15 ends of snippets, 96 frames in 576 bytes, 16 ends of sequences
 unfoldable pub listsOf : Content → List ℕ
 listsOf c =
     padded 96 0 (joined (map pointBytes (c .snippets)))
     ++ padded 15 0 (endPointers 0 (map pointBytes (c .snippets)))
     ++ padded 576 0 (wordsBytes (joined (c .sequences)))
     ++ padded 16 0 (endPointers 0 (c .sequences))
+
+-- how many bytes these are
+abbrev pub listsSize : ℕ
+listsSize = 703
 
 -- the lent buffer after it: as it was, where the bytes are no image
 abbrev pub listsOut : Option Content → List ℕ → List ℕ

@@ -1,5 +1,5 @@
 -- No two answers of this crate are confused: an answer that is a value is not that of a refusal, and images that are answered alike are
--- read alike. Demand 3, "a reader .. returns lists that the builders admit and whose image those bytes are": what is read reaches the caller.
+-- read alike. Demand 3, "it returns lists that the builders admit and whose image those bytes are": they reach the caller.
 use mathlib.Core.Path.{_≡_}
 use mathlib.Core.List.{List}
 use Prim.Native.Nat.{ℕ}
@@ -8,7 +8,7 @@ use Rattle.laws.specs.Bytes.{Bytes}
 use Rattle.errors.specs.Packed.{packed, Room}
 use Rattle.content.specs.ReadImage.{readImage}
 use Rattle.readings.specs.Readings.{countsAnswer, pointAnswer, frameAnswer}
-use Rattle.readings.specs.Lists.{listsOut}
+use Rattle.readings.specs.Lists.{listsSize, listsOut}
 
 -- the answers on some bytes have room in their numbers
 pub record AnswersFit (l : List ℕ) : Type 0 where
@@ -22,9 +22,9 @@ pub record SameAnswers (l k : List ℕ) : Type 0 where
   pub point : (i j : ℕ) → packed 16 (pointAnswer (readImage l) i j) ≡ packed 16 (pointAnswer (readImage k) i j)
   pub frame : (i j : ℕ) → packed 56 (frameAnswer (readImage l) i j) ≡ packed 56 (frameAnswer (readImage k) i j)
 
--- what `lists` answers and leaves in a buffer of 703 bytes is equal
+-- what `lists` answers and leaves in a buffer that has room for all is equal
 pub record SameLists (l k out : List ℕ) : Type 0 where
-  pub full : length out ≡ 703
+  pub full : length out ≡ listsSize
   pub counts : packed 16 (countsAnswer (readImage l)) ≡ packed 16 (countsAnswer (readImage k))
   pub buffer : listsOut (readImage l) out ≡ listsOut (readImage k) out
 

@@ -1,7 +1,8 @@
-// What an image is read back to, as numbers for C (added; no Rust file; document 01, 'The hundred bytes'): the counts, and the points and
-// frames one by one. The lent bytes are read where they stand; no lists are made.
+// What an image is read back to, as numbers and bytes for C (added; no Rust file; document 01, 'The hundred bytes'): the counts, and the
+// points and frames one by one, read where they stand in the lent bytes; or all lists at once, as the reader makes them.
 // Proved: each is that of the content that the reader's contract speaks of, for any bytes and any indexes; how it is one number is
-// specs/Readings.antt. The private functions answer specs/InPlace.antt.
+// specs/Readings.antt, how all are bytes specs/Lists.antt, and that no two are confused specs/Telling.antt. The private functions answer
+// specs/InPlace.antt and specs/Laying.antt.
 ghost use mathlib.Core.Path.{_≡_};
 ghost use Prim.Native.Nat.{_≤_, _<_};
 ghost use lib.ListN.{length, take, getD, getElem?};
@@ -21,22 +22,32 @@ use reader::Frames;
 use reader::Points;
 use reader::items::FrameAt;
 
-// The refusal 18 above the 16 bits of counts or of a point, and above the 56 bits of a frame.
+// How many bytes all lists of an image are.
+pub const LISTS_SIZE: usize = 703;
+
+// The refusal 18 above the 16 bits of counts or of a point.
 const NO_IMAGE: u32 = 18 << 16;
 
+// The refusal 18 above the 56 bits of a frame.
 const NO_IMAGE_WORD: u64 = 18 << 56;
 
-// Where the parts of an image's lists begin: the ends of the snippets, the frames, the ends of the sequences.
-const POINT_ENDS: usize = 96;
-
-const FRAMES: usize = 111;
-
-const FRAME_ENDS: usize = 687;
-
-// Where an image has no such point or frame.
+// Where an image has no such point.
 const NO_POINT: u32 = 256;
 
+// Where an image has no such frame.
 const NO_FRAME: u64 = 1 << 48;
+
+// In the bytes of all lists, behind the points: the ends of the snippets.
+const POINT_ENDS: usize = 96;
+
+// Then the frames.
+const FRAMES: usize = 111;
+
+// 96 frames of six bytes each.
+const FRAMES_SIZE: usize = 576;
+
+// Then the ends of the sequences.
+const FRAME_ENDS: usize = 687;
 
 // 256 times the number of snippets and the number of sequences; 18 * 65536 for what is no image.
 pub fn counts(image: &[u8]) -> u32
@@ -81,7 +92,7 @@ pub fn frame(image: &[u8], i: usize, j: usize) -> u64
 }
 
 // All lists of an image at once: the points' bytes and the ends of the snippets, six bytes for each frame and the ends of the sequences, as
-// many of these 703 bytes as fit. Answers as `counts` does; what is no image leaves the buffer alone.
+// many of these LISTS_SIZE bytes as fit. Answers as `counts` does; what is no image leaves the buffer alone.
 pub fn lists(image: &[u8], out: &mut [u8]) -> u32
     ensures answer { λ r. ⌜ r ≡ packed 16 (countsAnswer (readImage (now (image .entry)))) ⌝ }
     ensures buffer { λ _. ⌜ now (out .exit) ≡ listsOut (readImage (now (image .entry))) (now (out .entry)) ⌝ }
@@ -115,10 +126,10 @@ fn lay(snippets: Points, sequences: Frames, out: &mut [u8])
 }
 
 // The frames in use, six bytes each, then zeros.
-fn frame_bytes(frames: Frames) -> [u8; 576]
+fn frame_bytes(frames: Frames) -> [u8; FRAMES_SIZE]
     ensures { λ r. ⌜ r ≡ padded 576 0 (wordsBytes (take (frames .len) (frames .items))) ⌝ }
 {
-    let mut out = [0u8; 576];
+    let mut out = [0u8; FRAMES_SIZE];
     let n = frames.len as usize;
     let mut i = 0usize;
     while i < n {
