@@ -29,7 +29,7 @@ fn every_function_is_called() {
     declared.sort();
     called.sort();
     assert_eq!(called, declared);
-    compared("functions called", called.len(), 43);
+    compared("functions called", called.len(), 46);
 }
 
 /// Whether a fault is noticed in 400 calls; absent if it could be put into none of them.

@@ -56,7 +56,8 @@ mod tests {
         let depths = depths(&Inputs::new(400));
         assert_eq!(depths.len(), WORKS.len());
         for (name, ours, _) in depths {
-            let bound = if name == "images" || name.starts_with("reading") { 4096 } else { 1024 };
+            let wide = name.starts_with("images") || name.starts_with("reading");
+            let bound = if wide { 4096 } else { 1024 };
             assert!((64..=bound).contains(&ours), "{name}: {ours} bytes");
         }
     }
