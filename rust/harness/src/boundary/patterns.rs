@@ -8,6 +8,7 @@ use crate::encoded;
 use crate::generate::{add_frames, any_call, good_point, list, with_noise};
 use crate::images::plain;
 use crate::patterns::{KINDS, mended};
+use crate::random::Random;
 use crate::raw::{LISTS, ffi};
 use crate::registers::{ADDRESSES, GROUPS};
 use yambelugo::Call;
@@ -360,13 +361,7 @@ fn new_list(choices: &mut Choices) -> Vec<u8> {
             list.iter_mut().step_by(4).for_each(|code| *code %= 16);
             list
         }
-        6 => {
-            let random = choices.random();
-            let mut calls = add_frames(random.within(30, 34), random.within(1, 3), random);
-            calls.extend((0..random.within(14, 18)).map(|_| good_point(random)));
-            calls.extend([Call::AddSnippet, Call::AddSequence]);
-            encoded(&calls)
-        }
+        6 => encoded(&too_many(choices.random())),
         7..9 => {
             let random = choices.random();
             let calls = (0..random.below(90)).map(|_| any_call(random)).collect();
@@ -376,20 +371,43 @@ fn new_list(choices: &mut Choices) -> Vec<u8> {
         _ => {
             let random = choices.random();
             let (_, generate) = random.pick(&KINDS);
-            let calls = generate(random);
-            // Without a refused call, or with one.
-            let calls = match random.below(4) {
-                0 => mended(&calls),
-                1 => {
-                    let mut calls = mended(&calls);
-                    calls.insert(random.within(0, calls.len()), any_call(random));
-                    calls
+            let mut calls = generate(random);
+            // Without a refused call, with one, or with any.
+            match random.below(5) {
+                0..3 => calls = mended(&calls),
+                3 => {
+                    calls = mended(&calls);
+                    let begun = calls.iter().position(|it| matches!(it, Call::FrameNew(_)));
+                    match begun {
+                        Some(at) if random.chance(50) => {
+                            let bad = [Call::LoopCount(16), Call::FrequencyHz(512)];
+                            calls.insert(at + 1, random.pick(&bad));
+                        }
+                        _ => calls.insert(random.within(0, calls.len()), any_call(random)),
+                    }
                 }
                 _ => return list(&with_noise(calls, random), random),
-            };
+            }
             encoded(&calls)
         }
     }
+}
+
+/// Calls of which the first that is refused adds one too many: a frame, a point, a snippet or a sequence.
+fn too_many(random: &mut Random) -> Vec<Call> {
+    if random.chance(40) {
+        let snippets = [good_point(random), Call::AddSnippet].repeat(random.within(14, 17));
+        let sequence = [Call::Silence, Call::AddFrame, Call::AddSequence];
+        return [snippets, sequence.repeat(random.within(15, 18))].concat();
+    }
+    let bytes = random.pick(&[1, 2, 3, 3, 3]);
+    let mut calls = mended(&add_frames(random.within(32, 36), bytes, random));
+    if random.chance(80) {
+        calls.extend([Call::FrameNew(9), Call::FrequencyHz(300), Call::AddFrame]);
+    }
+    calls.extend((0..random.within(14, 18)).map(|_| good_point(random)));
+    calls.extend([Call::AddSnippet, Call::AddSequence]);
+    calls
 }
 
 fn out(choices: &mut Choices, usual: usize) -> Vec<u8> {
