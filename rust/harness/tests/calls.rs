@@ -258,6 +258,17 @@ fn snippets_and_sequences_that_are_not_begun() {
     assert_eq!(answers_and_frames(calls), ([0; 4], Ok(vec![1, 2])));
 }
 
+/// Strict assembling stops at the first refused one of these answers; the lists add nothing to the memory.
+fn compare_strict(list: &[u8], answers: &[u8]) {
+    let first = answers.iter().position(|answer| *answer != 0);
+    let wanted = first.map_or((9, 0), |at| (answers[at], at as u32 + 1));
+    let mut image = [0xA5; yambelugo::IMAGE];
+    let refused = yambelugo::assemble_strict(list, &mut image).unwrap_err();
+    let place = refused.call.map_or(0, |call| call.get());
+    assert_eq!((refused.error.number(), place), wanted, "{list:?}");
+    assert_eq!(image, [0xA5; yambelugo::IMAGE]);
+}
+
 /// Every code that is no call at every place of lists, and lists cut at every byte.
 #[test]
 fn unknown_codes_and_cut_lists() {
@@ -275,6 +286,7 @@ fn unknown_codes_and_cut_lists() {
                 let mut list = all.clone();
                 list.splice(4 * place..4 * place, [code, 1, 1, 1]);
                 assert_eq!(library(&list, other.len()), wanted, "code {code} at {place}");
+                compare_strict(&list, &wanted.answers[..other.len()]);
                 unknown += 1;
             }
         }
@@ -283,6 +295,7 @@ fn unknown_codes_and_cut_lists() {
             whole.extend(vec![None; (length % 4).min(1)]);
             let wanted = published(&whole, calls.len());
             assert_eq!(library(&all[..length], calls.len()), wanted, "{length} bytes of {calls:?}");
+            compare_strict(&all[..length], &wanted.answers[..whole.len()]);
             cut += 1;
         }
     }
