@@ -56,7 +56,7 @@ mod tests {
         let depths = depths(&Inputs::new(400));
         assert_eq!(depths.len(), WORKS.len());
         for (name, ours, _) in depths {
-            let wide = name.starts_with("images") || name.starts_with("reading");
+            let wide = ["images", "answers", "reading"].iter().any(|it| name.starts_with(it));
             let bound = if wide { 4096 } else { 1024 };
             assert!((64..=bound).contains(&ours), "{name}: {ours} bytes");
         }

@@ -19,6 +19,9 @@ const ADDRESS: u8 = 0x4A;
 
 const TRIM4: u8 = 0x60;
 
+/// Room for the answers to any of the lists.
+const ANSWERS: usize = 512;
+
 const VARIANT: Variant = Variant::DA7280;
 
 /// What both sides are run on.
@@ -112,7 +115,7 @@ pub struct Work {
     pub goal: Goal,
 }
 
-pub const WORKS: [Work; 10] = [
+pub const WORKS: [Work; 11] = [
     Work {
         name: "images",
         unit: "image",
@@ -125,6 +128,13 @@ pub const WORKS: [Work; 10] = [
         unit: "image",
         theirs: Some(their_strict_images),
         ours: our_strict_images,
+        goal: Goal::Free,
+    },
+    Work {
+        name: "answers",
+        unit: "list",
+        theirs: Some(their_answers),
+        ours: our_answers,
         goal: Goal::Free,
     },
     Work {
@@ -205,6 +215,32 @@ fn their_strict_images(inputs: &Inputs) -> Done {
         if calls.iter().all(|call| builders.call(*call) == 0) {
             done.built(&builders);
         }
+    }
+    done
+}
+
+fn their_answers(inputs: &Inputs) -> Done {
+    let mut done = Done::default();
+    for calls in &inputs.patterns.calls {
+        let (mut answers, mut builders) = ([0; ANSWERS], Builders::default());
+        for (answer, call) in answers.iter_mut().zip(calls) {
+            *answer = builders.call(*call);
+        }
+        done.add(&black_box(&answers)[..4]);
+        done.count += 1;
+    }
+    done
+}
+
+fn our_answers(inputs: &Inputs) -> Done {
+    let mut done = Done::default();
+    for list in &inputs.patterns.lists {
+        let mut answers = [0; ANSWERS];
+        let (at, to) = (list.as_ptr(), answers.as_mut_ptr());
+        // SAFETY: each pointer and length is a slice, and they do not overlap.
+        unsafe { ffi::da728x_answers(at, list.len(), to, ANSWERS) };
+        done.add(&black_box(&answers)[..4]);
+        done.count += 1;
     }
     done
 }
