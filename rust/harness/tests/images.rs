@@ -28,7 +28,7 @@ struct Met {
     answers: [usize; 15],
     added: [usize; 15],
     built: [usize; 15],
-    /// The same of the first refused calls.
+    /// By answer: of the first refused call of a list.
     first: [usize; 15],
     misuse: Misuse,
     /// Lists by the size of their image: 99, 100, 101.
