@@ -115,7 +115,7 @@ pub struct Work {
     pub goal: Goal,
 }
 
-pub const WORKS: [Work; 11] = [
+pub const WORKS: [Work; 12] = [
     Work {
         name: "images",
         unit: "image",
@@ -137,6 +137,7 @@ pub const WORKS: [Work; 11] = [
         ours: our_answers,
         goal: Goal::Free,
     },
+    Work { name: "one item", unit: "item", theirs: None, ours: our_single_items, goal: Goal::Free },
     Work {
         name: "reading",
         unit: "image",
@@ -241,6 +242,24 @@ fn our_answers(inputs: &Inputs) -> Done {
         unsafe { ffi::da728x_answers(at, list.len(), to, ANSWERS) };
         done.add(&black_box(&answers)[..4]);
         done.count += 1;
+    }
+    done
+}
+
+/// The snippet, the frame and the sequence that a list leaves, and the sequence's length.
+fn our_single_items(inputs: &Inputs) -> Done {
+    let mut done = Done::default();
+    for list in &inputs.patterns.lists {
+        let (mut out, at) = ([0; IMAGE], list.as_ptr());
+        for build in [ffi::da728x_snippet, ffi::da728x_frame, ffi::da728x_sequence] {
+            // SAFETY: each pointer and length is a slice, and they do not overlap.
+            let told = unsafe { build(at, list.len(), out.as_mut_ptr(), IMAGE) };
+            done.add(&told.to_le_bytes());
+        }
+        // SAFETY: the pointer and length are a slice.
+        let len = unsafe { ffi::da728x_current_len(at, list.len()) };
+        done.add(&[len as u8, black_box(&out)[0]]);
+        done.count += 4;
     }
     done
 }
