@@ -241,6 +241,7 @@ fn wrapped() -> Vec<Prototype> {
     let statements = body.split(';').filter(|it| it.contains("fn da728x_"));
     statements
         .map(|it| {
+            let it = it.split_whitespace().collect::<Vec<_>>().join(" ");
             let (_, it) = it.split_once("fn ").unwrap();
             let (name, rest) = it.split_once('(').unwrap();
             let (arguments, answer) = rest.split_once(") -> ").unwrap();
