@@ -6,8 +6,8 @@
  *     cc -Iinclude examples/c/pattern.c -Ltarget/staticlib -lcapi -lcapi_driver
  *
  * The archives need memcpy and memset only. They allocate nothing and keep no data, so calls
- * that lend different bytes may run at the same time. Stack, as measured: 2 KB in
- * da728x_assemble, 1 KB in the others.
+ * that lend different bytes may run at the same time. Stack, as measured: 7 KB in
+ * da728x_read_lists, 2 KB in the functions that run builder calls, 1 KB in the others.
  *
  * Words of the chip, by which everything below is named:
  *   point      one byte: a ramp or a step, 1 to 8 timebases long, to an amplitude of 0 to 15
@@ -25,10 +25,10 @@
  * 0. Slices of one call must not overlap. Nothing is written but to slices that
  * are not const, and there only what is said below.
  *
- * A refusal is told by its number:
+ * A refusal is given by its number:
  *    1 InvalidTimebase      a point's length is not 1 to 8
  *    2 InvalidAmplitude     a point's amplitude is above 15
- *    3 InvalidSnippetId     a snippet number is 0 or above 15
+ *    3 InvalidSnippetId     a snippet number is 0 or above 15, or no frame was begun
  *    4 InvalidLoopCount     a frame's loop count is above 15
  *    5 InvalidFrequency     a frame's frequency is above 511 Hz
  *    6 TooManySnippets      a 17th point or a 16th snippet
@@ -39,7 +39,7 @@
  *   11 InvalidValue         a setting or an argument is out of range
  *   12 WrongMode            the settings' mode does not allow it
  *   13 MissingTriggerConfigInEtwmMode
- *   14 NotSupported         by the chip or by the driver
+ *   14 NotSupported         by the chip or by the driver; a record that is no builder call
  *   15 NotConfigured        no settings are stored: da728x_configure comes first
  *   16 VariantMismatch      the chip is not of the variant that was given
  *   17 I2c                  the bus failed
@@ -70,95 +70,132 @@ uint8_t da728x_point_amplitude(uint8_t byte);
 
 /* ---- builder calls ---------------------------------------------------- */
 
-/* A list of builder calls is made of records of four bytes: a code, two
- * arguments a and b (0 where there is none), and a byte that is ignored. A shorter
- * last record is no record: it has no answer. The calls run in order on one snippet,
- * one frame and one sequence under construction, which begin as SnippetBuilder::new,
- * FrameBuilder::silence and SequenceBuilder::new. The answer to the i-th call
- * (0, or the number of its refusal) is stored at answers[i] where there is such
- * a byte; no other byte of answers changes. A refused call changes nothing else, and
- * the calls after it run all the same, on what was there before it: look at every answer.
- * The refusals that a call can have are named at its code, the first tested first.
+/* A pattern is written as a list of builder calls. da728x_assemble_strict makes its image, and
+ * is the function to use; the other functions of this section show parts of the same work.
+ *
+ * A list is made of records of four bytes: a code, two arguments a and b (0 where there is
+ * none), and a byte that is ignored. Every function runs the calls in order on the same four
+ * builders: one snippet, one frame, one sequence and one waveform memory. Each call is accepted
+ * (its answer is 0) or refused (its answer is the number of the refusal). The calls after a
+ * refused one still run.
+ *
+ * A list begins with an empty snippet, an empty sequence, an empty memory, and no frame.
+ * FRAME_NEW or SILENCE begins a frame. An accepted add uses up what it added: after ADD_FRAME
+ * no frame is begun; after ADD_SNIPPET or ADD_SEQUENCE the snippet or the sequence is empty
+ * again. SNIPPET_NEW and SEQUENCE_NEW discard what was not added.
+ *
+ * What a wrong list gives:
+ *   an argument out of range     the call is refused, and changes nothing
+ *   a refused FRAME_NEW          3, and no frame is begun any more, even if one was before:
+ *                                the calls meant for the new frame are refused with 3
+ *   a forgotten FRAME_NEW        each call on the frame is refused with 3, before its argument
+ *                                is looked at
+ *   a forgotten SNIPPET_NEW      nothing after an accepted ADD_SNIPPET; else the points are
+ *   or SEQUENCE_NEW              appended to those that were not added. Likewise for frames
+ *   a refused add                the frame, the snippet or the sequence stays, and can be added
+ *                                by a later call
+ *   an unknown code              14, for 0 and for codes above 14; it changes nothing
+ *   a list that is cut short     1 to 3 bytes at the end count as one call, the last, which is
+ *                                refused with 14
  *
  * A frame names its snippet by a number: 1 is the snippet that was added first, 0 is
  * silence. Gain codes 0 to 3 are 0, -6, -12 and -18 dB. Timebase codes 0 to 3 are 5.44,
  * 21.76, 43.52 and 87.04 ms, unless da728x_set_timebase says otherwise. A new frame has code
- * 0 of both, no loop count and no frequency. */
+ * 0 of both, no loop count and no frequency.
+ *
+ * The numbers behind a call are its refusals; the first one that applies is its answer. */
 #define DA728X_CALL_SNIPPET_NEW 1   /* SnippetBuilder::new(): a snippet without points */
 #define DA728X_CALL_RAMP 2          /* SnippetBuilder::ramp(length a, amplitude b): 1, 2, 6 */
 #define DA728X_CALL_STEP 3          /* SnippetBuilder::step(length a, amplitude b): 1, 2, 6 */
 #define DA728X_CALL_POINT 4         /* SnippetBuilder::point(the point with the byte a): 6 */
 #define DA728X_CALL_FRAME_NEW 5     /* FrameBuilder::new(snippet number a): 3 */
 #define DA728X_CALL_SILENCE 6       /* FrameBuilder::silence() */
-#define DA728X_CALL_GAIN 7          /* FrameBuilder::gain(code a; above 3 counts as 3) */
-#define DA728X_CALL_TIMEBASE 8      /* FrameBuilder::timebase(code a; above 3 counts as 3) */
-#define DA728X_CALL_LOOP_COUNT 9    /* FrameBuilder::loop_count(a): 4 */
-#define DA728X_CALL_FREQUENCY_HZ 10 /* FrameBuilder::frequency_hz(a + 256 * b): 5 */
+#define DA728X_CALL_GAIN 7          /* FrameBuilder::gain(code a; above 3 counts as 3): 3 */
+#define DA728X_CALL_TIMEBASE 8      /* FrameBuilder::timebase(code a; above 3 counts as 3): 3 */
+#define DA728X_CALL_LOOP_COUNT 9    /* FrameBuilder::loop_count(a): 3, 4 */
+#define DA728X_CALL_FREQUENCY_HZ 10 /* FrameBuilder::frequency_hz(a + 256 * b): 3, 5 */
 #define DA728X_CALL_SEQUENCE_NEW 11 /* SequenceBuilder::new(): a sequence without frames */
-#define DA728X_CALL_ADD_FRAME 12    /* SequenceBuilder::add_frame(the frame built): 8, 7 */
-/* In da728x_assemble only, each adding what is built to the memory under
- * construction and leaving the snippet and the sequence as they are, so the next ones
- * begin with SNIPPET_NEW and SEQUENCE_NEW: */
+#define DA728X_CALL_ADD_FRAME 12    /* SequenceBuilder::add_frame(the frame built): 3, 8, 7 */
 #define DA728X_CALL_ADD_SNIPPET 13  /* WaveformMemoryBuilder::add_snippet(the one built): 9, 6 */
 #define DA728X_CALL_ADD_SEQUENCE 14 /* WaveformMemoryBuilder::add_sequence(the one built): 10, 7 */
-/* Any other code is no call: it changes nothing; its answer is 0 and has its place
- * among the answers. */
 
-/* Runs the calls, builds the snippet, the frame or the sequence, and encodes it
- * into the front of out, as much as fits; the other bytes of out stay. A snippet has
- * at most 16 bytes, a frame 3, a sequence 96.
- * The answer of encode_into (for a snippet its full length, else the bytes
- * copied), or 65536 times the number of build's refusal (9 for the snippet, 10 for the
- * sequence), and then out stays as it was; the answers of the calls are stored all the
- * same. A frame is never refused. */
-uint32_t da728x_snippet(const uint8_t *calls, size_t calls_len,
-                        uint8_t *answers, size_t answers_len,
-                        uint8_t *out, size_t out_len);
-uint32_t da728x_frame(const uint8_t *calls, size_t calls_len,
-                      uint8_t *answers, size_t answers_len,
-                      uint8_t *out, size_t out_len);
-uint32_t da728x_sequence(const uint8_t *calls, size_t calls_len,
-                         uint8_t *answers, size_t answers_len,
-                         uint8_t *out, size_t out_len);
+/* Runs the calls, then builds the snippet, the frame or the sequence that is under construction
+ * at the end of the list, and encodes it into the front of out, as much as fits; the other bytes
+ * of out stay. A snippet has at most 16 bytes, a frame 3, a sequence 96. Refused calls are left
+ * out silently: da728x_answers shows them.
+ * Returns what encode_into answers (for a snippet its full length, also if out is shorter; for a
+ * frame or a sequence the bytes copied). Or 65536 times the number of build's refusal, and out
+ * stays as it was: 9 for a snippet without points, 3 if no frame is begun, 10 for a sequence
+ * without frames. What was added already is not under construction any more. */
+uint32_t da728x_snippet(const uint8_t *calls, size_t calls_len, uint8_t *out, size_t out_len);
+uint32_t da728x_frame(const uint8_t *calls, size_t calls_len, uint8_t *out, size_t out_len);
+uint32_t da728x_sequence(const uint8_t *calls, size_t calls_len, uint8_t *out, size_t out_len);
 
-/* Runs the calls; SequenceBuilder::current_len: how many bytes the frames have that were
- * added to the sequence, 0 to 96. */
-size_t da728x_current_len(const uint8_t *calls, size_t calls_len,
-                          uint8_t *answers, size_t answers_len);
+/* Runs the calls; SequenceBuilder::current_len: how many bytes the frames of the sequence under
+ * construction have, 0 to 96. */
+size_t da728x_current_len(const uint8_t *calls, size_t calls_len);
+
+/* Runs the calls, builds nothing, and stores the answer to the i-th call (from 0) at answers[i]:
+ * 0, or the number of its refusal. As many as fit; the other bytes of answers stay. Returns how
+ * many calls the list has: calls_len / 4, rounded up. */
+size_t da728x_answers(const uint8_t *calls, size_t calls_len,
+                      uint8_t *answers, size_t answers_len);
 
 /* ---- images ----------------------------------------------------------- */
 
 /* How many bytes an image has. */
 #define DA728X_IMAGE 100
 
-/* Runs the calls, also on a memory under construction that begins as
- * WaveformMemoryBuilder::new(false), and builds the image. 0, and its hundred
- * bytes are copied into the front of image, as many as fit; the other bytes of
- * image stay. Or the number of build's refusal (9, then 10, then 8), and then image stays
- * as it was; the answers of the calls are stored all the same. */
+/* Runs the calls and makes the image of the snippets and sequences that they added, unless a
+ * call is refused. Use this one: a pattern with a mistake in it gives no image.
+ * Returns 0, and the hundred bytes are copied into the front of image, as many as fit; the other
+ * bytes of image stay. Or a refusal, and image stays as it was:
+ *   number + 256 * place   the first call that was refused, and its place in the list, from 1
+ *                          (any place above 16777215 is given as 16777215)
+ *   number                 no call was refused, but build refuses: 9 without snippets, else 10
+ *                          without sequences, else 8 above 100 bytes */
+uint32_t da728x_assemble_strict(const uint8_t *calls, size_t calls_len,
+                                uint8_t *image, size_t image_len);
+
+/* As da728x_assemble_strict, but a refused call is left out silently: the image is that of what
+ * the accepted calls added. Returns 0, although calls may have been refused; or the number of
+ * build's refusal (9, then 10, then 8), and image stays as it was. */
 uint8_t da728x_assemble(const uint8_t *calls, size_t calls_len,
-                        uint8_t *answers, size_t answers_len,
                         uint8_t *image, size_t image_len);
 
-/* The rest reads an image: a hundred bytes that the builders can make. Snippets,
- * points, sequences and frames count from 0, so a frame's snippet number 1 is the snippet
- * at 0 here. A frame may name a snippet that the image does not have.
+/* The rest reads an image: a hundred bytes that the builders can make. Snippets, points,
+ * sequences and frames count from 0, so a frame's snippet number 1 is the snippet at 0 here. A
+ * frame may name a snippet that the image does not have. Bytes that are no image, or of another
+ * length, are refused with 18.
  *
- * 256 times how many snippets plus how many sequences, at least one of each; or 18,
- * which is less than any of these, if the bytes are no image. */
-uint16_t da728x_read_counts(const uint8_t *image, size_t image_len);
+ * 256 times how many snippets plus how many sequences, at least one of each; or 65536 * 18. */
+uint32_t da728x_read_counts(const uint8_t *image, size_t image_len);
 
-/* The byte of a point, for da728x_point_is_ramp and the others; 256 if there is no such
- * point; 256 * 18 if the bytes are no image. */
-uint16_t da728x_read_point(const uint8_t *image, size_t image_len,
+/* The byte of a point, for da728x_point_is_ramp and the others; 256 if there is no such point;
+ * or 65536 * 18. */
+uint32_t da728x_read_point(const uint8_t *image, size_t image_len,
                            size_t snippet, size_t point);
 
 /* The fields of a frame: the snippet number in bits 0..7, the gain code in 8..15,
  * the timebase code in 16..23, the loop count in 24..31 (255 if absent) and the
- * frequency in 32..47 (65535 if absent); 2^48 if there is no such frame; 2^48 * 18
- * if the bytes are no image. The loop count is absent in a frame of one byte only. */
+ * frequency in 32..47 (65535 if absent); 2^48 if there is no such frame; or 2^56 * 18.
+ * The loop count is absent in a frame of one byte only. */
 uint64_t da728x_read_frame(const uint8_t *image, size_t image_len,
                            size_t sequence, size_t frame);
+
+/* All points and frames in one call. Returns what da728x_read_counts returns, and writes these
+ * DA728X_LISTS bytes into the front of lists, as many as fit; the other bytes of lists stay. If
+ * it is refused, all of lists stays.
+ *     0..95   the points, a byte each: those of snippet 0, then those of snippet 1, ..
+ *    96..110  for each snippet the index behind its last point: snippet 0 has the points at 0 to
+ *             before lists[96], snippet i those at lists[95 + i] to before lists[96 + i]
+ *   111..686  the frames, six bytes each: bits 0..47 of da728x_read_frame, the low byte first;
+ *             those of sequence 0, then those of sequence 1, ..
+ *   687..702  for each sequence the index behind its last frame, counted in frames
+ * All bytes in between that are not used are 0. */
+#define DA728X_LISTS 703
+uint32_t da728x_read_lists(const uint8_t *image, size_t image_len,
+                           uint8_t *lists, size_t lists_len);
 
 /* ---- registers -------------------------------------------------------- */
 
@@ -192,10 +229,9 @@ size_t da728x_replace_trigger(uint8_t byte, uint8_t value, uint8_t *out, size_t 
  * bytes wanted) and takes back done, a byte or a failure. The caller waits for its bus
  * as it likes: polling, by interrupt or in a task; the session keeps no pointer.
  *
- * A session and a record are bytes that the caller keeps and lends. A session's
- * bytes are no business of the caller's; any bytes are some session, one of another
- * length than DA728X_SESSION has ended, and one of zeros, which was never begun, has ended
- * with nothing to hand back.
+ * A session and a record are bytes that the caller keeps and lends. Treat a session as opaque
+ * bytes. One of another length than DA728X_SESSION counts as ended; one of zeros, which was
+ * never begun, counts as ended with nothing to hand back.
  *
  *     uint8_t session[DA728X_SESSION], bytes[33];
  *     uint8_t refused = da728x_enable(record, DA728X_RECORD, session, sizeof session);
@@ -253,9 +289,8 @@ size_t da728x_replace_trigger(uint8_t byte, uint8_t value, uint8_t *out, size_t 
 #define DA728X_SETTINGS 34
 
 /* Each of these starts an operation from a record: 0, and the session is begun. Or the
- * number of the refusal, and then the session stays as it was: it still is the session
- * that was begun in these bytes before, and has its record and result. A session of
- * another length stays in either case.
+ * number of the refusal; the session is then unchanged, and keeps its record and result if it
+ * was begun before. A session of another length stays in either case.
  *
  * Reads CHIP_REV, which has to be that of the variant (0xBA, 0xCA, 0xDA; da728x_answer tells
  * 16 otherwise); the record that it makes has no settings. Never refused. */

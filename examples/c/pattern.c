@@ -124,16 +124,13 @@ static void run_whole(struct chip *chip, const char *what, uint8_t refused, unsi
 static const uint8_t calls[] = {
     DA728X_CALL_RAMP,         3,  10, 0, /* AA */
     DA728X_CALL_STEP,         1,  0,  0, /* 00 */
-    DA728X_CALL_STEP,         9,  0,  0, /* refused with 1: 9 timebases */
     DA728X_CALL_ADD_SNIPPET,  0,  0,  0,
-    DA728X_CALL_SNIPPET_NEW,  0,  0,  0,
     DA728X_CALL_STEP,         2,  15, 0, /* 1F */
     DA728X_CALL_RAMP,         2,  0,  0, /* 90 */
     DA728X_CALL_ADD_SNIPPET,  0,  0,  0,
     DA728X_CALL_FRAME_NEW,    1,  0,  0,
     DA728X_CALL_ADD_FRAME,    0,  0,  0, /* 01 */
     DA728X_CALL_ADD_SEQUENCE, 0,  0,  0,
-    DA728X_CALL_SEQUENCE_NEW, 0,  0,  0,
     DA728X_CALL_FRAME_NEW,    2,  0,  0,
     DA728X_CALL_GAIN,         1,  0,  0,
     DA728X_CALL_TIMEBASE,     2,  0,  0,
@@ -153,22 +150,45 @@ static const uint8_t wanted_image[DA728X_IMAGE] = {
 
 static void build(uint8_t image[DA728X_IMAGE])
 {
-    uint8_t answers[sizeof calls / 4], wanted[sizeof calls / 4] = {0, 0, 1};
-    memset(answers, 0xFF, sizeof answers);
-    expect("da728x_assemble",
-           da728x_assemble(calls, sizeof calls, answers, sizeof answers, image, DA728X_IMAGE), 0);
-    expect_bytes("the answers", answers, wanted, sizeof answers);
+    expect("da728x_assemble_strict",
+           da728x_assemble_strict(calls, sizeof calls, image, DA728X_IMAGE), 0);
     expect_bytes("the image", image, wanted_image, DA728X_IMAGE);
-    printf("built: %u calls, of which call 2 is refused with %u\n", (unsigned)sizeof answers,
-           answers[2]);
+    printf("built: %u calls\n", (unsigned)sizeof calls / 4);
+}
+
+/* A pattern with a mistake in it makes no image: the first refused call is given, and its place. */
+static void refuse(void)
+{
+    uint8_t wrong[sizeof calls], answers[sizeof calls / 4], image[DA728X_IMAGE] = {0};
+    const uint8_t nothing[DA728X_IMAGE] = {0};
+    uint32_t refused;
+    memcpy(wrong, calls, sizeof calls);
+    wrong[4 * 9 + 1] = 16; /* the tenth call: FRAME_NEW of snippet 16 */
+    refused = da728x_assemble_strict(wrong, sizeof wrong, image, DA728X_IMAGE);
+    expect("the refused call's number", refused & 255, 3);
+    expect("the refused call's place", refused >> 8, 10);
+    expect_bytes("the image that was not made", image, nothing, DA728X_IMAGE);
+    printf("refused: call %u with %u\n", (unsigned)(refused >> 8), (unsigned)(refused & 255));
+
+    /* Every answer: no frame was begun, so the calls on it are refused too, up to SILENCE. */
+    expect("the number of calls",
+           da728x_answers(wrong, sizeof wrong, answers, sizeof answers), sizeof answers);
+    expect("FRAME_NEW 16", answers[9], 3);
+    expect("GAIN without a frame", answers[10], 3);
+    expect("ADD_FRAME without a frame", answers[14], 3);
+    expect("SILENCE", answers[15], 0);
+    /* A list that is cut short: its last call is refused. */
+    refused = da728x_assemble_strict(calls, sizeof calls - 1, image, DA728X_IMAGE);
+    expect("a list that is cut short", refused, 14 + 256 * (sizeof calls / 4));
 }
 
 static void read_back(const uint8_t image[DA728X_IMAGE])
 {
-    uint16_t counts = da728x_read_counts(image, DA728X_IMAGE);
-    uint16_t point = da728x_read_point(image, DA728X_IMAGE, 1, 0);
+    uint32_t counts = da728x_read_counts(image, DA728X_IMAGE);
+    uint32_t point = da728x_read_point(image, DA728X_IMAGE, 1, 0);
     uint64_t frame = da728x_read_frame(image, DA728X_IMAGE, 1, 0);
-    uint8_t damaged[DA728X_IMAGE];
+    uint8_t lists[DA728X_LISTS], damaged[DA728X_IMAGE];
+    unsigned i;
     expect("the counts", counts, 0x0202);
     expect("a point", point, 0x1F);
     expect("a point's length", da728x_point_timebases((uint8_t)point), 2);
@@ -178,12 +198,22 @@ static void read_back(const uint8_t image[DA728X_IMAGE])
     expect("a frame without loop count and frequency", da728x_read_frame(image, DA728X_IMAGE, 0, 0),
            (uint64_t)0xFFFF << 32 | 0xFF000001);
     expect("a third frame", da728x_read_frame(image, DA728X_IMAGE, 1, 2), (uint64_t)1 << 48);
+
+    /* The same in one call. */
+    expect("the counts again", da728x_read_lists(image, DA728X_IMAGE, lists, sizeof lists), counts);
+    expect_bytes("the points", lists, wanted_image + 6, 4);
+    expect("where snippet 0 ends", lists[96], 2);
+    expect("where snippet 1 ends", lists[97], 4);
+    expect("where sequence 0 ends", lists[687], 1);
+    expect("where sequence 1 ends", lists[688], 3);
+    for (i = 0; i < 6; i++) expect("a frame's byte", lists[111 + 6 + i], frame >> 8 * i & 255);
     printf("read back: %u snippets, %u sequences; sequence 1 begins with snippet %u at %u Hz\n",
-           (unsigned)counts >> 8, counts & 255u, (unsigned)(frame & 255), (unsigned)(frame >> 32));
+           (unsigned)counts >> 8, (unsigned)counts & 255u, (unsigned)(frame & 255),
+           (unsigned)(frame >> 32));
 
     memcpy(damaged, image, DA728X_IMAGE);
     damaged[DA728X_IMAGE - 1] = 1;
-    expect("a damaged image", da728x_read_counts(damaged, DA728X_IMAGE), 18);
+    expect("a damaged image", da728x_read_counts(damaged, DA728X_IMAGE), 65536u * 18);
 }
 
 /* ---- the chip ----------------------------------------------------------- */
@@ -308,6 +338,7 @@ int main(void)
     chip.registers[CHIP_REV] = 0xBA;
 
     build(image);
+    refuse();
     read_back(image);
     find(&chip);
     configure(&chip);

@@ -23,7 +23,7 @@ fn split(line: &[u8], bytes: &mut [u8], ends: &mut [usize]) -> bool {
 
 fn judged(fields: usize, bytes: &[u8], ends: &[usize]) -> bool {
     match fields {
-        6 => vectors_functions::agrees(kind(bytes, ends), bytes, ends),
+        5 => vectors_functions::agrees(kind(bytes, ends), bytes, ends),
         10 => vectors_sessions::agrees(kind(bytes, ends), bytes, ends),
         _ => false,
     }

@@ -4,7 +4,6 @@
 use vectors_bytes::MARKER;
 use vectors_bytes::at;
 use vectors_bytes::begins;
-use vectors_bytes::both;
 use vectors_bytes::field;
 use vectors_bytes::front;
 use vectors_bytes::next;
@@ -12,47 +11,44 @@ use vectors_bytes::number;
 use vectors_bytes::part;
 use vectors_bytes::sum;
 
-// The kind that reads images, and the last.
+// The kind that reads images item by item, and the last kinds of points, builder calls, registers and all.
 const READS: u8 = 10;
 
-const LAST: u8 = 19;
+const LAST_POINT: u8 = 4;
 
-// Whether a case of six fields agrees; none of another kind does.
+const LAST_BUILD: u8 = 9;
+
+const LAST_REGISTER: u8 = 19;
+
+const LAST: u8 = 22;
+
+// How many bytes the word of a point and of a frame has, and the word of none.
+const POINT: usize = 3;
+
+const FRAME: usize = 8;
+
+const NO_POINT: u64 = 256;
+
+const NO_FRAME: u64 = 281474976710656;
+
+// Whether a case of five fields agrees; none of another kind does.
 pub fn agrees(kind: u8, bytes: &[u8], ends: &[usize]) -> bool {
-    let arguments = field(bytes, ends, 1);
-    let input = field(bytes, ends, 2);
-    let word = field(bytes, ends, 3);
-    let answers = field(bytes, ends, 4);
-    let out = field(bytes, ends, 5);
+    let first = field(bytes, ends, 1);
+    let second = field(bytes, ends, 2);
+    let third = field(bytes, ends, 3);
+    let fourth = field(bytes, ends, 4);
     match kind {
-        READS => reads(input, word, answers, out),
-        1..=LAST => called(kind, arguments, input, word, answers, out),
+        READS => reads(first, second, third, fourth),
+        1..=LAST => called(kind, first, second, third, fourth),
         _ => false,
     }
 }
 
-// Whether the function of a kind from 1 to the last answers this word and leaves these bytes in the slices lent, which it finds filled
+// Whether the function of a kind from 1 to the last answers this word and leaves these bytes in the slice lent, which it finds filled
 // with the marker.
-fn called(
-    kind: u8,
-    arguments: &[u8],
-    input: &[u8],
-    word: &[u8],
-    answers: &[u8],
-    out: &[u8],
-) -> bool {
-    let mut answers_lent = [MARKER; 1024];
-    let mut out_lent = [MARKER; 1024];
-    leaves(
-        kind,
-        arguments,
-        input,
-        word,
-        answers,
-        out,
-        &mut answers_lent,
-        &mut out_lent,
-    )
+fn called(kind: u8, arguments: &[u8], input: &[u8], word: &[u8], out: &[u8]) -> bool {
+    let mut lent = [MARKER; 1024];
+    leaves(kind, arguments, input, word, out, &mut lent)
 }
 
 fn leaves(
@@ -60,35 +56,29 @@ fn leaves(
     arguments: &[u8],
     input: &[u8],
     word: &[u8],
-    answers: &[u8],
     out: &[u8],
-    answers_lent: &mut [u8],
-    out_lent: &mut [u8],
+    lent: &mut [u8],
 ) -> bool {
-    let n = answers.len();
-    let m = out.len();
-    let answer = call(
-        kind,
-        arguments,
-        input,
-        front(answers_lent, n),
-        front(out_lent, m),
-    );
+    let n = out.len();
+    let answer = call(kind, arguments, input, front(lent, n));
     if answer == number(word) {
-        return both(begins(answers_lent, answers), begins(out_lent, out));
+        return begins(lent, out);
     }
     false
 }
 
 // The word that the function of this kind answers.
-fn call(kind: u8, arguments: &[u8], input: &[u8], answers: &mut [u8], out: &mut [u8]) -> u64 {
-    if kind < 5 {
+fn call(kind: u8, arguments: &[u8], input: &[u8], out: &mut [u8]) -> u64 {
+    if kind <= LAST_POINT {
         return point(kind, arguments) as u64;
     }
-    if kind < 10 {
-        return build(kind, input, answers, out);
+    if kind <= LAST_BUILD {
+        return build(kind, input, out);
     }
-    registers(kind, at(arguments, 0), at(arguments, 1), out) as u64
+    if kind <= LAST_REGISTER {
+        return registers(kind, at(arguments, 0), at(arguments, 1), out) as u64;
+    }
+    whole(kind, input, out)
 }
 
 fn registers(kind: u8, byte: u8, value: u8, out: &mut [u8]) -> usize {
@@ -111,19 +101,28 @@ fn point(kind: u8, arguments: &[u8]) -> u16 {
     }
 }
 
-fn build(kind: u8, calls: &[u8], answers: &mut [u8], out: &mut [u8]) -> u64 {
+fn build(kind: u8, calls: &[u8], out: &mut [u8]) -> u64 {
     match kind {
-        8 => capi::da728x_current_len(calls, answers) as u64,
-        9 => capi::da728x_assemble(calls, answers, out) as u64,
-        _ => build_item(kind, calls, answers, out) as u64,
+        8 => capi::da728x_current_len(calls) as u64,
+        9 => capi::da728x_assemble(calls, out) as u64,
+        _ => build_item(kind, calls, out) as u64,
     }
 }
 
-fn build_item(kind: u8, calls: &[u8], answers: &mut [u8], out: &mut [u8]) -> u32 {
+fn build_item(kind: u8, calls: &[u8], out: &mut [u8]) -> u32 {
     match kind {
-        5 => capi::da728x_snippet(calls, answers, out),
-        6 => capi::da728x_frame(calls, answers, out),
-        _ => capi::da728x_sequence(calls, answers, out),
+        5 => capi::da728x_snippet(calls, out),
+        6 => capi::da728x_frame(calls, out),
+        _ => capi::da728x_sequence(calls, out),
+    }
+}
+
+// All answers, an image made strictly, all lists.
+fn whole(kind: u8, input: &[u8], out: &mut [u8]) -> u64 {
+    match kind {
+        20 => capi::da728x_answers(input, out) as u64,
+        21 => capi::da728x_assemble_strict(input, out) as u64,
+        _ => capi::da728x_read_lists(input, out) as u64,
     }
 }
 
@@ -159,13 +158,13 @@ fn reads(image: &[u8], counts: &[u8], points: &[u8], frames: &[u8]) -> bool {
     if capi::da728x_read_counts(image) as u64 != number(counts) {
         return false;
     }
-    if walk(image, points, 2) {
-        return walk(image, frames, 7);
+    if walk(image, points, POINT) {
+        return walk(image, frames, FRAME);
     }
     false
 }
 
-// Goes through every item: points where a word has 2 bytes, else frames.
+// Goes through every item: points where a word has the bytes of a point, else frames.
 fn walk(image: &[u8], told: &[u8], width: usize) -> bool {
     let mut p = Place {
         item: 0,
@@ -196,7 +195,7 @@ fn turn(p: Place, image: &[u8], told: &[u8], width: usize) -> Place {
 
 // The answer of the reader; as in `walk`.
 fn item(image: &[u8], i: usize, j: usize, width: usize) -> u64 {
-    if width == 2 {
+    if width == POINT {
         return capi::da728x_read_point(image, i, j) as u64;
     }
     capi::da728x_read_frame(image, i, j)
@@ -204,10 +203,10 @@ fn item(image: &[u8], i: usize, j: usize, width: usize) -> u64 {
 
 // The least word that is no item.
 fn none(width: usize) -> u64 {
-    if width == 2 {
-        return 256;
+    if width == POINT {
+        return NO_POINT;
     }
-    281474976710656
+    NO_FRAME
 }
 
 fn step(mut p: Place, found: bool, after: usize, len: usize) -> Place {

@@ -7,8 +7,10 @@
 REAL(da728x_register_addresses);
 REAL(da728x_read_counts);
 REAL(da728x_frame);
-REAL(da728x_current_len);
+REAL(da728x_answers);
+REAL(da728x_assemble_strict);
 REAL(da728x_assemble);
+REAL(da728x_read_lists);
 REAL(da728x_enable);
 REAL(da728x_configure);
 REAL(da728x_upload_waveform_memory);
@@ -40,7 +42,7 @@ size_t da728x_register_addresses(uint8_t *out, size_t out_len)
 }
 
 /* 3: a byte is read behind the slice. 4: one is read before it. */
-uint16_t da728x_read_counts(const uint8_t *image, size_t image_len)
+uint32_t da728x_read_counts(const uint8_t *image, size_t image_len)
 {
     if (fault(3) && image_len > 0) seen += *(volatile const uint8_t *)(image + image_len);
     if (fault(4) && image_len > 0) seen += *(volatile const uint8_t *)(image - 1);
@@ -48,29 +50,46 @@ uint16_t da728x_read_counts(const uint8_t *image, size_t image_len)
 }
 
 /* 5: all of out is written. */
-uint32_t da728x_frame(const uint8_t *calls, size_t calls_len, uint8_t *answers, size_t answers_len,
-                      uint8_t *out, size_t out_len)
+uint32_t da728x_frame(const uint8_t *calls, size_t calls_len, uint8_t *out, size_t out_len)
 {
-    uint32_t told = real_da728x_frame(calls, calls_len, answers, answers_len, out, out_len);
-    for (size_t i = told; fault(5) && i < out_len; i++) out[i] = 0;
+    uint32_t told = real_da728x_frame(calls, calls_len, out, out_len);
+    for (size_t i = told; fault(5) && told < 65536 && i < out_len; i++) out[i] = 0;
     return told;
 }
 
-/* 6: a shorter last record has an answer too. */
-size_t da728x_current_len(const uint8_t *calls, size_t calls_len, uint8_t *answers, size_t answers_len)
+/* 6: a shorter last record has no answer. 8: a builder call answers a number that is not listed. */
+size_t da728x_answers(const uint8_t *calls, size_t calls_len, uint8_t *answers, size_t answers_len)
 {
-    size_t told = real_da728x_current_len(calls, calls_len, answers, answers_len);
-    if (fault(6) && calls_len % 4 && calls_len / 4 < answers_len) answers[calls_len / 4] = 0;
-    return told;
-}
-
-/* 7: a refused image is cleared. 8: a builder call answers a number that is not listed. */
-uint8_t da728x_assemble(const uint8_t *calls, size_t calls_len, uint8_t *answers, size_t answers_len,
-                        uint8_t *image, size_t image_len)
-{
-    uint8_t told = real_da728x_assemble(calls, calls_len, answers, answers_len, image, image_len);
-    if (fault(7) && told && image_len > 0) image[0] = 0;
+    size_t last = calls_len / 4, cut = calls_len % 4 && last < answers_len;
+    uint8_t before = cut ? answers[last] : 0;
+    size_t told = real_da728x_answers(calls, calls_len, answers, answers_len);
+    if (fault(6) && cut) answers[last] = before;
     if (fault(8) && calls_len > 100 && answers_len > 20) answers[20] = 11;
+    return told;
+}
+
+/* 7: a refused image is cleared. */
+uint8_t da728x_assemble(const uint8_t *calls, size_t calls_len, uint8_t *image, size_t image_len)
+{
+    uint8_t told = real_da728x_assemble(calls, calls_len, image, image_len);
+    if (fault(7) && told && image_len > 0) image[0] = 0;
+    return told;
+}
+
+/* 17: a refused call's place counts from 0. 18: an image is written although a call is refused. */
+uint32_t da728x_assemble_strict(const uint8_t *calls, size_t calls_len, uint8_t *image, size_t image_len)
+{
+    uint32_t told = real_da728x_assemble_strict(calls, calls_len, image, image_len);
+    if (fault(18) && told) da728x_assemble(calls, calls_len, image, image_len);
+    return fault(17) && told >= 256 ? told - 256 : told;
+}
+
+/* 19: the ends of snippets that are not there are written. 20: the lists of no image are cleared. */
+uint32_t da728x_read_lists(const uint8_t *image, size_t image_len, uint8_t *lists, size_t lists_len)
+{
+    uint32_t told = real_da728x_read_lists(image, image_len, lists, lists_len);
+    if (fault(19) && told < 15 * 256 && lists_len > 110) lists[110] = lists[96];
+    if (fault(20) && told >= 65536 && lists_len > 0) lists[0] = 0;
     return told;
 }
 

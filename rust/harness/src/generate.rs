@@ -4,7 +4,10 @@ use crate::random::Random;
 use crate::{GAINS, TIMEBASES, oracle};
 use yambelugo::{Call, Gain, PwlPoint, Timebase};
 
-/// Puts records that are no call between the calls.
+/// The last code of a call.
+const LAST: u8 = 14;
+
+/// Puts records that are no call between the calls and behind them.
 pub fn with_noise(calls: Vec<Call>, random: &mut Random) -> Vec<Option<Call>> {
     let noisy = random.chance(30);
     let mut list = Vec::new();
@@ -14,28 +17,34 @@ pub fn with_noise(calls: Vec<Call>, random: &mut Random) -> Vec<Option<Call>> {
         }
         list.push(Some(call));
     }
+    if random.chance(25) {
+        list.push(None);
+    }
     list
 }
 
-/// The list of these records and a shorter one; codes above `last` are no call.
-pub fn list(calls: &[Option<Call>], last: u8, random: &mut Random) -> Vec<u8> {
-    let mut list: Vec<u8> = calls.iter().flat_map(|call| record(*call, last, random)).collect();
-    // It would be a call were it whole.
-    let ragged = [random.within(0, usize::from(last) + 1) as u8, 1, 1];
-    list.extend(&ragged[..random.below(4)]);
+/// The list of these records. A last one that is no call is mostly one of fewer than four bytes.
+pub fn list(calls: &[Option<Call>], random: &mut Random) -> Vec<u8> {
+    let mut list: Vec<u8> = calls.iter().flat_map(|call| record(*call, random)).collect();
+    if calls.last() == Some(&None) && random.chance(80) {
+        // It would be a call were it whole.
+        let cut = [random.within(0, usize::from(LAST) + 1) as u8, 1, 1];
+        list.truncate(list.len() - 4);
+        list.extend(&cut[..random.within(1, 3)]);
+    }
     // A memory checker then sees a step past the end.
     list.shrink_to_fit();
     list
 }
 
 /// The record of a call, or of no call, with random values in the bytes that say nothing.
-pub fn record(call: Option<Call>, last: u8, random: &mut Random) -> [u8; 4] {
+pub fn record(call: Option<Call>, random: &mut Random) -> [u8; 4] {
     let [x, y, z] = [random.byte(), random.byte(), random.byte()];
     let Some(call) = call else {
         let code = match random.below(4) {
             0 => 0,
-            1 => last + random.within(1, 3) as u8,
-            _ => random.within(usize::from(last) + 1, 255) as u8,
+            1 => LAST + random.within(1, 3) as u8,
+            _ => random.within(usize::from(LAST) + 1, 255) as u8,
         };
         return [code, x, y, z];
     };
@@ -102,7 +111,7 @@ pub fn any_call(random: &mut Random) -> Call {
     }
 }
 
-/// Calls that begin a frame of 1, 2 or 3 bytes.
+/// Calls that begin a frame of 1, 2 or 3 bytes; some lose it again by a refused `FrameNew`.
 pub fn frame(bytes: usize, random: &mut Random) -> Vec<Call> {
     let mut calls = vec![match bytes {
         _ if random.chance(15) => Call::Silence,
@@ -122,10 +131,22 @@ pub fn frame(bytes: usize, random: &mut Random) -> Vec<Call> {
     if random.chance(20) {
         calls.push(Call::Timebase(random.pick(&TIMEBASES)));
     }
-    if random.chance(10) {
+    if random.chance(8) {
         // Always refused.
-        let bad = [Call::FrameNew(0), Call::LoopCount(16), Call::FrequencyHz(512)];
-        calls.push(random.pick(&bad));
+        calls.push(random.pick(&[Call::LoopCount(16), Call::FrequencyHz(512)]));
+    }
+    if random.chance(2) {
+        calls.push(Call::FrameNew(random.pick(&[0, 16, 255])));
+    }
+    calls
+}
+
+/// Calls that add so many frames, each of these bytes.
+pub fn add_frames(frames: usize, bytes: usize, random: &mut Random) -> Vec<Call> {
+    let mut calls = Vec::new();
+    for _ in 0..frames {
+        calls.extend(frame(bytes, random));
+        calls.push(Call::AddFrame);
     }
     calls
 }

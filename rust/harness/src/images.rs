@@ -1,9 +1,11 @@
 //! What images hold: as added, as read by the library, and as document 01 reads them.
 
 use crate::oracle::{gain, number, point, timebase};
+use crate::raw::LISTS;
 use crate::{GAINS, TIMEBASES};
 use da728x::waveform::{self, FrameBuilder, SequenceBuilder, SnippetBuilder};
 use da728x::waveform::{WaveformMemory, WaveformMemoryBuilder};
+use std::mem;
 use yambelugo::{Call, Frame, IMAGE, PwlPoint};
 
 /// The bytes of each snippet's points and the frames of each sequence.
@@ -48,6 +50,27 @@ impl Lists {
         build().map(|memory| hundred(&memory)).map_err(|error| number(&error))
     }
 
+    /// The bytes of these in `da728x_read_lists`: points, the end of each snippet, frames, the end of
+    /// each sequence, and zeros where there are none.
+    pub fn laid(&self) -> [u8; LISTS] {
+        let mut bytes = [0; LISTS];
+        let (mut points, mut frames) = (0, 0);
+        for (at, snippet) in self.snippets.iter().enumerate() {
+            bytes[points..points + snippet.len()].copy_from_slice(snippet);
+            points += snippet.len();
+            bytes[96 + at] = points as u8;
+        }
+        for (at, sequence) in self.sequences.iter().enumerate() {
+            for frame in sequence {
+                let word = frame_word(frame).to_le_bytes();
+                bytes[111 + 6 * frames..][..6].copy_from_slice(&word[..6]);
+                frames += 1;
+            }
+            bytes[687 + at] = frames as u8;
+        }
+        bytes
+    }
+
     /// Whether a reader of the image of these may find `read`: an absent loop count is read as 0
     /// from a frame of two or three bytes.
     pub fn agree(&self, read: &Lists) -> bool {
@@ -76,6 +99,15 @@ fn published_frame(frame: &Frame) -> waveform::Frame {
     builder.build().unwrap()
 }
 
+/// The fields of a frame as one number.
+pub fn frame_word(frame: &Frame) -> u64 {
+    let gain = GAINS.iter().position(|it| *it == frame.gain).unwrap() as u64;
+    let timebase = TIMEBASES.iter().position(|it| *it == frame.timebase).unwrap() as u64;
+    let loops = u64::from(frame.loop_count.unwrap_or(255));
+    let frequency = u64::from(frame.frequency_hz.unwrap_or(65535));
+    u64::from(frame.snippet) | gain << 8 | timebase << 16 | loops << 24 | frequency << 32
+}
+
 /// All the bytes of a published memory; it shows those up to its length, the others are zero.
 pub fn hundred(memory: &WaveformMemory) -> [u8; IMAGE] {
     let mut image = [0; IMAGE];
@@ -85,20 +117,22 @@ pub fn hundred(memory: &WaveformMemory) -> [u8; IMAGE] {
 
 /// What those of these calls added to the memory whose answer is 0.
 pub fn added(calls: &[Option<Call>], answers: &[u8]) -> Lists {
-    let (snippet, sequence, lists) = Default::default();
-    let mut added = Added { snippet, frame: begun(0), sequence, lists };
+    let mut added = Added::default();
     for (call, answer) in calls.iter().zip(answers) {
-        if let (Some(call), 0) = (call, answer) {
-            added.accept(*call);
+        match (call, answer) {
+            (Some(call), 0) => added.accept(*call),
+            (Some(Call::FrameNew(_)), _) => added.frame = None,
+            _ => {}
         }
     }
     added.lists
 }
 
 /// What accepted calls left.
+#[derive(Default)]
 struct Added {
     snippet: Vec<u8>,
-    frame: Frame,
+    frame: Option<Frame>,
     sequence: Vec<Frame>,
     lists: Lists,
 }
@@ -110,17 +144,24 @@ impl Added {
             Call::Ramp(length, amplitude) => self.snippet.push(112 + 16 * length + amplitude),
             Call::Step(length, amplitude) => self.snippet.push(16 * length - 16 + amplitude),
             Call::Point(point) => self.snippet.push(point.as_byte()),
-            Call::FrameNew(snippet) => self.frame = begun(snippet),
-            Call::Silence => self.frame = begun(0),
-            Call::Gain(gain) => self.frame.gain = gain,
-            Call::Timebase(timebase) => self.frame.timebase = timebase,
-            Call::LoopCount(count) => self.frame.loop_count = Some(count),
-            Call::FrequencyHz(frequency) => self.frame.frequency_hz = Some(frequency),
+            Call::FrameNew(snippet) => self.frame = Some(begun(snippet)),
+            Call::Silence => self.frame = Some(begun(0)),
+            Call::Gain(gain) => self.frame().gain = gain,
+            Call::Timebase(timebase) => self.frame().timebase = timebase,
+            Call::LoopCount(count) => self.frame().loop_count = Some(count),
+            Call::FrequencyHz(frequency) => self.frame().frequency_hz = Some(frequency),
             Call::SequenceNew => self.sequence.clear(),
-            Call::AddFrame => self.sequence.push(self.frame),
-            Call::AddSnippet => self.lists.snippets.push(self.snippet.clone()),
-            Call::AddSequence => self.lists.sequences.push(self.sequence.clone()),
+            Call::AddFrame => {
+                self.frame();
+                self.sequence.extend(self.frame.take());
+            }
+            Call::AddSnippet => self.lists.snippets.push(mem::take(&mut self.snippet)),
+            Call::AddSequence => self.lists.sequences.push(mem::take(&mut self.sequence)),
         }
+    }
+
+    fn frame(&mut self) -> &mut Frame {
+        self.frame.as_mut().expect("a call on the frame is accepted: one is begun")
     }
 }
 
@@ -145,6 +186,17 @@ pub fn read(image: &[u8]) -> Option<Lists> {
 fn until_none<T>(item: impl Fn(usize) -> Option<T>) -> Option<Vec<T>> {
     let items: Vec<T> = (0..).map_while(item).collect();
     (!items.is_empty()).then_some(items)
+}
+
+/// What the library reads in these bytes, all in one call.
+pub fn read_at_once(image: &[u8]) -> Option<Lists> {
+    let lists = yambelugo::read_lists(image).ok()?;
+    let bytes =
+        |points: &mut dyn Iterator<Item = PwlPoint>| points.map(PwlPoint::as_byte).collect();
+    Some(Lists {
+        snippets: lists.snippets().map(|mut points| bytes(&mut points)).collect(),
+        sequences: lists.sequences().map(|frames| frames.collect()).collect(),
+    })
 }
 
 /// What document 01 reads in these bytes.

@@ -3,6 +3,7 @@
 use da728x::errors::Error;
 use da728x::waveform::WaveformMemoryBuilder;
 use da728x::waveform::{self, FrameBuilder, PwlPoint, SequenceBuilder, SnippetBuilder};
+use std::mem;
 use yambelugo::{Call, Gain, Timebase};
 
 /// Document 01's number of a refusal.
@@ -37,11 +38,21 @@ pub fn point(byte: u8) -> PwlPoint {
     point
 }
 
-/// A snippet, a frame, a sequence and a memory under construction.
+/// The answer to a call on a frame that was not begun: a missing `new` counts as `new` of number 0.
+pub const NOT_BEGUN: u8 = 3;
+
+/// The answer to a record that says no call.
+pub const NO_CALL: u8 = 14;
+
+/// What a Rust program has in its variables while it writes a pattern: a snippet, a frame if one is
+/// begun, a sequence and a memory under construction.
+///
+/// `new` and `build` go as in Rust: a refused `new` makes no frame, and what is added is moved away.
+/// Where the Rust drops a refused builder, it stays here, as document 01 says.
 #[derive(Clone)]
 pub struct Builders {
     pub snippet: SnippetBuilder,
-    pub frame: FrameBuilder,
+    pub frame: Option<FrameBuilder>,
     pub sequence: SequenceBuilder,
     pub memory: WaveformMemoryBuilder,
 }
@@ -50,7 +61,7 @@ impl Default for Builders {
     fn default() -> Self {
         Self {
             snippet: SnippetBuilder::new(),
-            frame: FrameBuilder::silence(),
+            frame: None,
             sequence: SequenceBuilder::new(),
             memory: WaveformMemoryBuilder::new(false),
         }
@@ -67,49 +78,91 @@ impl Builders {
         builders
     }
 
+    /// Runs the records, of which `None` says no call; the answer to each.
+    pub fn run(&mut self, records: &[Option<Call>]) -> Vec<u8> {
+        records.iter().map(|call| call.map_or(NO_CALL, |call| self.call(call))).collect()
+    }
+
     /// Makes one call: 0, or the number of its refusal.
     pub fn call(&mut self, call: Call) -> u8 {
-        let frame = self.frame.clone();
-        match call {
-            Call::SnippetNew => keep(Ok(SnippetBuilder::new()), &mut self.snippet),
-            Call::Ramp(length, amplitude) => {
-                keep(self.snippet.ramp(length, amplitude), &mut self.snippet)
+        let made = match call {
+            Call::SnippetNew => {
+                self.snippet = SnippetBuilder::new();
+                Ok(())
             }
-            Call::Step(length, amplitude) => {
-                keep(self.snippet.step(length, amplitude), &mut self.snippet)
+            Call::Ramp(length, amplitude) => self.snippet(|it| it.ramp(length, amplitude)),
+            Call::Step(length, amplitude) => self.snippet(|it| it.step(length, amplitude)),
+            Call::Point(byte) => self.snippet(|it| it.point(point(byte.as_byte()))),
+            Call::FrameNew(snippet) => {
+                let made = FrameBuilder::new(snippet);
+                let answer = made.as_ref().map_or_else(number, |_| 0);
+                self.frame = made.ok();
+                return answer;
             }
-            Call::Point(it) => keep(self.snippet.point(point(it.as_byte())), &mut self.snippet),
-            Call::FrameNew(snippet) => keep(FrameBuilder::new(snippet), &mut self.frame),
-            Call::Silence => keep(Ok(FrameBuilder::silence()), &mut self.frame),
-            Call::Gain(it) => keep(Ok(frame.gain(gain(it))), &mut self.frame),
-            Call::Timebase(it) => keep(Ok(frame.timebase(timebase(it))), &mut self.frame),
-            Call::LoopCount(count) => keep(frame.loop_count(count), &mut self.frame),
-            Call::FrequencyHz(frequency) => keep(frame.frequency_hz(frequency), &mut self.frame),
-            Call::SequenceNew => keep(Ok(SequenceBuilder::new()), &mut self.sequence),
+            Call::Silence => {
+                self.frame = Some(FrameBuilder::silence());
+                Ok(())
+            }
+            Call::SequenceNew => {
+                self.sequence = SequenceBuilder::new();
+                Ok(())
+            }
+            Call::AddSnippet => self.add_snippet(),
+            Call::AddSequence => self.add_sequence(),
+            Call::Gain(_) | Call::Timebase(_) | Call::LoopCount(_) | Call::FrequencyHz(_) => {
+                let Some(frame) = self.frame.take() else { return NOT_BEGUN };
+                self.set(frame, call)
+            }
             Call::AddFrame => {
-                let added = self.sequence.add_frame(frame.build().unwrap());
-                keep(added, &mut self.sequence)
+                let Some(frame) = self.frame.take() else { return NOT_BEGUN };
+                self.add_frame(frame)
             }
-            Call::AddSnippet => {
-                let added = self.snippet.build().and_then(|it| self.memory.add_snippet(it));
-                keep(added, &mut self.memory)
-            }
-            Call::AddSequence => {
-                let added = self.sequence.build().and_then(|it| self.memory.add_sequence(it));
-                keep(added, &mut self.memory)
-            }
-        }
+        };
+        made.map_or_else(|error| number(&error), |()| 0)
     }
-}
 
-/// Stores what a call made. The Rust drops a refused builder, so that one stays.
-fn keep<B>(made: Result<B, Error>, builder: &mut B) -> u8 {
-    match made {
-        Ok(made) => {
-            *builder = made;
-            0
-        }
-        Err(error) => number(&error),
+    fn snippet(
+        &mut self,
+        add: impl FnOnce(SnippetBuilder) -> Result<SnippetBuilder, Error>,
+    ) -> Result<(), Error> {
+        self.snippet = add(self.snippet)?;
+        Ok(())
+    }
+
+    /// A call that sets a field of the frame.
+    fn set(&mut self, frame: FrameBuilder, call: Call) -> Result<(), Error> {
+        let kept = frame.clone();
+        let made = match call {
+            Call::Gain(it) => Ok(frame.gain(gain(it))),
+            Call::Timebase(it) => Ok(frame.timebase(timebase(it))),
+            Call::LoopCount(count) => frame.loop_count(count),
+            Call::FrequencyHz(frequency) => frame.frequency_hz(frequency),
+            _ => unreachable!("{call:?} sets no field"),
+        };
+        let (frame, answer) = made.map_or_else(|error| (kept, Err(error)), |it| (it, Ok(())));
+        self.frame = Some(frame);
+        answer
+    }
+
+    fn add_frame(&mut self, frame: FrameBuilder) -> Result<(), Error> {
+        let kept = frame.clone();
+        let added = frame.build().and_then(|built| self.sequence.add_frame(built));
+        self.sequence = added.inspect_err(|_| self.frame = Some(kept))?;
+        Ok(())
+    }
+
+    fn add_snippet(&mut self) -> Result<(), Error> {
+        let snippet = mem::take(&mut self.snippet);
+        let added = snippet.build().and_then(|built| self.memory.add_snippet(built));
+        self.memory = added.inspect_err(|_| self.snippet = snippet)?;
+        Ok(())
+    }
+
+    fn add_sequence(&mut self) -> Result<(), Error> {
+        let sequence = mem::take(&mut self.sequence);
+        let added = sequence.build().and_then(|built| self.memory.add_sequence(built));
+        self.memory = added.inspect_err(|_| self.sequence = sequence)?;
+        Ok(())
     }
 }
 

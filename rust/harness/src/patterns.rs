@@ -1,6 +1,7 @@
 //! Random lists of calls that make images.
 
-use crate::generate::{any_call, frame, good_point};
+use crate::generate::{add_frames, any_call, frame, good_point};
+use crate::oracle::Builders;
 use crate::random::Random;
 use yambelugo::Call;
 
@@ -11,7 +12,7 @@ pub type Generate = fn(&mut Random) -> Vec<Call>;
 pub const KINDS: [(&str, Generate); 4] =
     [("small", small), ("counts", counts), ("sizes", sizes), ("mixtures", mixed)];
 
-/// A call that is always refused.
+/// A call that is always refused, by its argument or because no frame is begun.
 fn refused(random: &mut Random) -> Call {
     random.pick(&[
         Call::Ramp(0, 15),
@@ -24,9 +25,22 @@ fn refused(random: &mut Random) -> Call {
     ])
 }
 
+/// Adds the call, but not in one of so many cases.
+fn mostly(call: Call, but: usize, calls: &mut Vec<Call>, random: &mut Random) {
+    if random.below(but) > 0 {
+        calls.push(call);
+    }
+}
+
+/// Those of these calls that are accepted: all are accepted then.
+pub fn mended(calls: &[Call]) -> Vec<Call> {
+    let mut builders = Builders::default();
+    calls.iter().copied().filter(|call| builders.call(*call) == 0).collect()
+}
+
 /// Adds a snippet of so many points, by calls that are refused above 16 and for none.
 fn add_snippet(calls: &mut Vec<Call>, points: usize, random: &mut Random) {
-    calls.push(Call::SnippetNew);
+    mostly(Call::SnippetNew, 3, calls, random);
     for _ in 0..points {
         if random.chance(5) {
             calls.push(refused(random));
@@ -38,7 +52,7 @@ fn add_snippet(calls: &mut Vec<Call>, points: usize, random: &mut Random) {
 
 /// Adds a sequence of so many bytes, by calls that are refused above 96 and for none.
 fn add_sequence(calls: &mut Vec<Call>, mut bytes: usize, random: &mut Random) {
-    calls.push(Call::SequenceNew);
+    mostly(Call::SequenceNew, 3, calls, random);
     let mut frames = 32_usize;
     while bytes > 0 {
         // So that 32 frames take up to 96 bytes.
@@ -61,13 +75,13 @@ pub fn small(random: &mut Random) -> Vec<Call> {
             1 if random.chance(25) => add_sequence(&mut calls, random.within(94, 99), random),
             // One-byte frames.
             1 => {
-                calls.extend([Call::SequenceNew, Call::FrameNew(random.within(1, 7) as u8)]);
-                calls.extend(vec![Call::AddFrame; random.within(30, 34)]);
+                calls.push(Call::SequenceNew);
+                calls.extend(add_frames(random.within(30, 34), 1, random));
                 calls.push(Call::AddSequence);
             }
             2..11 => add_snippet(&mut calls, random.below(5), random),
             11..19 => add_sequence(&mut calls, random.below(6), random),
-            // What is under construction stays after it was added.
+            // Adds of what may be used up or not begun.
             _ => {
                 calls.extend([good_point(random), Call::AddSnippet, Call::AddFrame]);
                 calls.push(Call::AddSequence);
@@ -82,7 +96,8 @@ pub fn counts(random: &mut Random) -> Vec<Call> {
     let (mut snippets, mut sequences) = (random.within(13, 17), random.within(14, 18));
     let mut calls = Vec::new();
     while snippets + sequences > 0 {
-        let again = random.chance(20);
+        // Without anything to add.
+        let again = random.chance(4);
         if random.below(snippets + sequences) < snippets {
             snippets -= 1;
             match again {

@@ -12,6 +12,9 @@ pub mod ffi;
 /// How many bytes a session has.
 pub const SESSION: usize = 278;
 
+/// How many bytes all lists of an image have.
+pub const LISTS: usize = 703;
+
 /// The answers' kinds.
 pub const DONE: u8 = 0;
 pub const BYTE: u8 = 1;

@@ -1,6 +1,6 @@
 //! Every length of item into every length of buffer, against the published Rust, byte for byte.
 
-use harness::oracle::{Builders, number};
+use harness::oracle::{Builders, NOT_BEGUN, number};
 use harness::{compared, encoded};
 use yambelugo::Call;
 
@@ -37,16 +37,19 @@ fn compare_snippet(calls: &[Call], wanted: usize) -> usize {
     let builder = Builders::after(calls).snippet;
     assert_eq!(builder.build().map_or(0, |snippet| snippet.byte_len()), wanted);
     compare(
-        |out| yambelugo::snippet(&list, &mut [], out).map_err(|error| error.number()),
+        |out| yambelugo::snippet(&list, out).map_err(|error| error.number()),
         |out| Ok(builder.build().map_err(|error| number(&error))?.encode_into(out)),
     )
 }
 
 fn compare_frame(calls: &[Call], wanted: usize) -> usize {
     let list = encoded(calls);
-    let frame = Builders::after(calls).frame.build().unwrap();
-    assert_eq!(frame.byte_len(), wanted);
-    compare(|out| Ok(yambelugo::frame(&list, &mut [], out)), |out| Ok(frame.encode_into(out)))
+    let frame = Builders::after(calls).frame.map(|frame| frame.build().unwrap());
+    assert_eq!(frame.map_or(0, |frame| frame.byte_len()), wanted);
+    compare(
+        |out| yambelugo::frame(&list, out).map_err(|error| error.number()),
+        |out| Ok(frame.ok_or(NOT_BEGUN)?.encode_into(out)),
+    )
 }
 
 fn compare_sequence(calls: &[Call], wanted: usize) -> usize {
@@ -54,7 +57,7 @@ fn compare_sequence(calls: &[Call], wanted: usize) -> usize {
     let builder = Builders::after(calls).sequence;
     assert_eq!(builder.build().map_or(0, |sequence| sequence.byte_len()), wanted);
     compare(
-        |out| yambelugo::sequence(&list, &mut [], out).map_err(|error| error.number()),
+        |out| yambelugo::sequence(&list, out).map_err(|error| error.number()),
         |out| Ok(builder.build().map_err(|error| number(&error))?.encode_into(out)),
     )
 }
@@ -72,9 +75,11 @@ fn snippets_of_every_length() {
 
 #[test]
 fn frames_of_every_length() {
+    // A frame that is not begun is refused.
     let calls = [Call::FrameNew(7), Call::LoopCount(9), Call::FrequencyHz(299)];
-    let cases: usize = (1..=3).map(|bytes| compare_frame(&calls[..bytes], bytes)).sum();
-    compared("frames into buffers", cases, 3 * 2 * 111);
+    let mut cases: usize = (0..=3).map(|bytes| compare_frame(&calls[..bytes], bytes)).sum();
+    cases += compare_frame(&[calls[0], Call::FrameNew(16)], 0);
+    compared("frames into buffers", cases, 5 * 2 * 111);
 }
 
 #[test]
@@ -82,9 +87,9 @@ fn sequences_of_every_length() {
     // The empty sequence is refused.
     let mut cases = compare_sequence(&[], 0);
     for bytes in 1..=96_u16 {
-        let mut calls = vec![Call::FrameNew(3)];
+        let mut calls = Vec::new();
         for at in 0..bytes / 3 {
-            calls.extend([Call::FrequencyHz(100 + at), Call::AddFrame]);
+            calls.extend([Call::FrameNew(3), Call::FrequencyHz(100 + at), Call::AddFrame]);
         }
         match bytes % 3 {
             1 => calls.extend([Call::FrameNew(4), Call::AddFrame]),

@@ -1,13 +1,15 @@
 //! Every frame and every refused value of a frame, against the published Rust.
 
-use harness::oracle::Builders;
+use harness::oracle::{Builders, NOT_BEGUN};
 use harness::{GAINS, TIMEBASES, compared, encoded};
 use yambelugo::{Call, Gain, Timebase};
 
 /// Compares the frame of these calls and each call's answer; the last answer.
 fn compare(calls: &[Call]) -> u8 {
     let (mut answers, mut out) = ([0xA5; 8], [0x5A; 6]);
-    let copied = yambelugo::frame(&encoded(calls), &mut answers, &mut out);
+    let list = encoded(calls);
+    assert_eq!(yambelugo::answers(&list, &mut answers), calls.len());
+    let copied = yambelugo::frame(&list, &mut out).map_err(|error| error.number());
 
     let mut builders = Builders::default();
     let mut wanted_answers = [0xA5; 8];
@@ -15,7 +17,8 @@ fn compare(calls: &[Call]) -> u8 {
         *answer = builders.call(*call);
     }
     let mut wanted_out = [0x5A; 6];
-    let wanted_copied = builders.frame.build().unwrap().encode_into(&mut wanted_out);
+    let frame = builders.frame.ok_or(NOT_BEGUN).map(|frame| frame.build().unwrap());
+    let wanted_copied = frame.map(|frame| frame.encode_into(&mut wanted_out));
 
     assert_eq!(answers, wanted_answers, "{calls:?}");
     assert_eq!((copied, out), (wanted_copied, wanted_out), "{calls:?}");
@@ -65,8 +68,10 @@ fn every_refused_value() {
         };
         refused(Call::FrameNew(0), 3);
         (16..=255).for_each(|snippet| refused(Call::FrameNew(snippet), 3));
-        (16..=255).for_each(|count| refused(Call::LoopCount(count), 4));
-        (512..=65535).for_each(|frequency| refused(Call::FrequencyHz(frequency), 5));
+        // Without a frame, 3 comes before what the argument is refused with.
+        let (four, five) = if begun.is_empty() { (3, 3) } else { (4, 5) };
+        (16..=255).for_each(|count| refused(Call::LoopCount(count), four));
+        (512..=65535).for_each(|frequency| refused(Call::FrequencyHz(frequency), five));
     }
     compared("refused values of frames", cases, 4 * (241 + 240 + 65024));
 }

@@ -51,21 +51,24 @@ fn fields_of_every_point() {
     compared("bytes of points", cases, 256);
 }
 
-/// NULL is fine for a length of 0. An empty snippet is 9, an empty sequence 10; a record of no bytes has no settings, and settings
+/// NULL is fine for a length of 0. An empty snippet is 9, no frame 3, an empty sequence 10; a record of no bytes has no settings, and settings
 /// of no bytes have no impedance.
 #[test]
 fn empty_slices() {
     let (list, none) = (null::<u8>(), null_mut::<u8>());
     // SAFETY: all lengths are 0.
     unsafe {
-        assert_eq!(da728x_snippet(list, 0, none, 0, none, 0), 9 * 65536);
-        assert_eq!(da728x_frame(list, 0, none, 0, none, 0), 0);
-        assert_eq!(da728x_sequence(list, 0, none, 0, none, 0), 10 * 65536);
-        assert_eq!(da728x_current_len(list, 0, none, 0), 0);
-        assert_eq!(da728x_assemble(list, 0, none, 0, none, 0), 9);
-        assert_eq!(da728x_read_counts(list, 0), 18);
-        assert_eq!(da728x_read_point(list, 0, 0, 0), 18 * 256);
-        assert_eq!(da728x_read_frame(list, 0, 0, 0), 18 << 48);
+        assert_eq!(da728x_snippet(list, 0, none, 0), 9 * 65536);
+        assert_eq!(da728x_frame(list, 0, none, 0), 3 * 65536);
+        assert_eq!(da728x_sequence(list, 0, none, 0), 10 * 65536);
+        assert_eq!(da728x_current_len(list, 0), 0);
+        assert_eq!(da728x_answers(list, 0, none, 0), 0);
+        assert_eq!(da728x_assemble_strict(list, 0, none, 0), 9);
+        assert_eq!(da728x_assemble(list, 0, none, 0), 9);
+        assert_eq!(da728x_read_counts(list, 0), 18 * 65536);
+        assert_eq!(da728x_read_point(list, 0, 0, 0), 18 * 65536);
+        assert_eq!(da728x_read_frame(list, 0, 0, 0), 18 << 56);
+        assert_eq!(da728x_read_lists(list, 0, none, 0), 18 * 65536);
         assert_eq!(da728x_register_addresses(none, 0), 0);
         for read in
             [da728x_read_interrupts, da728x_read_actuator, da728x_read_control, da728x_read_trigger]
@@ -156,6 +159,7 @@ fn sizes_and_kinds() {
     let settings = Settings::plain(OperationMode::INACTIVE, DrivingMode::WIDEBAND).encode();
     let used = [
         ("IMAGE", yambelugo::IMAGE),
+        ("LISTS", raw::LISTS),
         ("SESSION", raw::SESSION),
         ("RECORD", yambelugo::RECORD),
         ("SETTINGS", settings.len()),
@@ -165,7 +169,7 @@ fn sizes_and_kinds() {
     ];
     assert_eq!(defined, used);
     assert_eq!(size_of::<yambelugo::Session>(), raw::SESSION);
-    compared("sizes and kinds", defined.len(), 7);
+    compared("sizes and kinds", defined.len(), 8);
 }
 
 /// A function's name, the types of its arguments and the type of its answer, in Rust's words.
@@ -237,6 +241,7 @@ fn wrapped() -> Vec<Prototype> {
     let statements = body.split(';').filter(|it| it.contains("fn da728x_"));
     statements
         .map(|it| {
+            let it = it.split_whitespace().collect::<Vec<_>>().join(" ");
             let (_, it) = it.split_once("fn ").unwrap();
             let (name, rest) = it.split_once('(').unwrap();
             let (arguments, answer) = rest.split_once(") -> ").unwrap();
@@ -256,5 +261,5 @@ fn prototypes_are_those_of_the_exports() {
     let exported = sorted(exported());
     assert_eq!(sorted(declared()), exported);
     assert_eq!(sorted(wrapped()), exported);
-    compared("prototypes", exported.len(), 21 + 22);
+    compared("prototypes", exported.len(), 24 + 22);
 }

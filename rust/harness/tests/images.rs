@@ -1,25 +1,17 @@
 //! Random lists of calls that make images, against the published Rust.
 
-use ffi::da728x_assemble;
-use harness::generate::{list, with_noise};
+use harness::generate::{any_call, list, with_noise};
 use harness::images::{added, hundred};
-use harness::lists::MARKER;
+use harness::lists::{MARKER, Misuse};
 use harness::oracle::{Builders, number};
-use harness::patterns::{KINDS, sizes, small};
+use harness::patterns::{KINDS, mended, sizes, small};
 use harness::random::Random;
+use harness::raw::ffi::{da728x_assemble, da728x_assemble_strict};
 use harness::{compared, encoded};
 use yambelugo::{Call, IMAGE};
 
-/// The wrapper's declarations, which `header` holds against the header.
-#[allow(dead_code)]
-#[path = "../../wrapper/src/ffi.rs"]
-mod ffi;
-
 /// Lists of each kind.
 const LISTS: usize = 130_000;
-
-/// The last code that is a call.
-const LAST: u8 = 14;
 
 /// Bytes around a lent buffer, to see that they stay.
 const GUARD: usize = 8;
@@ -33,9 +25,12 @@ struct Met {
     lists: usize,
     calls: usize,
     /// By answer: of calls, of calls that add to the memory, of `build`.
-    answers: [usize; 11],
-    added: [usize; 11],
-    built: [usize; 11],
+    answers: [usize; 15],
+    added: [usize; 15],
+    built: [usize; 15],
+    /// By answer: of the first refused call of a list.
+    first: [usize; 15],
+    misuse: Misuse,
     /// Lists by the size of their image: 99, 100, 101.
     sizes: [usize; 3],
     /// Images with 15 snippets, with 16 sequences, with the number of an absent snippet.
@@ -49,32 +44,59 @@ struct Met {
 /// The answers, the answer of `build` and the image of the published Rust.
 fn published(calls: &[Option<Call>]) -> (Vec<u8>, Result<[u8; IMAGE], u8>) {
     let mut builders = Builders::default();
-    let answers = calls.iter().map(|call| call.map_or(0, |call| builders.call(call))).collect();
+    let answers = builders.run(calls);
     let built = builders.memory.build();
     (answers, built.map(|memory| hundred(&memory)).map_err(|error| number(&error)))
 }
 
+/// A refusal: its number, and the place of the refused call from 1, or 0 for `build`.
+type Refused = (u8, u32);
+
+/// What strict assembling comes to: the first refused call, or what `build` answers.
+fn strictly(answers: &[u8], built: Result<[u8; IMAGE], u8>) -> Result<[u8; IMAGE], Refused> {
+    match answers.iter().position(|answer| *answer != 0) {
+        Some(at) => Err((answers[at], at as u32 + 1)),
+        None => built.map_err(|number| (number, 0)),
+    }
+}
+
+/// The library's strict assembling into an image, through the wrapper.
+fn assemble_strict(list: &[u8], image: &mut [u8; IMAGE]) -> Result<(), Refused> {
+    yambelugo::assemble_strict(list, image)
+        .map_err(|refused| (refused.error.number(), refused.call.map_or(0, |call| call.get())))
+}
+
+/// Lends an image between guards; the answer, and whether every byte is as wanted.
+fn lend<E>(
+    wanted: Option<[u8; IMAGE]>,
+    run: impl FnOnce(&mut [u8; IMAGE]) -> Result<(), E>,
+) -> (Result<(), E>, bool) {
+    let mut lent = [MARKER; LENT];
+    let answer = run(lent[GUARD..].first_chunk_mut().unwrap());
+    let mut expected = [MARKER; LENT];
+    if let Some(image) = wanted {
+        expected[GUARD..GUARD + IMAGE].copy_from_slice(&image);
+    }
+    (answer, lent == expected)
+}
+
 /// Compares every answer and every byte that one list leaves.
 fn compare(calls: &[Option<Call>], random: &mut Random, met: &mut Met) {
-    let list = list(calls, LAST, random);
-    let room = if random.chance(75) { calls.len() + 4 } else { random.below(calls.len() + 1) };
+    let list = list(calls, random);
     let (answers, built) = published(calls);
 
-    let mut told = vec![MARKER; room + GUARD];
-    let mut lent = [MARKER; LENT];
-    let image = lent[GUARD..].first_chunk_mut().unwrap();
-    let answer = yambelugo::assemble(&list, &mut told[..room], image).map_err(|it| it.number());
+    let mut told = vec![MARKER; calls.len() + GUARD];
+    assert_eq!(yambelugo::answers(&list, &mut told[..calls.len()]), calls.len());
+    assert_eq!(told, [&answers[..], &[MARKER; GUARD]].concat(), "{calls:?}");
 
-    let mut wanted_told = vec![MARKER; room + GUARD];
-    let fitting = room.min(answers.len());
-    wanted_told[..fitting].copy_from_slice(&answers[..fitting]);
-    let mut wanted = [MARKER; LENT];
-    if let Ok(image) = built {
-        wanted[GUARD..GUARD + IMAGE].copy_from_slice(&image);
-    }
-    assert_eq!(answer, built.map(|_| ()), "{calls:?}");
-    assert_eq!(told, wanted_told, "{calls:?}, answers {room}");
-    assert_eq!(lent, wanted, "{calls:?}");
+    let lenient = |image: &mut _| yambelugo::assemble(&list, image).map_err(|it| it.number());
+    assert_eq!(lend(built.ok(), lenient), (built.map(|_| ()), true), "{calls:?}");
+
+    let strict = strictly(&answers, built);
+    let answer = lend(strict.ok(), |image| assemble_strict(&list, image));
+    assert_eq!(answer, (strict.map(|_| ()), true), "{calls:?}, strictly");
+
+    met.misuse.count(calls, &answers, list.len());
     met.count(calls, &answers, built);
 }
 
@@ -89,6 +111,9 @@ impl Met {
             }
         }
         self.built[usize::from(built.err().unwrap_or(0))] += 1;
+        if let Some(first) = answers.iter().find(|answer| **answer != 0) {
+            self.first[usize::from(*first)] += 1;
+        }
         let lists = added(calls, answers);
         if let (Ok(_) | Err(8), size @ 99..=101) = (built, lists.size()) {
             self.sizes[size - 99] += 1;
@@ -117,15 +142,97 @@ fn random_images() {
     let Met { calls, answers, added, built, sizes, .. } = total;
     println!("images: {calls} calls, answers {answers:?}, of build {built:?}");
     println!("images: of calls that add {added:?}, sizes 99 to 101 {sizes:?}");
+    println!("images: first refused calls {:?}", total.first);
     let Met { full_snippets, full_sequences, absent, refused, .. } = total;
     println!("images: {full_snippets} with 15 snippets, {full_sequences} with 16 sequences");
     println!("images: {absent} name an absent snippet, {refused} with a refused call");
     compared("images", total.lists, 4 * LISTS);
-    assert!((1..=10).all(|number| answers[number] > 1_000));
+    assert!((1..=10).chain([14]).all(|number| answers[number] > 1_000));
+    assert!((1..=10).chain([14]).all(|number| total.first[number] > 10));
     assert!([0, 6, 7, 9, 10].iter().all(|number| added[*number] > 10_000));
     assert!([0, 8, 9, 10].iter().all(|number| built[*number] > 10_000));
     assert!(sizes.iter().all(|images| *images > 10_000));
     assert!([full_snippets, full_sequences, absent, refused].iter().all(|met| *met > 10_000));
+    total.misuse.assert_met("images", 2_000);
+}
+
+/// The accepted ones of these calls and one that is refused: of any number that is met, not the most frequent.
+fn with_one_refused(calls: &[Call], random: &mut Random) -> Vec<Option<Call>> {
+    let mut builders = Builders::default();
+    let answers: Vec<u8> = calls.iter().map(|call| builders.call(*call)).collect();
+    let rare = [8, 7, 6, 10, 9, 5, 4].into_iter().find(|it| answers.contains(it));
+    let number = rare.unwrap_or(3);
+    let refused: Vec<_> = (0..calls.len()).filter(|at| answers[*at] == number).collect();
+    let kept = if refused.is_empty() { 0 } else { random.pick(&refused) };
+    let calls = calls.iter().zip(&answers).enumerate();
+    calls
+        .filter(|(at, (_, answer))| *at == kept || **answer == 0)
+        .map(|(_, it)| Some(*it.0))
+        .collect()
+}
+
+/// Lists without a refused call give what `assemble` gives; with one, that call and its place.
+#[test]
+fn strict_images() {
+    let mut random = Random::new(66);
+    let (mut made, mut of_build, mut numbers) = (0, [0; 11], [0; 15]);
+    for at in 0..80_000 {
+        let generated = KINDS[at % KINDS.len()].1(&mut random);
+        let calls = mended(&generated);
+        let records: Vec<_> = calls.iter().copied().map(Some).collect();
+        let (answers, built) = published(&records);
+        assert!(answers.iter().all(|answer| *answer == 0));
+        let whole = encoded(&calls);
+        let strict = lend(built.ok(), |image| assemble_strict(&whole, image));
+        assert_eq!(strict, (built.map(|_| ()).map_err(|number| (number, 0)), true), "{calls:?}");
+        let lenient = |image: &mut _| yambelugo::assemble(&whole, image).map_err(|it| it.number());
+        assert_eq!(lend(built.ok(), lenient), (built.map(|_| ()), true), "{calls:?}");
+        match built {
+            Ok(_) => made += 1,
+            Err(number) => of_build[usize::from(number)] += 1,
+        }
+
+        // The list with one of its refused calls, or with another call or none at some place.
+        let mut other_records = records;
+        if random.chance(50) {
+            other_records = with_one_refused(&generated, &mut random);
+        } else {
+            let other = random.chance(85).then(|| any_call(&mut random));
+            other_records.insert(random.within(0, calls.len()), other);
+        }
+        let (answers, built) = published(&other_records);
+        let wanted = strictly(&answers, built);
+        let list = list(&other_records, &mut random);
+        let strict = lend(wanted.ok(), |image| assemble_strict(&list, image));
+        assert_eq!(strict, (wanted.map(|_| ()), true), "{other_records:?}");
+        if let Err((number, 1..)) = wanted {
+            numbers[usize::from(number)] += 1;
+        }
+    }
+    println!("strict images: {made} made, refused by build {of_build:?}, calls {numbers:?}");
+    assert!(made > 10_000 && [8, 9, 10].iter().all(|number| of_build[*number] > 1_000));
+    assert!((1..=10).chain([14]).all(|number| numbers[number] > 30));
+}
+
+/// The place of a refused call is told up to 16777215, and from there on as 16777215.
+#[test]
+fn far_places() {
+    const LAST: usize = (1 << 24) - 1;
+    let mut list = Call::SnippetNew.encode().repeat(LAST + 2);
+    for place in [1, 255, 256, 65535, 65536, LAST - 1, LAST, LAST + 1, LAST + 2] {
+        let record = 4 * (place - 1)..4 * place;
+        list[record.clone()].copy_from_slice(&Call::LoopCount(0).encode());
+        let refused = lend(None, |image| assemble_strict(&list, image));
+        assert_eq!(refused, (Err((3, place.min(LAST) as u32)), true), "place {place}");
+        list[record].copy_from_slice(&Call::SnippetNew.encode());
+    }
+    // Bytes that are cut short, behind the farthest place.
+    list.extend([13, 0, 0]);
+    let refused = lend(None, |image| assemble_strict(&list, image));
+    assert_eq!(refused, (Err((14, LAST as u32)), true));
+    list.truncate(list.len() - 3);
+    assert_eq!(lend(None, |image| assemble_strict(&list, image)), (Err((9, 0)), true));
+    assert_eq!(yambelugo::answers(&list, &mut []), LAST + 2);
 }
 
 /// Every length of buffer, with two markers, byte for byte; also for refused images.
@@ -136,33 +243,39 @@ fn buffers_of_every_length() {
     let (mut cases, mut refused) = (0, 0);
     for at in 0..300 {
         let calls = if at % 2 == 0 { small(&mut random) } else { sizes(&mut random) };
+        let calls = if at % 4 < 2 { mended(&calls) } else { calls };
         let list = encoded(&calls);
         let records: Vec<_> = calls.into_iter().map(Some).collect();
-        let (_, built) = published(&records);
-        refused += usize::from(built.is_err());
-        for marker in [0x00, 0xFF] {
-            for length in 0..=LONGEST {
+        let (answers, built) = published(&records);
+        let strict = strictly(&answers, built);
+        refused += usize::from(strict.is_err());
+        let word = strict.err().map_or(0, |(number, place)| u32::from(number) + 256 * place);
+        let number = built.err().unwrap_or(0).into();
+        for (wanted, word, strictly) in [(built.ok(), number, false), (strict.ok(), word, true)] {
+            for (marker, length) in (0..=LONGEST).flat_map(|it| [(0x00, it), (0xFF, it)]) {
                 let mut lent = vec![marker; GUARD + length + GUARD];
-                let image = lent[GUARD..].as_mut_ptr();
+                let (at, len, image) = (list.as_ptr(), list.len(), lent[GUARD..].as_mut_ptr());
                 // SAFETY: each pointer is to so many bytes that are borrowed; none overlap.
                 let answer = unsafe {
-                    let answers = [].as_mut_ptr();
-                    da728x_assemble(list.as_ptr(), list.len(), answers, 0, image, length)
+                    match strictly {
+                        true => da728x_assemble_strict(at, len, image, length),
+                        false => da728x_assemble(at, len, image, length).into(),
+                    }
                 };
-                let mut wanted = vec![marker; GUARD + length + GUARD];
-                if let Ok(image) = built {
+                let mut expected = vec![marker; GUARD + length + GUARD];
+                if let Some(image) = wanted {
                     let copied = length.min(IMAGE);
-                    wanted[GUARD..GUARD + copied].copy_from_slice(&image[..copied]);
+                    expected[GUARD..GUARD + copied].copy_from_slice(&image[..copied]);
                 }
-                assert_eq!(answer, built.err().unwrap_or(0));
-                assert_eq!(lent, wanted, "{records:?}, a buffer of {length} bytes");
+                assert_eq!(answer, word, "{records:?}, strictly {strictly}");
+                assert_eq!(lent, expected, "{records:?}, a buffer of {length} bytes");
                 cases += 1;
             }
         }
     }
     println!("images into buffers: {refused} of 300 refused");
     assert!(refused > 50 && refused < 250);
-    compared("images into buffers", cases, 300 * 2 * 111);
+    compared("images into buffers", cases, 2 * 300 * 2 * 111);
 }
 
 /// The published Rust alone.
@@ -185,17 +298,22 @@ fn acceleration_changes_nothing() {
 
 /// Assembles the calls, all of them accepted but the last if `last` is its refusal.
 fn assemble(calls: &[Call], last: u8) -> Result<[u8; IMAGE], u8> {
-    let (mut answers, mut image) = (vec![MARKER; calls.len()], [MARKER; IMAGE]);
-    let answer = yambelugo::assemble(&encoded(calls), &mut answers, &mut image);
+    let (list, mut answers, mut image) =
+        (encoded(calls), vec![MARKER; calls.len()], [MARKER; IMAGE]);
+    assert_eq!(yambelugo::answers(&list, &mut answers), calls.len());
     assert_eq!(answers.pop(), Some(last));
     assert!(answers.iter().all(|answer| *answer == 0));
-    match answer {
-        Ok(()) => Ok(image),
-        Err(error) => {
-            assert_eq!(image, [MARKER; IMAGE]);
-            Err(error.number())
-        }
-    }
+    let answer = yambelugo::assemble(&list, &mut image).map_err(|error| error.number());
+
+    let strict =
+        lend(answer.ok().filter(|()| last == 0).map(|()| image), |it| assemble_strict(&list, it));
+    let refused = match last {
+        0 => answer.map_err(|number| (number, 0)),
+        _ => Err((last, calls.len() as u32)),
+    };
+    assert_eq!(strict, (refused, true));
+    assert!(answer.is_ok() || image == [MARKER; IMAGE]);
+    answer.map(|()| image)
 }
 
 /// Document 01: snippet AA 00 with sequence 01 gives 01 01 05 06 AA 00 01 and 93 zeros.
@@ -218,12 +336,9 @@ fn the_example_image() {
 fn frames(bytes: usize, frames: Option<usize>) -> Vec<Call> {
     let frames = frames.unwrap_or(bytes.div_ceil(3));
     let (threes, two) = ((bytes - frames) / 2, (bytes - frames) % 2);
-    let mut calls = vec![Call::FrameNew(1), Call::FrequencyHz(300)];
-    calls.extend(vec![Call::AddFrame; threes]);
-    calls.push(Call::FrameNew(9));
-    calls.extend(vec![Call::AddFrame; two]);
-    calls.push(Call::FrameNew(1));
-    calls.extend(vec![Call::AddFrame; frames - threes - two]);
+    let mut calls = [Call::FrameNew(1), Call::FrequencyHz(300), Call::AddFrame].repeat(threes);
+    calls.extend([Call::FrameNew(9), Call::AddFrame].repeat(two));
+    calls.extend([Call::FrameNew(1), Call::AddFrame].repeat(frames - threes - two));
     calls
 }
 
@@ -261,40 +376,70 @@ fn a_33rd_frame() {
             // With the header, two pointers and a point, 96 bytes are one too many.
             assert_eq!(image.is_ok(), bytes < 96);
 
+            // The 33rd frame comes before the sequence is added, which is then the same.
+            let added = calls.pop().unwrap();
             calls.extend(&[Call::FrameNew(1), Call::LoopCount(0), Call::FrequencyHz(0)][..last]);
             calls.push(Call::AddFrame);
             let refusal = if bytes + last > 96 { 8 } else { 7 };
-            assert_eq!(assemble(&calls, refusal), image, "{last} after {bytes} bytes");
+            assert_eq!(assemble(&calls, refusal), Err(10), "{last} after {bytes} bytes");
+            calls.push(added);
+            let (answers, built) = published(&calls.iter().copied().map(Some).collect::<Vec<_>>());
+            assert_eq!((answers[answers.len() - 2], built), (refusal, image));
+            let lenient = lend(image.ok(), |it| yambelugo::assemble(&encoded(&calls), it));
+            assert_eq!(lenient.0.map_err(|it| it.number()), image.map(|_| ()));
+            assert!(lenient.1, "{last} after {bytes} bytes");
             cases += 1;
         }
     }
     compared("33rd frames", cases, 65 * 3);
 }
 
+/// A sequence of one silent frame.
+const ONE_FRAME: [Call; 3] = [Call::Silence, Call::AddFrame, Call::AddSequence];
+
 /// Fifteen snippets and sixteen sequences build, one more of either is refused.
 #[test]
 fn counts_at_the_limits() {
-    let mut calls = vec![Call::Step(1, 0)];
-    calls.extend(vec![Call::AddSnippet; 15]);
-    calls.push(Call::AddFrame);
-    calls.extend(vec![Call::AddSequence; 16]);
+    let (snippet, sequence) = ([Call::Step(1, 0), Call::AddSnippet], ONE_FRAME);
+    let calls = [snippet.repeat(15), sequence.repeat(16)].concat();
     let image = assemble(&calls, 0).unwrap();
     assert_eq!(image[..3], [15, 16, 33]);
-    assert_eq!(assemble(&[&calls[..], &[Call::AddSnippet]].concat(), 6), Ok(image));
-    assert_eq!(assemble(&[&calls[..], &[Call::AddSequence]].concat(), 7), Ok(image));
+    assert_eq!(assemble(&[&calls[..], &snippet].concat(), 6), Ok(image));
+    assert_eq!(assemble(&[&calls[..], &sequence].concat(), 7), Ok(image));
 }
 
 /// An empty snippet is 9 and an empty sequence 10, when added and when nothing was added.
 #[test]
 fn nothing_to_build_from() {
-    let (snippet, sequence) =
-        ([Call::Step(1, 0), Call::AddSnippet], [Call::AddFrame, Call::AddSequence]);
+    let (snippet, sequence) = ([Call::Step(1, 0), Call::AddSnippet], ONE_FRAME);
     assert_eq!(assemble(&[Call::SnippetNew], 0), Err(9));
     assert_eq!(assemble(&[Call::AddSnippet], 9), Err(9));
     assert_eq!(assemble(&[Call::AddSequence], 10), Err(9));
     assert_eq!(assemble(&sequence, 0), Err(9));
     assert_eq!(assemble(&snippet, 0), Err(10));
     assert_eq!(assemble(&[&snippet[..], &[Call::AddSequence]].concat(), 10), Err(10));
-    let image = assemble(&[snippet, sequence].concat(), 0).unwrap();
+    let image = assemble(&[&snippet[..], &sequence].concat(), 0).unwrap();
     assert_eq!(image[..7], [1, 1, 4, 5, 0, 0, 0]);
+}
+
+/// A wrong number never plays the frame before it again, nor silence.
+#[test]
+fn a_refused_new_adds_no_frame() {
+    let snippet = [Call::Step(1, 0), Call::AddSnippet];
+    let calls = [
+        &snippet[..],
+        &[Call::FrameNew(1), Call::AddFrame, Call::FrameNew(16), Call::AddFrame, Call::AddSequence],
+    ]
+    .concat();
+    let mut answers = [MARKER; 7];
+    assert_eq!(yambelugo::answers(&encoded(&calls), &mut answers), 7);
+    assert_eq!(answers, [0, 0, 0, 0, 3, 3, 0]);
+    let strict = lend(None, |image| assemble_strict(&encoded(&calls), image));
+    assert_eq!(strict, (Err((3, 5)), true));
+    let mut image = [MARKER; IMAGE];
+    assert_eq!(yambelugo::assemble(&encoded(&calls), &mut image), Ok(()));
+    assert_eq!(image[..7], [1, 1, 4, 5, 0x00, 0x01, 0x00]);
+    let lists = yambelugo::read_lists(&image).unwrap();
+    let frames: Vec<_> = lists.sequences().flatten().map(|frame| frame.snippet).collect();
+    assert_eq!(frames, [1]);
 }

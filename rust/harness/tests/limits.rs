@@ -9,7 +9,7 @@ fn compare(calls: &[Call]) -> (u8, usize) {
     let left = library(&encoded(calls), calls.len());
     let records: Vec<_> = calls.iter().copied().map(Some).collect();
     assert_eq!(left, published(&records, calls.len()), "{calls:?}");
-    (left[3].answers[calls.len() - 1], left[3].answer.unwrap())
+    (left.answers[calls.len() - 1], left.current_len)
 }
 
 /// Calls that add a frame of 1, 2 or 3 bytes.

@@ -2,9 +2,11 @@
 
 use harness::compared;
 use harness::generate::{list, with_noise};
-use harness::images::{Lists, added, plain, read};
+use harness::images::{Lists, added, plain, read, read_at_once};
+use harness::lists::MARKER;
 use harness::patterns::KINDS;
 use harness::random::Random;
+use harness::raw::{LISTS, ffi};
 use yambelugo::{Error, IMAGE, PwlPoint};
 
 const BUILT: usize = 150_000;
@@ -29,13 +31,35 @@ struct Met {
     accepted: usize,
     /// Accepted ones of which all points and frames were read.
     whole: usize,
-    /// Calls that read one point or frame.
+    /// Calls that read one point or frame, and those that read all lists.
     items: usize,
+    listed: usize,
+}
+
+/// Bytes around lent ones, to see that they stay.
+const GUARD: usize = 8;
+
+/// Compares the word and every byte that `da728x_read_lists` leaves, with room for so many.
+fn compare_lists(image: &[u8], wanted: Option<&Lists>, room: usize) {
+    const LENT: usize = GUARD + LISTS + 4 + GUARD;
+    let (mut lent, mut expected) = ([MARKER; LENT], [MARKER; LENT]);
+    assert!(room <= LISTS + 4);
+    let (at, to) = (image.as_ptr(), lent[GUARD..].as_mut_ptr());
+    // SAFETY: each pointer is to so many bytes that are borrowed; they do not overlap.
+    let word = unsafe { ffi::da728x_read_lists(at, image.len(), to, room) };
+    let wanted = wanted.map(|lists| {
+        let copied = room.min(LISTS);
+        expected[GUARD..GUARD + copied].copy_from_slice(&lists.laid()[..copied]);
+        256 * lists.snippets.len() + lists.sequences.len()
+    });
+    assert_eq!(word as usize, wanted.unwrap_or(18 << 16), "{image:02X?}");
+    assert!(lent == expected, "{image:02X?}, {room} bytes: {lent:?}");
 }
 
 impl Met {
     fn compared(self, what: &str, wanted: usize) -> Self {
-        let Met { inputs, accepted, whole, items } = self;
+        let Met { inputs, accepted, whole, items, listed } = self;
+        assert_eq!(listed, inputs, "all lists in one call");
         println!("{what}: {accepted} accepted, {whole} read whole, {items} items read");
         compared(what, inputs, wanted);
         self
@@ -48,6 +72,8 @@ impl Met {
         let counts = wanted.as_ref().map(|it| (it.snippets.len(), it.sequences.len()));
         let told = yambelugo::read_counts(image);
         assert_eq!(told, counts.ok_or(Error::NotAnImage), "{image:02X?}");
+        self.listed += 1;
+        compare_lists(image, wanted.as_ref(), LISTS);
 
         let Some(lists) = &wanted else {
             if random.below(16) == 0 {
@@ -56,7 +82,10 @@ impl Met {
             return None;
         };
         self.accepted += 1;
-        assert_eq!(lists.published(false).unwrap(), image, "{image:02X?}");
+        // Through the wrapper; and the Rust makes the image of what was read in it.
+        let read_lists = read_at_once(image).expect("an image");
+        assert_eq!(read_lists, *lists, "{image:02X?}");
+        assert_eq!(read_lists.published(false).unwrap(), image, "{image:02X?}");
         if random.below(if lists.size() <= 16 { WHOLE_SMALL } else { WHOLE }) == 0 {
             self.whole += 1;
             self.items += lists.size();
@@ -95,9 +124,11 @@ fn built(random: &mut Random) -> ([u8; IMAGE], Lists) {
     loop {
         let generate = random.pick(&[KINDS[0], KINDS[0], KINDS[1], KINDS[2], KINDS[3]]).1;
         let calls = with_noise(generate(random), random);
-        let list = list(&calls, 14, random);
-        let (mut answers, mut image) = (vec![0; calls.len()], [0; IMAGE]);
-        if yambelugo::assemble(&list, &mut answers, &mut image).is_ok() {
+        let list = list(&calls, random);
+        let mut image = [0; IMAGE];
+        if yambelugo::assemble(&list, &mut image).is_ok() {
+            let mut answers = vec![0; calls.len()];
+            yambelugo::answers(&list, &mut answers);
             return (image, added(&calls, &answers));
         }
     }
@@ -280,6 +311,27 @@ fn every_length() {
     assert_eq!(met.accepted, 500);
 }
 
+/// Every room for the lists, of images and of damaged ones.
+#[test]
+fn rooms_for_lists() {
+    let mut random = Random::new(80);
+    let (mut cases, mut accepted) = (0, 0);
+    for at in 0..40 {
+        let (mut image, _) = built(&mut random);
+        if at % 4 == 0 {
+            image[1] += 1;
+        }
+        let lists = plain(&image);
+        accepted += usize::from(lists.is_some());
+        for room in 0..=LISTS + 4 {
+            compare_lists(&image, lists.as_ref(), room);
+            cases += 1;
+        }
+    }
+    assert!((20..40).contains(&accepted));
+    compared("rooms for lists", cases, 40 * (LISTS + 5));
+}
+
 /// An image with one snippet of one point and this sequence.
 fn around(sequence: &[u8]) -> [u8; IMAGE] {
     let mut image = [0; IMAGE];
@@ -293,6 +345,7 @@ fn compare_frames(sequence: &[u8]) -> bool {
     let image = around(sequence);
     let lists = plain(&image);
     assert_eq!(read(&image), lists, "{sequence:02X?}");
+    assert_eq!(read_at_once(&image), lists, "{sequence:02X?}");
     lists.is_some()
 }
 
@@ -321,6 +374,7 @@ fn sequences_of_three_bytes() {
             let lists = plain(&image);
             let told = yambelugo::read_counts(&image);
             assert_eq!(told.ok(), lists.as_ref().map(|_| (1, 1)), "{first} {second} {third}");
+            compare_lists(&image, lists.as_ref(), LISTS);
             if let Some(lists) = lists {
                 // One frame of each, or none behind the last.
                 let frames = &lists.sequences[0];
@@ -365,6 +419,7 @@ fn near_misses() {
         image[..bytes.len()].copy_from_slice(bytes);
         assert_eq!(plain(&image).is_some(), accepted, "{what}");
         assert_eq!(read(&image), plain(&image), "{what}");
+        assert_eq!(read_at_once(&image), plain(&image), "{what}");
         cases += 1;
     };
     let rows: [(&str, &[u8], bool); 14] = [

@@ -70,5 +70,5 @@ fn every_kind_is_there() {
     let named = kinds.iter().flat_map(|(_, names, _)| names.split(", "));
     let named: Vec<&str> = named.chain(["pending", "answer", "record", "result"]).collect();
     assert_eq!(exported(), named);
-    compared("cases of the stored sample", cases, 4506);
+    compared("cases of the stored sample", cases, 4946);
 }

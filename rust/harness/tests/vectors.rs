@@ -38,8 +38,9 @@ fn frames() {
     ];
     let mut cases = 0;
     for (calls, answer, bytes) in rows {
-        let (mut answers, mut out) = ([0; 5], [0; 3]);
-        let copied = yambelugo::frame(&encoded(calls), &mut answers, &mut out);
+        let (list, mut answers, mut out) = (encoded(calls), [0; 5], [0; 3]);
+        yambelugo::answers(&list, &mut answers);
+        let copied = yambelugo::frame(&list, &mut out).unwrap();
         assert_eq!((answers[calls.len() - 1], &out[..copied]), (answer, bytes), "{calls:?}");
         cases += 1;
     }
@@ -61,18 +62,16 @@ fn a_33rd_frame() {
     ];
     let mut cases = 0;
     for (bytes, last, answer) in rows {
-        let threes = (bytes - 32) / 2;
-        let mut calls = vec![Call::FrameNew(1), Call::FrequencyHz(0)];
-        calls.extend(vec![Call::AddFrame; threes]);
-        calls.extend([Call::FrameNew(1), Call::LoopCount(0)]);
-        calls.extend(vec![Call::AddFrame; (bytes - 32) % 2]);
-        calls.push(Call::FrameNew(1));
-        calls.extend(vec![Call::AddFrame; 32 - threes - (bytes - 32) % 2]);
+        let (threes, twos) = ((bytes - 32) / 2, (bytes - 32) % 2);
+        let mut calls = [one, Call::FrequencyHz(0), Call::AddFrame].repeat(threes);
+        calls.extend([one, two, Call::AddFrame].repeat(twos));
+        calls.extend([one, Call::AddFrame].repeat(32 - threes - twos));
         calls.extend(last);
         calls.push(Call::AddFrame);
 
-        let mut answers = vec![0; calls.len()];
-        assert_eq!(yambelugo::current_len(&encoded(&calls), &mut answers), bytes);
+        let (list, mut answers) = (encoded(&calls), vec![0; calls.len()]);
+        assert_eq!(yambelugo::current_len(&list), bytes);
+        assert_eq!(yambelugo::answers(&list, &mut answers), calls.len());
         assert_eq!(answers.pop(), Some(answer), "after {bytes} bytes");
         assert!(answers.iter().all(|answer| *answer == 0));
         cases += 1;

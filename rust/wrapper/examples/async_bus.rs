@@ -82,7 +82,6 @@ fn image() -> Result<[u8; IMAGE], Error> {
         Call::Ramp(3, 10),
         Call::Step(1, 0),
         Call::AddSnippet,
-        Call::SnippetNew,
         Call::Step(2, 15),
         Call::AddSnippet,
         Call::FrameNew(1),
@@ -92,9 +91,8 @@ fn image() -> Result<[u8; IMAGE], Error> {
         Call::AddFrame,
         Call::AddSequence,
     ];
-    let (mut answers, mut image) = ([0; 12], [0; IMAGE]);
-    assemble(calls.map(Call::encode).as_flattened(), &mut answers, &mut image)?;
-    assert_eq!(answers, [0; 12]);
+    let mut image = [0; IMAGE];
+    assemble_strict(calls.map(Call::encode).as_flattened(), &mut image)?;
     assert_eq!(image[..12], [2, 1, 6, 7, 10, 0xAA, 0x00, 0x1F, 0x01, 0x02, 0x90, 0]);
     Ok(image)
 }

@@ -37,24 +37,33 @@ pub enum Timebase {
 
 /// One builder call, on the snippet, the frame, the sequence or the memory under construction.
 ///
-/// A list of calls is made of records of four bytes, one a call. It runs in order, on a snippet
-/// without points, a silent frame and a sequence without frames. A refused call changes nothing,
-/// and the calls after it run all the same: look at every answer.
+/// A list of calls is made of records of four bytes, one for each call ([`Call::encode`]). The calls
+/// run in order. A list begins with an empty snippet, an empty sequence and no frame:
+/// [`FrameNew`](Call::FrameNew) or [`Silence`](Call::Silence) begins one. An accepted add uses up
+/// what it added.
+///
+/// A refused call changes nothing, except that a refused `FrameNew` leaves no frame begun, and the
+/// calls after it still run. A call on a frame that is not begun is refused with
+/// `InvalidSnippetId`. Bytes that are no call (another code, or fewer than four bytes at the end of
+/// the list) count as a call that is refused with `NotSupported`.
 ///
 /// ```
 /// # use yambelugo::{Call, Error, Gain};
 /// let calls = [
-///     Call::FrameNew(16), // refused: the frame is still silence
+///     Call::FrameNew(1),
+///     Call::AddFrame,
+///     Call::FrameNew(16), // refused: no frame is begun
 ///     Call::Gain(Gain::Half),
+///     Call::AddFrame,
 /// ];
-/// let (mut answers, mut out) = ([0; 2], [0; 3]);
-/// let length = yambelugo::frame(calls.map(Call::encode).as_flattened(), &mut answers, &mut out);
-/// assert_eq!(answers, [Error::InvalidSnippetId.number(), 0]);
-/// assert_eq!(out[..length], [0x20]);
+/// let mut answers = [0; 5];
+/// assert_eq!(yambelugo::answers(calls.map(Call::encode).as_flattened(), &mut answers), 5);
+/// let refused = Error::InvalidSnippetId.number();
+/// assert_eq!(answers, [0, 0, refused, refused, refused]);
 /// ```
 #[derive(Debug, Clone, Copy, PartialEq, Eq)]
 pub enum Call {
-    /// Begins the snippet anew, without points.
+    /// Begins the snippet anew, without points. Those that were not added are discarded.
     SnippetNew,
     /// Adds a ramp of this length (1 to 8) and amplitude (0 to 15) to the snippet.
     Ramp(u8, u8),
@@ -62,9 +71,10 @@ pub enum Call {
     Step(u8, u8),
     /// Adds a point to the snippet.
     Point(PwlPoint),
-    /// Begins the frame anew, for this snippet number (1 to 15); 1 is the snippet added first.
+    /// Begins a frame for this snippet number (1 to 15); 1 is the snippet added first. If it is
+    /// refused, no frame is begun.
     FrameNew(u8),
-    /// Begins the frame anew, for silence.
+    /// Begins a frame for silence.
     Silence,
     /// Sets the frame's gain.
     Gain(Gain),
@@ -74,15 +84,13 @@ pub enum Call {
     LoopCount(u8),
     /// Sets the frame's frequency (0 to 511 Hz).
     FrequencyHz(u16),
-    /// Begins the sequence anew, without frames.
+    /// Begins the sequence anew, without frames. Those that were not added are discarded.
     SequenceNew,
-    /// Adds the frame, as it is built now, to the sequence.
+    /// Adds the frame to the sequence; then no frame is begun.
     AddFrame,
-    /// Adds the snippet, as it is built now, to the memory; the next begins with `SnippetNew`. No
-    /// call but in [`assemble`](crate::assemble).
+    /// Adds the snippet to the memory; the next snippet begins without points.
     AddSnippet,
-    /// Adds the sequence, as it is built now, to the memory; the next begins with `SequenceNew`. No
-    /// call but in [`assemble`](crate::assemble).
+    /// Adds the sequence to the memory; the next sequence begins without frames.
     AddSequence,
 }
 
@@ -115,33 +123,30 @@ impl Call {
     }
 }
 
-/// Runs the calls, builds the snippet and copies its bytes into the front of `out`, as many as
-/// fit; the full length of the snippet.
-///
-/// `answers` gets a byte for each call, as far as it goes: 0 or the number of the refusal. The
-/// other bytes of `answers` and `out` stay.
+/// Runs the calls, builds the snippet under construction and copies its bytes into the front of
+/// `out`, as many as fit; the full length of the snippet. Refused calls are left out silently:
+/// [`answers`] shows them.
 ///
 /// ```
 /// # use yambelugo::{Call, Error};
 /// let calls = [Call::Ramp(3, 10), Call::Ramp(9, 10), Call::Step(1, 0)].map(Call::encode);
-/// let (mut answers, mut out) = ([0; 3], [0; 16]);
-/// let length = yambelugo::snippet(calls.as_flattened(), &mut answers, &mut out)?;
-/// assert_eq!(answers, [0, Error::InvalidTimebase.number(), 0]);
+/// let mut out = [0; 16];
+/// let length = yambelugo::snippet(calls.as_flattened(), &mut out)?;
 /// assert_eq!(out[..length], [0xAA, 0x00]);
 /// # Ok::<(), Error>(())
 /// ```
 ///
 /// # Errors
 /// `EmptySnippet` if the snippet has no points; `out` stays then.
-pub fn snippet(calls: &[u8], answers: &mut [u8], out: &mut [u8]) -> Result<usize, Error> {
-    told(run(ffi::da728x_snippet, calls, answers, out), 65536).map(|length| length as usize)
+pub fn snippet(calls: &[u8], out: &mut [u8]) -> Result<usize, Error> {
+    built(ffi::da728x_snippet, calls, out)
 }
 
-/// Runs the calls, builds the frame and copies its bytes into the front of `out`, as many as fit;
-/// the bytes copied. `answers` is as in [`snippet`].
+/// Runs the calls, builds the frame under construction and copies its bytes into the front of `out`,
+/// as many as fit; the bytes copied. Refused calls are left out silently.
 ///
 /// ```
-/// # use yambelugo::{Call, Gain, Timebase};
+/// # use yambelugo::{Call, Error, Gain, Timebase};
 /// let calls = [
 ///     Call::FrameNew(3),
 ///     Call::Gain(Gain::Half),
@@ -149,51 +154,87 @@ pub fn snippet(calls: &[u8], answers: &mut [u8], out: &mut [u8]) -> Result<usize
 ///     Call::LoopCount(2),
 ///     Call::FrequencyHz(300),
 /// ];
-/// let (mut answers, mut out) = ([0; 5], [0; 3]);
-/// let length = yambelugo::frame(calls.map(Call::encode).as_flattened(), &mut answers, &mut out);
+/// let mut out = [0; 3];
+/// let length = yambelugo::frame(calls.map(Call::encode).as_flattened(), &mut out)?;
 /// assert_eq!(out[..length], [0x33, 0x96, 0x2C]);
+///
+/// let refused = yambelugo::frame(&Call::FrameNew(16).encode(), &mut out);
+/// assert_eq!(refused, Err(Error::InvalidSnippetId));
+/// # Ok::<(), Error>(())
 /// ```
-pub fn frame(calls: &[u8], answers: &mut [u8], out: &mut [u8]) -> usize {
-    run(ffi::da728x_frame, calls, answers, out) as usize
+///
+/// # Errors
+/// `InvalidSnippetId` if no frame is begun; `out` stays then.
+pub fn frame(calls: &[u8], out: &mut [u8]) -> Result<usize, Error> {
+    built(ffi::da728x_frame, calls, out)
 }
 
-/// Runs the calls, builds the sequence and copies its bytes into the front of `out`, as many as
-/// fit; the bytes copied. `answers` is as in [`snippet`].
+/// Runs the calls, builds the sequence under construction and copies its bytes into the front of
+/// `out`, as many as fit; the bytes copied. Refused calls are left out silently.
 ///
 /// ```
 /// # use yambelugo::{Call, Error};
-/// let calls = [Call::FrameNew(1), Call::AddFrame, Call::LoopCount(2), Call::AddFrame];
-/// let calls = calls.map(Call::encode);
-/// let (mut answers, mut out) = ([0; 4], [0; 96]);
-/// let length = yambelugo::sequence(calls.as_flattened(), &mut answers, &mut out)?;
+/// let calls = [
+///     Call::FrameNew(1),
+///     Call::AddFrame,
+///     Call::FrameNew(1),
+///     Call::LoopCount(2),
+///     Call::AddFrame,
+/// ];
+/// let mut out = [0; 96];
+/// let length = yambelugo::sequence(calls.map(Call::encode).as_flattened(), &mut out)?;
 /// assert_eq!(out[..length], [0x01, 0x01, 0x90]);
-/// assert_eq!(yambelugo::sequence(&[], &mut [], &mut out), Err(Error::EmptySequence));
+/// assert_eq!(yambelugo::sequence(&[], &mut out), Err(Error::EmptySequence));
 /// # Ok::<(), Error>(())
 /// ```
 ///
 /// # Errors
 /// `EmptySequence` if the sequence has no frames; `out` stays then.
-pub fn sequence(calls: &[u8], answers: &mut [u8], out: &mut [u8]) -> Result<usize, Error> {
-    told(run(ffi::da728x_sequence, calls, answers, out), 65536).map(|length| length as usize)
+pub fn sequence(calls: &[u8], out: &mut [u8]) -> Result<usize, Error> {
+    built(ffi::da728x_sequence, calls, out)
 }
 
-/// Runs the calls; how many bytes (0 to 96) the sequence under construction has. `answers` is as in
-/// [`snippet`].
+/// Runs the calls; how many bytes (0 to 96) the sequence under construction has.
 ///
 /// ```
 /// # use yambelugo::Call;
-/// let calls = [Call::FrequencyHz(170), Call::AddFrame, Call::Silence, Call::AddFrame];
-/// assert_eq!(yambelugo::current_len(calls.map(Call::encode).as_flattened(), &mut []), 3 + 1);
+/// let calls = [
+///     Call::FrameNew(1),
+///     Call::FrequencyHz(170),
+///     Call::AddFrame,
+///     Call::Silence,
+///     Call::AddFrame,
+/// ];
+/// assert_eq!(yambelugo::current_len(calls.map(Call::encode).as_flattened()), 3 + 1);
 /// ```
-pub fn current_len(calls: &[u8], answers: &mut [u8]) -> usize {
-    let (list, len) = (calls.as_ptr(), calls.len());
-    // SAFETY: each pointer and length is a borrowed slice; the mutable one overlaps no other.
-    unsafe { ffi::da728x_current_len(list, len, answers.as_mut_ptr(), answers.len()) }
+pub fn current_len(calls: &[u8]) -> usize {
+    // SAFETY: the pointer and length are a borrowed slice.
+    unsafe { ffi::da728x_current_len(calls.as_ptr(), calls.len()) }
 }
 
-fn run(build: ffi::Build, calls: &[u8], answers: &mut [u8], out: &mut [u8]) -> u32 {
+/// Runs the calls and stores the answer to each, 0 or the number of its refusal, into the front of
+/// `answers`, as many as fit; how many calls the list has.
+///
+/// ```
+/// # use yambelugo::{Call, Error};
+/// let mut list = [Call::Ramp(3, 10), Call::Ramp(9, 10)].map(Call::encode).as_flattened().to_vec();
+/// list.extend([2, 3]); // cut short
+/// let mut answers = [255; 4];
+/// assert_eq!(yambelugo::answers(&list, &mut answers), 3);
+/// let refused = [Error::InvalidTimebase, Error::NotSupported].map(Error::number);
+/// assert_eq!(answers, [0, refused[0], refused[1], 255]);
+/// ```
+pub fn answers(calls: &[u8], answers: &mut [u8]) -> usize {
     let (list, len) = (calls.as_ptr(), calls.len());
-    let (told, told_len) = (answers.as_mut_ptr(), answers.len());
-    // SAFETY: each pointer and length is a borrowed slice; the mutable ones overlap no other.
-    unsafe { build(list, len, told, told_len, out.as_mut_ptr(), out.len()) }
+    // SAFETY: each pointer and length is a borrowed slice; the mutable one overlaps no other.
+    let count = unsafe { ffi::da728x_answers(list, len, answers.as_mut_ptr(), answers.len()) };
+    debug_assert_eq!(count, calls.len().div_ceil(4));
+    count
+}
+
+fn built(build: ffi::Build, calls: &[u8], out: &mut [u8]) -> Result<usize, Error> {
+    let (list, len) = (calls.as_ptr(), calls.len());
+    // SAFETY: each pointer and length is a borrowed slice; the mutable one overlaps no other.
+    let answer = unsafe { build(list, len, out.as_mut_ptr(), out.len()) };
+    told(answer, 65536).map(|length| length as usize)
 }

@@ -8,9 +8,9 @@ use core::fmt;
 ///
 /// ```
 /// # use yambelugo::{Call, Error};
-/// let mut answers = [0; 1];
-/// let refused = yambelugo::snippet(&Call::Ramp(3, 16).encode(), &mut answers, &mut []);
-/// assert_eq!(refused, Err(Error::EmptySnippet));
+/// let (calls, mut answers) = (Call::Ramp(3, 16).encode(), [0; 1]);
+/// assert_eq!(yambelugo::snippet(&calls, &mut []), Err(Error::EmptySnippet));
+/// assert_eq!(yambelugo::answers(&calls, &mut answers), 1);
 /// assert_eq!(Error::from_number(answers[0], 0), Some(Error::InvalidAmplitude));
 /// assert_eq!(Error::InvalidAmplitude.to_string(), "the amplitude of a point is above 15");
 /// ```
@@ -20,7 +20,7 @@ pub enum Error {
     InvalidTimebase,
     /// 2: a point's amplitude is above 15.
     InvalidAmplitude,
-    /// 3: a snippet number is 0 or above 15.
+    /// 3: a snippet number is 0 or above 15, or no frame is begun.
     InvalidSnippetId,
     /// 4: a loop count is above 15.
     InvalidLoopCount,
@@ -42,7 +42,7 @@ pub enum Error {
     WrongMode,
     /// 13: no trigger is given in ETWM mode.
     MissingTriggerConfigInEtwmMode,
-    /// 14: the chip or the driver does not support this.
+    /// 14: the chip or the driver does not support this; a record that is no builder call.
     NotSupported,
     /// 15: no settings are stored yet.
     NotConfigured,
@@ -125,7 +125,7 @@ impl fmt::Display for Error {
         f.write_str(match self {
             Error::InvalidTimebase => "the length of a point is not 1 to 8",
             Error::InvalidAmplitude => "the amplitude of a point is above 15",
-            Error::InvalidSnippetId => "a snippet number is not 1 to 15",
+            Error::InvalidSnippetId => "a snippet number is not 1 to 15, or no frame is begun",
             Error::InvalidLoopCount => "a loop count is above 15",
             Error::InvalidFrequency => "the frequency of a frame is above 511 Hz",
             Error::TooManySnippets => "more than 16 points or 15 snippets",

@@ -13,7 +13,7 @@ use crate::ffi;
 ///
 /// // Added to a snippet, it is the same as the call `Call::Ramp(3, 10)`.
 /// let mut out = [0; 16];
-/// let length = yambelugo::snippet(&Call::Point(point).encode(), &mut [], &mut out)?;
+/// let length = yambelugo::snippet(&Call::Point(point).encode(), &mut out)?;
 /// assert_eq!(out[..length], [0xAA]);
 /// # Ok::<(), Error>(())
 /// ```

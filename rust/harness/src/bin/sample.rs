@@ -9,21 +9,23 @@
 use da728x::waveform::PwlPoint;
 use harness::bus::{Script, Wire, kind};
 use harness::driver::{Operation, Outcome, Published, Value, revision};
-use harness::generate::{any_call, any_frame_call, any_point, frame, good_point, list, with_noise};
-use harness::images::{Lists, added, hundred, plain};
+use harness::generate::{add_frames, any_call, any_frame_call, any_point, frame, good_point};
+use harness::generate::{list, with_noise};
+use harness::images::{Lists, added, frame_word, hundred, plain};
 use harness::lists::MARKER;
-use harness::oracle::{Builders, number, point};
+use harness::oracle::{Builders, NOT_BEGUN, number, point};
 use harness::patterns;
 use harness::random::Random;
+use harness::raw::LISTS;
 use harness::registers::{ADDRESSES, Field, GROUPS};
 use harness::settings::{MEMORY_TIMEBASES, Settings, VARIANTS, near};
-use harness::{GAINS, TIMEBASES, text};
+use harness::text;
 use std::fmt::Write;
-use yambelugo::{Call, Frame, OperationMode, Reply, Variant};
+use yambelugo::{Call, OperationMode, Reply, Variant};
 
 /// Each kind of case: its number, the name of its C function without `da728x_`, and how many there
 /// are. A kind's cases depend on nothing but its number and how many they are.
-const KINDS: [(u8, &str, usize); 37] = [
+const KINDS: [(u8, &str, usize); 40] = [
     (0x01, "point", 300),
     (0x02, "point_is_ramp", 256),
     (0x03, "point_timebases", 256),
@@ -32,8 +34,11 @@ const KINDS: [(u8, &str, usize); 37] = [
     (0x06, "frame", 240),
     (0x07, "sequence", 200),
     (0x08, "current_len", 160),
+    (0x14, "answers", 200),
+    (0x15, "assemble_strict", 160),
     (0x09, "assemble", 80),
     (0x0A, "read_counts, read_point, read_frame", 160),
+    (0x16, "read_lists", 80),
     (0x0B, "register_addresses", ADDRESS_ROOMS.len()),
     (0x0C, "read_interrupts", 40),
     (0x0D, "read_actuator", 40),
@@ -80,11 +85,11 @@ first field is the number of the kind. Every lent byte is A5 before, and the byt
 as the field has that shows them after. Numbers have the most significant byte first. Functions,
 layouts and words are those of include/da728x.h.
 
-Kinds 01 to 09 and 0B to 13: the numbers among the arguments, the calls, the word answered, the
-answers to the calls, the other bytes lent.
-Kind 0A: nothing, the image, the word of read_counts, then two bytes of read_point for each point of
-snippet 0, of 1 and so on up to the first snippet that there is not, each with the answer past its
-last point; then seven bytes of read_frame for each frame likewise.
+Kinds 01 to 09 and 0B to 16: the numbers among the arguments, the calls or the image, the word
+answered, the bytes lent.
+Kind 0A: the image, the word of read_counts, then three bytes of read_point for each point of snippet
+0, of 1 and so on up to the first snippet that there is not, each with the answer past its last
+point; then eight bytes of read_frame for each frame likewise.
 Kinds 20 to 31, sessions: the record, the numbers among the arguments, the settings or the image, the
 number of the refusal or 00, the exchanges, the word that the last answer is told, the read buffer,
 the record handed back, the word of result. An exchange is the chip address; how many bytes are
@@ -149,8 +154,11 @@ fn fields(kind: u8, at: usize, random: &mut Random) -> Vec<Vec<u8>> {
         0x01 => made_point(random),
         0x02..=0x04 => point_field(kind, at as u8),
         0x05..=0x08 => item(kind, random),
+        0x14 => answers(random),
+        0x15 => strictly(random),
         0x09 => assembled(random),
         0x0A => read(at, random),
+        0x16 => listed(at, random),
         0x0B => copied(&[], ADDRESSES.iter().map(|it| it.1).collect(), ADDRESS_ROOMS[at]),
         0x0C..=0x13 => register_fields(kind, random),
         0x20 => made(random),
@@ -179,7 +187,7 @@ fn made_point(random: &mut Random) -> Vec<Vec<u8>> {
         Ok(point) => u64::from(point.as_byte()),
         Err(error) => 256 * u64::from(number(&error)),
     };
-    vec![vec![ramp, timebases, amplitude], vec![], bytes_of(word), vec![], vec![]]
+    vec![vec![ramp, timebases, amplitude], vec![], bytes_of(word), vec![]]
 }
 
 fn point_field(kind: u8, byte: u8) -> Vec<Vec<u8>> {
@@ -189,7 +197,7 @@ fn point_field(kind: u8, byte: u8) -> Vec<Vec<u8>> {
         0x03 => point.timebases(),
         _ => point.amplitude(),
     };
-    vec![vec![byte], vec![], vec![field], vec![], vec![]]
+    vec![vec![byte], vec![], vec![field], vec![]]
 }
 
 // ---- builder calls
@@ -198,21 +206,21 @@ fn point_field(kind: u8, byte: u8) -> Vec<Vec<u8>> {
 fn item(kind: u8, random: &mut Random) -> Vec<Vec<u8>> {
     let calls = match kind {
         0x05 => snippet_calls(random),
-        0x06 => (0..random.below(9)).map(|_| frame_call(random)).collect(),
+        0x06 => frame_calls(random),
         _ => sequence_calls(random),
     };
     let calls = with_noise(calls, random);
-    let list = list(&calls, 12, random);
+    let list = list(&calls, random);
     let mut builders = Builders::default();
-    let answered = calls.iter().map(|call| match call {
-        None | Some(Call::AddSnippet | Call::AddSequence) => 0,
-        Some(call) => builders.call(*call),
-    });
-    let answers = answers(&answered.collect::<Vec<u8>>(), random);
+    builders.run(&calls);
+    let refused = |error| number(&error);
     let encode = |out: &mut [u8]| match kind {
-        0x05 => builders.snippet.build().map(|it| it.encode_into(out)),
-        0x06 => builders.frame.clone().build().map(|it| it.encode_into(out)),
-        0x07 => builders.sequence.build().map(|it| it.encode_into(out)),
+        0x05 => builders.snippet.build().map(|it| it.encode_into(out)).map_err(refused),
+        0x06 => match builders.frame.clone() {
+            Some(frame) => frame.build().map(|it| it.encode_into(out)).map_err(refused),
+            None => Err(NOT_BEGUN),
+        },
+        0x07 => builders.sequence.build().map(|it| it.encode_into(out)).map_err(refused),
         _ => Ok(builders.sequence.current_len()),
     };
     let longest = if kind == 0x08 { 0 } else { encode(&mut [0; 100]).unwrap_or(2) };
@@ -222,9 +230,16 @@ fn item(kind: u8, random: &mut Random) -> Vec<Vec<u8>> {
     };
     let word = match encode(&mut out) {
         Ok(length) => length as u64,
-        Err(error) => 65536 * u64::from(number(&error)),
+        Err(number) => 65536 * u64::from(number),
     };
-    vec![vec![], list, bytes_of(word), answers, out]
+    vec![vec![], list, bytes_of(word), out]
+}
+
+/// Calls on a frame, which is mostly begun first.
+fn frame_calls(random: &mut Random) -> Vec<Call> {
+    let begun = random.chance(75).then(|| Call::FrameNew(random.within(1, 15) as u8));
+    let more = random.below(9);
+    begun.into_iter().chain((0..more).map(|_| frame_call(random))).collect()
 }
 
 fn snippet_calls(random: &mut Random) -> Vec<Call> {
@@ -246,8 +261,7 @@ fn sequence_calls(random: &mut Random) -> Vec<Call> {
     let mut calls = Vec::new();
     if random.chance(15) {
         // About 32 frames or 96 bytes.
-        calls.extend(frame(random.within(1, 3), random));
-        calls.extend(vec![Call::AddFrame; random.within(31, 34)]);
+        calls.extend(add_frames(random.within(31, 34), random.within(1, 3), random));
     }
     for _ in 0..random.below(5) {
         match random.below(10) {
@@ -262,14 +276,23 @@ fn sequence_calls(random: &mut Random) -> Vec<Call> {
     calls
 }
 
-/// The bytes lent for the answers: mostly as many as there are.
-fn answers(answered: &[u8], random: &mut Random) -> Vec<u8> {
+/// The answers to any calls: mostly as many bytes are lent as there are calls.
+fn answers(random: &mut Random) -> Vec<Vec<u8>> {
+    let calls = match random.below(5) {
+        0 => snippet_calls(random),
+        1 => frame_calls(random),
+        2 => sequence_calls(random),
+        3 => patterns::mixed(random),
+        _ => patterns::small(random),
+    };
+    let calls = with_noise(calls, random);
+    let list = list(&calls, random);
+    let answered = Builders::default().run(&calls);
     let all = answered.len();
-    let room = random.pick(&[all, all, all, all + 1, all.saturating_sub(1), 0]);
-    let mut answers = lent(room);
-    let copied = all.min(room);
+    let mut answers = lent(random.pick(&[all, all, all, all + 1, all.saturating_sub(1), 0]));
+    let copied = all.min(answers.len());
     answers[..copied].copy_from_slice(&answered[..copied]);
-    answers
+    vec![vec![], list, bytes_of(all as u64), answers]
 }
 
 // ---- images
@@ -287,26 +310,49 @@ fn pattern(random: &mut Random) -> Vec<Option<Call>> {
 /// Makes the calls; what each answered, and the image.
 fn image_of(calls: &[Option<Call>]) -> (Vec<u8>, Result<[u8; 100], u8>) {
     let mut builders = Builders::default();
-    let answered = calls.iter().map(|call| call.map_or(0, |call| builders.call(call))).collect();
+    let answered = builders.run(calls);
     let built = builders.memory.build();
     (answered, built.map(|memory| hundred(&memory)).map_err(|error| number(&error)))
 }
 
 fn assembled(random: &mut Random) -> Vec<Vec<u8>> {
     let calls = pattern(random);
-    let list = list(&calls, 14, random);
-    let (answered, built) = image_of(&calls);
-    let answers = answers(&answered, random);
-    let (told, image) = match built {
-        Err(number) => (number, lent(random.pick(&[0, 4]))),
-        Ok(image) => {
-            let mut out = lent(random.pick(&[100, 100, 100, 101, 99, 20, 0]));
-            let copied = out.len().min(100);
-            out[..copied].copy_from_slice(&image[..copied]);
-            (0, out)
+    let list = list(&calls, random);
+    let (_, built) = image_of(&calls);
+    let image = lent_image(built.ok(), random);
+    vec![vec![], list, vec![built.err().unwrap_or(0)], image]
+}
+
+/// Half of the lists are without a refused call, most of the others with one.
+fn strictly(random: &mut Random) -> Vec<Vec<u8>> {
+    let mut calls = pattern(random);
+    if random.chance(80) {
+        let some = calls.into_iter().flatten().collect::<Vec<_>>();
+        calls = patterns::mended(&some).into_iter().map(Some).collect();
+        if random.chance(40) {
+            let other = random.chance(70).then(|| any_call(random));
+            calls.insert(random.within(0, calls.len()), other);
         }
+    }
+    let list = list(&calls, random);
+    let (answered, built) = image_of(&calls);
+    let word = match answered.iter().position(|answer| *answer != 0) {
+        Some(at) => answered[at] as usize + 256 * (at + 1),
+        None => built.err().unwrap_or(0).into(),
     };
-    vec![vec![], list, vec![told], answers, image]
+    let image = lent_image(built.ok().filter(|_| word == 0), random);
+    vec![vec![], list, bytes_of(word as u64), image]
+}
+
+/// The bytes lent for an image, if it is made.
+fn lent_image(image: Option<[u8; 100]>, random: &mut Random) -> Vec<u8> {
+    let Some(image) = image else {
+        return lent(random.pick(&[0, 4]));
+    };
+    let mut out = lent(random.pick(&[100, 100, 100, 101, 99, 20, 0]));
+    let copied = out.len().min(100);
+    out[..copied].copy_from_slice(&image[..copied]);
+    out
 }
 
 /// An image that the Rust builds; what was added is what is read in it.
@@ -357,38 +403,54 @@ fn change(image: &mut [u8; 100], random: &mut Random) {
     };
 }
 
+/// What these bytes hold; the Rust makes the same bytes of it.
+fn held(image: &[u8]) -> Option<Lists> {
+    let lists = plain(image)?;
+    assert_eq!(lists.published(false).unwrap().as_slice(), image, "{image:02X?}");
+    Some(lists)
+}
+
+/// How many snippets and sequences there are, in one word, or its refusal.
+fn counts(lists: &Option<Lists>) -> Vec<u8> {
+    let counts = lists.as_ref().map(|it| 256 * it.snippets.len() + it.sequences.len());
+    bytes_of(counts.unwrap_or(18 << 16) as u64)
+}
+
 fn read(at: usize, random: &mut Random) -> Vec<Vec<u8>> {
     let image = nearly(at, random);
-    let Some(lists) = plain(&image) else {
+    let lists = held(&image);
+    let word = counts(&lists);
+    let Some(Lists { snippets, sequences }) = lists else {
         let refused = |zeros| [vec![18], vec![0; zeros]].concat();
-        return vec![vec![], image, refused(0), refused(1), refused(6)];
+        return vec![image, word, refused(2), refused(7)];
     };
-    assert_eq!(lists.published(false).unwrap().as_slice(), image, "{image:02X?}");
-    let Lists { snippets, sequences } = &lists;
-    let counts = 256 * snippets.len() + sequences.len();
-    let points = walked(snippets, 2, |byte| (*byte).into());
-    vec![vec![], image, bytes_of(counts as u64), points, walked(sequences, 7, frame_word)]
+    let points = walked(&snippets, 3, 256, |byte| (*byte).into());
+    vec![image, word, points, walked(&sequences, 8, 1 << 48, frame_word)]
+}
+
+fn listed(at: usize, random: &mut Random) -> Vec<Vec<u8>> {
+    let image = nearly(at, random);
+    let lists = held(&image);
+    let mut out = lent(random.pick(&[LISTS, LISTS, LISTS, LISTS + 1, LISTS - 1, 110, 0]));
+    if let Some(lists) = &lists {
+        let copied = out.len().min(LISTS);
+        out[..copied].copy_from_slice(&lists.laid()[..copied]);
+    } else {
+        out.truncate(4);
+    }
+    vec![vec![], image, counts(&lists), out]
 }
 
 /// The word of every item in so many bytes, with that of no item behind each list and behind all.
-fn walked<T>(lists: &[Vec<T>], width: usize, word: fn(&T) -> u64) -> Vec<u8> {
+fn walked<T>(lists: &[Vec<T>], width: usize, none: u64, word: fn(&T) -> u64) -> Vec<u8> {
     let wide = |word: u64| word.to_be_bytes()[8 - width..].to_vec();
-    let none = wide(1 << (8 * (width - 1)));
     let mut bytes = Vec::new();
     for list in lists {
         bytes.extend(list.iter().flat_map(|item| wide(word(item))));
-        bytes.extend(&none);
+        bytes.extend(wide(none));
     }
-    bytes.extend(&none);
+    bytes.extend(wide(none));
     bytes
-}
-
-fn frame_word(frame: &Frame) -> u64 {
-    let gain = GAINS.iter().position(|it| *it == frame.gain).unwrap() as u64;
-    let timebase = TIMEBASES.iter().position(|it| *it == frame.timebase).unwrap() as u64;
-    let loops = u64::from(frame.loop_count.unwrap_or(255));
-    let frequency = u64::from(frame.frequency_hz.unwrap_or(65535));
-    u64::from(frame.snippet) | gain << 8 | timebase << 16 | loops << 24 | frequency << 32
 }
 
 // ---- registers
@@ -398,7 +460,7 @@ fn copied(arguments: &[u8], list: Vec<u8>, room: usize) -> Vec<Vec<u8>> {
     let mut out = lent(room);
     let copied = list.len().min(room);
     out[..copied].copy_from_slice(&list[..copied]);
-    vec![arguments.to_vec(), vec![], bytes_of(copied as u64), vec![], out]
+    vec![arguments.to_vec(), vec![], bytes_of(copied as u64), out]
 }
 
 fn register_fields(kind: u8, random: &mut Random) -> Vec<Vec<u8>> {

@@ -3,8 +3,11 @@
 /// Counts where there is nothing to tell: no such point or frame, a session that has ended, no record, no result.
 pub const NOTHING: u64 = 20;
 
-/// Columns of a tally: done, the refusals 1 to 19, nothing to tell.
-pub const OUTCOMES: usize = 21;
+/// Added to a refusal of `build`, where those of calls are told too.
+pub const OF_BUILD: u64 = 13;
+
+/// Columns of a tally: done, the refusals 1 to 19, nothing to tell, `build`'s 8, 9 and 10.
+pub const OUTCOMES: usize = 24;
 
 macro_rules! functions {
     ($($name:ident: $($number:expr),*;)*) => {
@@ -13,7 +16,7 @@ macro_rules! functions {
         pub enum Function { $($name),* }
 
         /// Each function, its name, and every number that it can tell: 0 where it is done.
-        pub const FUNCTIONS: [(Function, &str, &[u64]); 43] =
+        pub const FUNCTIONS: [(Function, &str, &[u64]); 46] =
             [$((Function::$name, stringify!($name), &[$($number),*])),*];
     };
 }
@@ -24,13 +27,16 @@ functions! {
     da728x_point_timebases: 0;
     da728x_point_amplitude: 0;
     da728x_snippet: 0, 9;
-    da728x_frame: 0;
+    da728x_frame: 0, 3;
     da728x_sequence: 0, 10;
     da728x_current_len: 0;
+    da728x_answers: 0;
+    da728x_assemble_strict: 0, 1, 2, 3, 4, 5, 6, 7, 8, 9, 10, 14, OF_BUILD + 8, OF_BUILD + 9, OF_BUILD + 10;
     da728x_assemble: 0, 8, 9, 10;
     da728x_read_counts: 0, 18;
     da728x_read_point: 0, 18, NOTHING;
     da728x_read_frame: 0, 18, NOTHING;
+    da728x_read_lists: 0, 18;
     da728x_register_addresses: 0;
     da728x_read_interrupts: 0;
     da728x_read_actuator: 0;
@@ -74,32 +80,24 @@ impl Function {
     }
 }
 
-/// What a builder call answers, by its code; other codes are no call.
+/// What a builder call answers, by its code; other codes are no call, as 0 is.
 const CALLS: [&[u8]; 15] = [
-    &[0],
+    &[14],
     &[0],
     &[0, 1, 2, 6],
     &[0, 1, 2, 6],
     &[0, 6],
     &[0, 3],
     &[0],
+    &[0, 3],
+    &[0, 3],
+    &[0, 3, 4],
+    &[0, 3, 5],
     &[0],
-    &[0],
-    &[0, 4],
-    &[0, 5],
-    &[0],
-    &[0, 7, 8],
+    &[0, 3, 7, 8],
     &[0, 6, 9],
     &[0, 7, 10],
 ];
-
-/// What a builder call of this code can answer; those that add to a memory are no calls outside `da728x_assemble`.
-pub fn answers(code: u8, assembling: bool) -> &'static [u8] {
-    match code {
-        13 | 14 if !assembling => &[0],
-        _ => CALLS.get(usize::from(code)).copied().unwrap_or(&[0]),
-    }
-}
 
 /// How many calls were made, by function and outcome, and what builder calls answered.
 pub struct Tally {
@@ -123,12 +121,14 @@ impl Tally {
         self.functions[function as usize][told as usize] += 1;
     }
 
-    /// Counts what a builder call answered; it has to be listed.
-    pub fn count_call(&mut self, code: u8, assembling: bool, told: u8) {
-        let listed = answers(code, assembling);
-        assert!(listed.contains(&told), "builder call {code} answers {told}, which is not listed");
-        let code = if listed.len() == 1 { 0 } else { code };
-        self.calls[usize::from(code)][usize::from(told)] += 1;
+    /// Counts what a record of 1 to 4 bytes answered; it has to be listed.
+    pub fn count_call(&mut self, record: &[u8], told: u8) {
+        let code = match record {
+            [code @ 0..15, _, _, _] => usize::from(*code),
+            _ => 0,
+        };
+        assert!(CALLS[code].contains(&told), "{record:?} answers {told}, which is not listed");
+        self.calls[code][usize::from(told)] += 1;
     }
 
     pub fn calls(&self) -> u64 {
@@ -147,7 +147,7 @@ impl Tally {
                 assert!(seen > 0, "{name}: {told} was not seen");
             }
         }
-        for (code, listed) in CALLS.iter().enumerate().filter(|(_, listed)| listed.len() > 1) {
+        for (code, listed) in CALLS.iter().enumerate() {
             for told in *listed {
                 let seen = self.calls[code][usize::from(*told)];
                 assert!(seen > 0, "builder call {code}: {told} was not seen");
@@ -163,6 +163,7 @@ impl Tally {
             let outcomes = outcomes.map(|(told, seen)| match told {
                 0 => format!("done {seen}"),
                 _ if told as u64 == NOTHING => format!("nothing {seen}"),
+                _ if told as u64 > NOTHING => format!("build's {}: {seen}", told as u64 - OF_BUILD),
                 _ => format!("{told}: {seen}"),
             });
             outcomes.collect::<Vec<_>>().join(", ")
@@ -173,7 +174,7 @@ impl Tally {
         });
         let calls = self.calls.iter().enumerate().filter(|(_, seen)| seen.iter().sum::<u64>() > 0);
         let calls = calls.map(|(code, seen)| match code {
-            0 => format!("builder calls that are never refused: {}", row(seen)),
+            0 => format!("records that are no builder call: {}", row(seen)),
             _ => format!("builder call {code}: {}", row(seen)),
         });
         functions.chain(calls).collect()

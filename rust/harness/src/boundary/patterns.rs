@@ -2,17 +2,16 @@
 
 use super::choices::Choices;
 use super::functions::Function::{self, *};
-use super::functions::NOTHING;
+use super::functions::{NOTHING, OF_BUILD};
 use super::hands::{Hands, lent, shown};
 use crate::encoded;
-use crate::generate::{any_call, frame, good_point, list, with_noise};
-use crate::patterns::KINDS;
-use crate::raw::ffi;
+use crate::generate::{add_frames, any_call, good_point, list, with_noise};
+use crate::images::plain;
+use crate::patterns::{KINDS, mended};
+use crate::random::Random;
+use crate::raw::{LISTS, ffi};
 use crate::registers::{ADDRESSES, GROUPS};
 use yambelugo::Call;
-
-/// The last code of a builder call.
-const LAST: u8 = 14;
 
 /// How many bytes of an image are written.
 const IMAGE: usize = 100;
@@ -42,10 +41,16 @@ impl Patterns {
             da728x_frame => self.build(function, ffi::da728x_frame, choices, hands),
             da728x_sequence => self.build(function, ffi::da728x_sequence, choices, hands),
             da728x_current_len => self.current_len(choices, hands),
+            da728x_answers => {
+                let calls = self.list(choices);
+                answers(&calls, choices, hands);
+            }
+            da728x_assemble_strict => self.assemble_strict(choices, hands),
             da728x_assemble => self.assemble(choices, hands),
             da728x_read_counts => self.read_counts(choices, hands),
             da728x_read_point => self.read_point(choices, hands),
             da728x_read_frame => self.read_frame(choices, hands),
+            da728x_read_lists => self.read_lists(choices, hands),
             _ => register(function, choices, hands),
         }
     }
@@ -99,13 +104,11 @@ impl Patterns {
         hands: &mut Hands,
     ) {
         let calls = self.list(choices);
-        let (answers, out) = (answers(&calls, choices), out(choices, 96));
-        let slices = [shown(&calls), lent(&answers), lent(&out)];
-        let told = hands.call(function, choices, slices, |[list, answers, out]| {
-            // SAFETY: each pointer and length is a slice; the mutable ones overlap no other.
-            u64::from(unsafe { build(list.0, list.1, answers.0, answers.1, out.0, out.1) })
+        let out = out(choices, 96);
+        let told = hands.call(function, choices, [shown(&calls), lent(&out)], |[list, out]| {
+            // SAFETY: each pointer and length is a slice; the mutable one overlaps no other.
+            u64::from(unsafe { build(list.0, list.1, out.0, out.1) })
         });
-        check_answers(function, &calls, hands);
         let (number, written) = (told >> 16, told as usize & 0xFFFF);
         match (function, number) {
             (_, 1..) => assert_eq!(written, 0, "{}", function.name()),
@@ -115,37 +118,59 @@ impl Patterns {
             }
             _ => assert!(written <= out.len() && (out.len().min(1)..=96).contains(&written)),
         }
-        hands.assert_rest_stays(function, 2, written);
+        hands.assert_rest_stays(function, 1, written);
         hands.tally.count(function, number);
     }
 
     fn current_len(&mut self, choices: &mut Choices, hands: &mut Hands) {
         let calls = self.list(choices);
-        let answers = answers(&calls, choices);
-        let slices = [shown(&calls), lent(&answers)];
-        let told = hands.call(da728x_current_len, choices, slices, |[list, answers]| {
-            // SAFETY: each pointer and length is a slice; the mutable one overlaps no other.
-            unsafe { ffi::da728x_current_len(list.0, list.1, answers.0, answers.1) as u64 }
+        let told = hands.call(da728x_current_len, choices, [shown(&calls)], |[(list, len)]| {
+            // SAFETY: the pointer and length are a slice.
+            unsafe { ffi::da728x_current_len(list, len) as u64 }
         });
-        check_answers(da728x_current_len, &calls, hands);
         assert!(told <= 96, "a sequence of {told} bytes");
         hands.tally.count(da728x_current_len, 0);
     }
 
+    fn assemble_strict(&mut self, choices: &mut Choices, hands: &mut Hands) {
+        let calls = self.list(choices);
+        let image = out(choices, IMAGE);
+        let slices = [shown(&calls), lent(&image)];
+        let told = hands.call(da728x_assemble_strict, choices, slices, |[list, (image, len)]| {
+            // SAFETY: each pointer and length is a slice; the mutable one overlaps no other.
+            unsafe { ffi::da728x_assemble_strict(list.0, list.1, image, len).into() }
+        });
+        self.assembled(da728x_assemble_strict, told == 0, choices, hands);
+        let answered = answers(&calls, choices, hands);
+        let (number, place) = (told % 256, told as usize / 256);
+        match answered.iter().position(|answer| *answer != 0) {
+            Some(at) => assert_eq!((number, place), (answered[at].into(), at + 1)),
+            None => assert!(
+                place == 0 || (answered.len() + 1..=calls.len().div_ceil(4)).contains(&place)
+            ),
+        }
+        assert!(place == 0 || number > 0, "a place without a refusal");
+        let of_build = if told > 0 && place == 0 { OF_BUILD } else { 0 };
+        hands.tally.count(da728x_assemble_strict, number + of_build);
+    }
+
     fn assemble(&mut self, choices: &mut Choices, hands: &mut Hands) {
         let calls = self.list(choices);
-        let (answers, image) = (answers(&calls, choices), out(choices, IMAGE));
-        let slices = [shown(&calls), lent(&answers), lent(&image)];
-        let told = hands.call(da728x_assemble, choices, slices, |[list, answers, image]| {
-            let (image, len) = image;
-            // SAFETY: each pointer and length is a slice; the mutable ones overlap no other.
-            unsafe { ffi::da728x_assemble(list.0, list.1, answers.0, answers.1, image, len).into() }
+        let image = out(choices, IMAGE);
+        let slices = [shown(&calls), lent(&image)];
+        let told = hands.call(da728x_assemble, choices, slices, |[list, (image, len)]| {
+            // SAFETY: each pointer and length is a slice; the mutable one overlaps no other.
+            unsafe { ffi::da728x_assemble(list.0, list.1, image, len).into() }
         });
-        check_answers(da728x_assemble, &calls, hands);
-        hands.assert_rest_stays(da728x_assemble, 2, if told == 0 { IMAGE } else { 0 });
+        self.assembled(da728x_assemble, told == 0, choices, hands);
         hands.tally.count(da728x_assemble, told);
-        let (_, image) = hands.slice(2);
-        if told == 0 && image.len() == IMAGE {
+    }
+
+    /// Looks at what is left of the image, and keeps one that was made.
+    fn assembled(&mut self, by: Function, made: bool, choices: &mut Choices, hands: &mut Hands) {
+        hands.assert_rest_stays(by, 1, if made { IMAGE } else { 0 });
+        let (_, image) = hands.slice(1);
+        if made && image.len() == IMAGE {
             assert!((1..=15).contains(&image[0]) && (1..=16).contains(&image[1]));
             let at = choices.below(self.images.len());
             self.images[at].copy_from_slice(image);
@@ -168,8 +193,8 @@ impl Patterns {
             0..256 => 0,
             256 => NOTHING,
             _ => {
-                assert_eq!(told % 256, 0, "{told} is told of a point");
-                told / 256
+                assert_eq!(told % 65536, 0, "{told} is told of a point");
+                told / 65536
             }
         };
         if let Some((snippets, _)) = found(&image, number, choices, hands) {
@@ -186,15 +211,15 @@ impl Patterns {
             // SAFETY: the pointer and length are a slice.
             unsafe { ffi::da728x_read_frame(image, len, sequence, frame) }
         });
-        let [snippet, gain, timebase, loops, low, high, number, rest] = told.to_le_bytes();
-        assert_eq!(rest, 0);
-        if number == 0 {
+        let [snippet, gain, timebase, loops, low, high, none, number] = told.to_le_bytes();
+        assert!(none <= 1 && (none == 0 || number == 0), "{told:X} is told of a frame");
+        if (none, number) == (0, 0) {
             assert!(snippet <= 15 && gain <= 3 && timebase <= 3 && (loops <= 15 || loops == 255));
             assert!(matches!(u16::from_le_bytes([low, high]), 0..=511 | 65535));
         } else {
             assert_eq!(told << 16, 0);
         }
-        let number = if number == 1 { NOTHING } else { number.into() };
+        let number = if none == 1 { NOTHING } else { number.into() };
         if let Some((_, sequences)) = found(&image, number, choices, hands) {
             assert!(number != 0 || sequence < sequences && frame < 32);
             assert!(
@@ -203,6 +228,28 @@ impl Patterns {
             );
         }
         hands.tally.count(da728x_read_frame, number);
+    }
+
+    /// What is written is what document 01 reads in these bytes.
+    fn read_lists(&mut self, choices: &mut Choices, hands: &mut Hands) {
+        let image = self.image(choices);
+        let room = out(choices, LISTS);
+        let slices = [shown(&image), lent(&room)];
+        let told = hands.call(da728x_read_lists, choices, slices, |[image, (lists, len)]| {
+            // SAFETY: each pointer and length is a slice; the mutable one overlaps no other.
+            unsafe { ffi::da728x_read_lists(image.0, image.1, lists, len).into() }
+        });
+        let (before, after) = hands.slice(1);
+        let (mut wanted, mut word) = (before.to_vec(), 18 * 65536);
+        if let Some(lists) = plain(&image) {
+            let copied = LISTS.min(wanted.len());
+            wanted[..copied].copy_from_slice(&lists.laid()[..copied]);
+            word = 256 * lists.snippets.len() + lists.sequences.len();
+        }
+        assert_eq!(told, word as u64, "{image:02X?}");
+        assert!(wanted == after, "not the lists of {image:02X?}");
+        found(&image, told >> 16, choices, hands);
+        hands.tally.count(da728x_read_lists, told >> 16);
     }
 }
 
@@ -223,12 +270,14 @@ fn counts(image: &[u8], choices: &mut Choices, hands: &mut Hands) -> Option<(usi
         // SAFETY: the pointer and length are a slice.
         unsafe { ffi::da728x_read_counts(image, len).into() }
     });
+    hands.tally.count(da728x_read_counts, told >> 16);
+    if told >= 65536 {
+        assert_eq!(told % 65536, 0, "{told} is told of counts");
+        return None;
+    }
     let counts = (told as usize / 256, told as usize % 256);
-    hands.tally.count(da728x_read_counts, if told < 256 { told } else { 0 });
-    (told >= 256).then(|| {
-        assert!((1..=15).contains(&counts.0) && (1..=16).contains(&counts.1) && image.len() == 100);
-        counts
-    })
+    assert!((1..=15).contains(&counts.0) && (1..=16).contains(&counts.1) && image.len() == 100);
+    Some(counts)
 }
 
 fn point(choices: &mut Choices, hands: &mut Hands) {
@@ -312,33 +361,53 @@ fn new_list(choices: &mut Choices) -> Vec<u8> {
             list.iter_mut().step_by(4).for_each(|code| *code %= 16);
             list
         }
-        6 => {
-            let random = choices.random();
-            let mut calls = frame(random.within(1, 3), random);
-            calls.extend(vec![Call::AddFrame; random.within(30, 34)]);
-            calls.extend((0..random.within(14, 18)).map(|_| good_point(random)));
-            calls.extend([Call::AddSnippet, Call::AddSequence]);
-            encoded(&calls)
-        }
+        6 => encoded(&too_many(choices.random())),
         7..9 => {
             let random = choices.random();
             let calls = (0..random.below(90)).map(|_| any_call(random)).collect();
             let calls = with_noise(calls, random);
-            list(&calls, LAST, random)
+            list(&calls, random)
         }
         _ => {
             let random = choices.random();
             let (_, generate) = random.pick(&KINDS);
-            let calls = with_noise(generate(random), random);
-            list(&calls, LAST, random)
+            let mut calls = generate(random);
+            // Without a refused call, with one, or with any.
+            match random.below(5) {
+                0..3 => calls = mended(&calls),
+                3 => {
+                    calls = mended(&calls);
+                    let begun = calls.iter().position(|it| matches!(it, Call::FrameNew(_)));
+                    match begun {
+                        Some(at) if random.chance(50) => {
+                            let bad = [Call::LoopCount(16), Call::FrequencyHz(512)];
+                            calls.insert(at + 1, random.pick(&bad));
+                        }
+                        _ => calls.insert(random.within(0, calls.len()), any_call(random)),
+                    }
+                }
+                _ => return list(&with_noise(calls, random), random),
+            }
+            encoded(&calls)
         }
     }
 }
 
-/// Room for the answers of a list of calls: mostly for all of them.
-fn answers(calls: &[u8], choices: &mut Choices) -> Vec<u8> {
-    let len = choices.len_near(calls.len() / 4);
-    vec![choices.byte(); len]
+/// Calls of which the first that is refused adds one too many: a frame, a point, a snippet or a sequence.
+fn too_many(random: &mut Random) -> Vec<Call> {
+    if random.chance(40) {
+        let snippets = [good_point(random), Call::AddSnippet].repeat(random.within(14, 17));
+        let sequence = [Call::Silence, Call::AddFrame, Call::AddSequence];
+        return [snippets, sequence.repeat(random.within(15, 18))].concat();
+    }
+    let bytes = random.pick(&[1, 2, 3, 3, 3]);
+    let mut calls = mended(&add_frames(random.within(32, 36), bytes, random));
+    if random.chance(80) {
+        calls.extend([Call::FrameNew(9), Call::FrequencyHz(300), Call::AddFrame]);
+    }
+    calls.extend((0..random.within(14, 18)).map(|_| good_point(random)));
+    calls.extend([Call::AddSnippet, Call::AddSequence]);
+    calls
 }
 
 fn out(choices: &mut Choices, usual: usize) -> Vec<u8> {
@@ -346,12 +415,21 @@ fn out(choices: &mut Choices, usual: usize) -> Vec<u8> {
     vec![choices.byte(); len]
 }
 
-/// Each whole record has its answer, a listed one, as far as they fit; the other bytes stay.
-fn check_answers(function: Function, calls: &[u8], hands: &mut Hands) {
-    let (_, after) = hands.slice(1);
-    let answers: Vec<u8> = after.iter().copied().take(calls.len() / 4).collect();
-    hands.assert_rest_stays(function, 1, answers.len());
-    for (record, answer) in calls.chunks_exact(4).zip(answers) {
-        hands.tally.count_call(record[0], function == da728x_assemble, answer);
+/// The answers of a list of calls: each record has one, a listed one, as far as they fit; the other bytes stay.
+fn answers(calls: &[u8], choices: &mut Choices, hands: &mut Hands) -> Vec<u8> {
+    let records = calls.len().div_ceil(4);
+    let room = vec![choices.byte(); choices.len_near(records)];
+    let slices = [shown(calls), lent(&room)];
+    let told = hands.call(da728x_answers, choices, slices, |[list, (answers, len)]| {
+        // SAFETY: each pointer and length is a slice; the mutable one overlaps no other.
+        unsafe { ffi::da728x_answers(list.0, list.1, answers, len) as u64 }
+    });
+    assert_eq!(told, records as u64, "how many calls there are");
+    let answers = hands.slice(1).1[..records.min(room.len())].to_vec();
+    hands.assert_rest_stays(da728x_answers, 1, records);
+    for (record, answer) in calls.chunks(4).zip(&answers) {
+        hands.tally.count_call(record, *answer);
     }
+    hands.tally.count(da728x_answers, 0);
+    answers
 }

@@ -8,9 +8,9 @@ use harness::bus::{MOST, at_once};
 use harness::driver::{record_bytes, revision};
 use harness::encoded;
 use harness::oracle::{Builders, number};
-use harness::patterns::KINDS;
+use harness::patterns::{KINDS, mended};
 use harness::random::Random;
-use harness::raw::{BYTE, DONE, SESSION};
+use harness::raw::{BYTE, DONE, LISTS, SESSION};
 use harness::settings::{Settings, published_variant};
 use std::hint::black_box;
 use yambelugo::{Call, IMAGE, RECORD, Variant};
@@ -19,15 +19,32 @@ const ADDRESS: u8 = 0x4A;
 
 const TRIM4: u8 = 0x60;
 
+/// Room for the answers to any of the lists.
+const ANSWERS: usize = 512;
+
 const VARIANT: Variant = Variant::DA7280;
 
 /// What both sides are run on.
 pub struct Inputs {
-    calls: Vec<Vec<Call>>,
-    lists: Vec<Vec<u8>>,
+    patterns: Patterns,
+    /// The same, without the calls that are refused.
+    mended: Patterns,
     images: Vec<[u8; IMAGE]>,
     accepted: Vec<Case>,
     refused: Vec<Case>,
+}
+
+/// Lists of calls in the forms in which the two sides take them.
+struct Patterns {
+    calls: Vec<Vec<Call>>,
+    lists: Vec<Vec<u8>>,
+}
+
+impl Patterns {
+    fn new(calls: Vec<Vec<Call>>) -> Self {
+        let lists = calls.iter().map(|calls| encoded(calls)).collect();
+        Self { calls, lists }
+    }
 }
 
 /// Settings in the forms in which the two sides take them.
@@ -46,8 +63,9 @@ impl Inputs {
     pub fn new(cases: usize) -> Self {
         let mut random = Random::new(1);
         let calls: Vec<_> = (0..cases).map(|i| KINDS[i % KINDS.len()].1(&mut random)).collect();
-        let lists: Vec<_> = calls.iter().map(|calls| encoded(calls)).collect();
-        let images = lists.iter().filter_map(|list| our_image(list)).collect();
+        let mended = Patterns::new(calls.iter().map(|calls| mended(calls)).collect());
+        let patterns = Patterns::new(calls);
+        let images = patterns.lists.iter().filter_map(|list| our_image(list)).collect();
         let accepted = (0..cases).map(|_| Case::new(&Settings::accepted(&mut random))).collect();
         let mut refused = Vec::new();
         while refused.len() < cases {
@@ -57,7 +75,7 @@ impl Inputs {
                 refused.push(case);
             }
         }
-        Self { calls, lists, images, accepted, refused }
+        Self { patterns, mended, images, accepted, refused }
     }
 }
 
@@ -97,7 +115,7 @@ pub struct Work {
     pub goal: Goal,
 }
 
-pub const WORKS: [Work; 8] = [
+pub const WORKS: [Work; 12] = [
     Work {
         name: "images",
         unit: "image",
@@ -106,10 +124,32 @@ pub const WORKS: [Work; 8] = [
         goal: Goal::OfTheRust(1.2),
     },
     Work {
+        name: "images, strict",
+        unit: "image",
+        theirs: Some(their_strict_images),
+        ours: our_strict_images,
+        goal: Goal::Free,
+    },
+    Work {
+        name: "answers",
+        unit: "list",
+        theirs: Some(their_answers),
+        ours: our_answers,
+        goal: Goal::Free,
+    },
+    Work { name: "one item", unit: "item", theirs: None, ours: our_single_items, goal: Goal::Free },
+    Work {
         name: "reading",
         unit: "image",
         theirs: None,
         ours: our_readings,
+        goal: Goal::OfBuilding(2.0),
+    },
+    Work {
+        name: "reading all lists",
+        unit: "image",
+        theirs: None,
+        ours: our_lists,
         goal: Goal::OfBuilding(2.0),
     },
     Work {
@@ -158,50 +198,134 @@ pub const WORKS: [Work; 8] = [
 
 fn their_images(inputs: &Inputs) -> Done {
     let mut done = Done::default();
-    for calls in &inputs.calls {
-        let mut answers = [0; 512];
+    for calls in &inputs.patterns.calls {
         let mut builders = Builders::default();
+        for call in calls {
+            black_box(builders.call(*call));
+        }
+        done.built(&builders);
+    }
+    done
+}
+
+/// As a Rust program does that stops at the first refusal; there is none.
+fn their_strict_images(inputs: &Inputs) -> Done {
+    let mut done = Done::default();
+    for calls in &inputs.mended.calls {
+        let mut builders = Builders::default();
+        if calls.iter().all(|call| builders.call(*call) == 0) {
+            done.built(&builders);
+        }
+    }
+    done
+}
+
+fn their_answers(inputs: &Inputs) -> Done {
+    let mut done = Done::default();
+    for calls in &inputs.patterns.calls {
+        let (mut answers, mut builders) = ([0; ANSWERS], Builders::default());
         for (answer, call) in answers.iter_mut().zip(calls) {
             *answer = builders.call(*call);
-        }
-        if let Ok(memory) = builders.memory.build() {
-            let mut image = [0; IMAGE];
-            image[..memory.as_bytes().len()].copy_from_slice(memory.as_bytes());
-            done.add(black_box(&image));
         }
         done.add(&black_box(&answers)[..4]);
         done.count += 1;
     }
     done
+}
+
+fn our_answers(inputs: &Inputs) -> Done {
+    let mut done = Done::default();
+    for list in &inputs.patterns.lists {
+        let mut answers = [0; ANSWERS];
+        let (at, to) = (list.as_ptr(), answers.as_mut_ptr());
+        // SAFETY: each pointer and length is a slice, and they do not overlap.
+        unsafe { ffi::da728x_answers(at, list.len(), to, ANSWERS) };
+        done.add(&black_box(&answers)[..4]);
+        done.count += 1;
+    }
+    done
+}
+
+/// The snippet, the frame and the sequence that a list leaves, and the sequence's length.
+fn our_single_items(inputs: &Inputs) -> Done {
+    let mut done = Done::default();
+    for list in &inputs.patterns.lists {
+        let (mut out, at) = ([0; IMAGE], list.as_ptr());
+        for build in [ffi::da728x_snippet, ffi::da728x_frame, ffi::da728x_sequence] {
+            // SAFETY: each pointer and length is a slice, and they do not overlap.
+            let told = unsafe { build(at, list.len(), out.as_mut_ptr(), IMAGE) };
+            done.add(&told.to_le_bytes());
+        }
+        // SAFETY: the pointer and length are a slice.
+        let len = unsafe { ffi::da728x_current_len(at, list.len()) };
+        done.add(&[len as u8, black_box(&out)[0]]);
+        done.count += 4;
+    }
+    done
+}
+
+impl Done {
+    fn built(&mut self, builders: &Builders) {
+        if let Ok(memory) = builders.memory.build() {
+            let mut image = [0; IMAGE];
+            image[..memory.as_bytes().len()].copy_from_slice(memory.as_bytes());
+            self.add(black_box(&image));
+        }
+        self.count += 1;
+    }
 }
 
 fn our_images(inputs: &Inputs) -> Done {
     let mut done = Done::default();
-    for list in &inputs.lists {
-        let (mut answers, mut image) = ([0; 512], [0; IMAGE]);
-        if assemble(list, &mut answers, &mut image) == 0 {
+    for list in &inputs.patterns.lists {
+        if let Some(image) = our_image(list) {
             done.add(black_box(&image));
         }
-        done.add(&black_box(&answers)[..4]);
         done.count += 1;
     }
     done
 }
 
-fn assemble(list: &[u8], answers: &mut [u8], image: &mut [u8; IMAGE]) -> u8 {
-    let (at, len) = (answers.as_mut_ptr(), answers.len());
-    // SAFETY: each pointer and length is a slice, and none overlaps another.
-    unsafe { ffi::da728x_assemble(list.as_ptr(), list.len(), at, len, image.as_mut_ptr(), IMAGE) }
+fn our_strict_images(inputs: &Inputs) -> Done {
+    let mut done = Done::default();
+    for list in &inputs.mended.lists {
+        let (mut image, at) = ([0; IMAGE], list.as_ptr());
+        // SAFETY: each pointer and length is a slice, and they do not overlap.
+        let told =
+            unsafe { ffi::da728x_assemble_strict(at, list.len(), image.as_mut_ptr(), IMAGE) };
+        assert!(told < 256, "a call is refused");
+        if told == 0 {
+            done.add(black_box(&image));
+        }
+        done.count += 1;
+    }
+    done
 }
 
 fn our_image(list: &[u8]) -> Option<[u8; IMAGE]> {
-    let mut image = [0; IMAGE];
-    (assemble(list, &mut [], &mut image) == 0).then_some(image)
+    let (mut image, at) = ([0; IMAGE], list.as_ptr());
+    // SAFETY: each pointer and length is a slice, and they do not overlap.
+    let told = unsafe { ffi::da728x_assemble(at, list.len(), image.as_mut_ptr(), IMAGE) };
+    (told == 0).then_some(image)
 }
 
-fn counts(image: &[u8]) -> u16 {
+fn counts(image: &[u8]) -> u32 {
     // SAFETY: the pointer and length are a slice.
     unsafe { ffi::da728x_read_counts(image.as_ptr(), image.len()) }
+}
+
+fn our_lists(inputs: &Inputs) -> Done {
+    let mut done = Done::default();
+    for image in &inputs.images {
+        let mut lists = [0; LISTS];
+        let (at, to) = (black_box(image).as_ptr(), lists.as_mut_ptr());
+        // SAFETY: each pointer and length is an array, and they do not overlap.
+        let told = unsafe { ffi::da728x_read_lists(at, IMAGE, to, LISTS) };
+        black_box(&lists);
+        done.add(&told.to_le_bytes());
+        done.count += 1;
+    }
+    done
 }
 
 fn our_readings(inputs: &Inputs) -> Done {
@@ -216,7 +340,7 @@ fn our_readings(inputs: &Inputs) -> Done {
 fn our_items(inputs: &Inputs) -> Done {
     let mut done = Done::default();
     for image in &inputs.images {
-        let [sequences, snippets] = counts(image).to_le_bytes();
+        let [sequences, snippets, ..] = counts(image).to_le_bytes();
         let (at, len) = (image.as_ptr(), image.len());
         for snippet in 0..snippets.into() {
             // SAFETY: the pointer and length are a slice.
