@@ -25,13 +25,14 @@ use Rattle.calls.specs.declared.Call.the-variants as Call
 use Rattle.calls.specs.declared.UnderWay.{UnderWay}
 use Rattle.calls.specs.declared.UnderWay.the-variants as UnderWay
 use Rattle.calls.specs.declared.Builders.{Builders}
-use Rattle.calls.specs.Calls.{chosen, callsByCode, callAt, callsIn, onFrame, begins, withField, sets, adds}
+use Rattle.calls.specs.Calls.{chosen, callsByCode, callAt, callsIn, onFrame, beginsFrame, withField, sets, adds}
 use Rattle.memory.specs.declared.WaveformMemoryBuilder.{WaveformMemoryBuilder}
 use Rattle.memory.specs.Memory.{newMemory}
 use Rattle.pattern.specs.Calls.{ran, answersTo, SnippetCall, ramp, step, point, snippetStep, addedPoint, snippetFrom, FrameCall, frameStep, Begin, new, silence, begunBy, FrameCalls, frameRan, frameFrom, answerOn, withMadeFrame, sequenceStep, sequenceFrom, MemoryCall, addSnippet, addSequence, memoryStep, addedItem, memoryFrom}
 use Rattle.pattern.proofs.Runs.{ran-append}
 use Rattle.assemble.specs.Lists.{Groups, noFrame, noGroups, toSnippet, begunNumber, leftBy, fieldOf, grouped, underWay, groupsOf, answersOf, buildersOf}
-use Rattle.assemble.specs.Flat.{State, state, flatCalled, nothingYet, flatAfter, flatAnswers}
+use Rattle.assemble.specs.Flat.{State, state, flatCalled}
+use Rattle.assemble.proofs.Flat.{nothingYet, flatAfter, flatAnswers}
 
 -- the builders that the calls of each make
 abbrev frameIn : FrameCalls → UnderWay
@@ -101,7 +102,7 @@ module _ (g : Groups) where
   withFrameAs n f = record { number = n; builder = state (onFrame b n f .builder) (mirror g .memory) }
 
   -- a frame begun
-  begin-call : (t : Told FrameBuilder) → begins b t ≡ onFrame b (begunNumber t) (underWay [] t)
+  begin-call : (t : Told FrameBuilder) → beginsFrame b t ≡ onFrame b (begunNumber t) (underWay [] t)
   begin-call (gives f) = refl
   begin-call (refuses n) = refl
 

@@ -27,7 +27,8 @@ use Rattle.calls.proofs.Turns.{calls-next, calls-none}
 use Rattle.memory.specs.declared.WaveformMemoryBuilder.{WaveformMemoryBuilder}
 use Rattle.pattern.specs.Calls.{withBuiltSnippet, withBuiltSequence}
 use Rattle.assemble.specs.Lists.{withPlace, firstRefused}
-use Rattle.assemble.specs.Flat.{State, state, lessSnippet, lessSequence, flatCalled, nothingYet, flatAfter, flatAnswers}
+use Rattle.assemble.specs.Flat.{State, state, lessSnippet, lessSequence, flatCalled}
+use Rattle.assemble.proofs.Flat.{nothingYet, flatAfter, flatAnswers}
 use Rattle.assemble.specs.Holding.{KeepsMemory, StepsSnippets, StepsSequences, StepsMemory, shownBy}
 use Rattle.assemble.proofs.Holding.{spares-sequences, spares-snippets}
 

@@ -10,7 +10,7 @@ use lib.Dec.{ltb}
 use lib.ListN.{length}
 use Rattle.laws.specs.Copied.{copied}
 use Rattle.assemble.specs.Lists.{answersOf, builtOf, imageOut, lastPlace, withPlace, firstRefused, strictly, strictOut}
-use Rattle.assemble.specs.Strict.{Accepted, Strict}
+use Rattle.assemble.specs.Strict.{AllAccepted, Strict}
 use Rattle.assemble.proofs.Numbers.{answer-numbers}
 
 -- ---- as the code answers it
@@ -38,18 +38,18 @@ module _ (bytes : List ℕ) (told : ℕ) (e : told ≡ firstRefused 0 (answersOf
 
 -- ---- what that says
 
-none-refused : (ns : List ℕ) (i : ℕ) → Accepted ns → firstRefused i ns ≡ 0
+none-refused : (ns : List ℕ) (i : ℕ) → AllAccepted ns → firstRefused i ns ≡ 0
 none-refused [] i h = refl
 none-refused (n ∷ ns) i h = simp (h .0) (none-refused ns (suc i) (h .1))
 
-none-only : (ns : List ℕ) (i : ℕ) → firstRefused i ns ≡ 0 → Accepted ns
+none-only : (ns : List ℕ) (i : ℕ) → firstRefused i ns ≡ 0 → AllAccepted ns
 none-only [] i e = tt
 none-only (n ∷ ns) i e = go (ltb 0 n) refl e (none-only ns (suc i)) where
-  go : (t : Bool) → ltb 0 n ≡ t → cond t (withPlace n i) (firstRefused (suc i) ns) ≡ 0 → (firstRefused (suc i) ns ≡ 0 → Accepted ns) → Accepted (n ∷ ns)
+  go : (t : Bool) → ltb 0 n ≡ t → cond t (withPlace n i) (firstRefused (suc i) ns) ≡ 0 → (firstRefused (suc i) ns ≡ 0 → AllAccepted ns) → AllAccepted (n ∷ ns)
   go true f g more = let h = ltb-true 0 n f in absurd (omega arith)
   go false f g more = let h = ltb-false 0 n f in (omega arith, more g)
 
-first-at : (before : List ℕ) (n : ℕ) (rest : List ℕ) (i : ℕ) → Accepted before → 0 < n → firstRefused i (before ++ (n ∷ rest)) ≡ withPlace n (i + length before)
+first-at : (before : List ℕ) (n : ℕ) (rest : List ℕ) (i : ℕ) → AllAccepted before → 0 < n → firstRefused i (before ++ (n ∷ rest)) ≡ withPlace n (i + length before)
 first-at [] n rest i h k = simp (lt-ltb 0 n k) (ap (withPlace n) (let z : i ≡ i + 0 = omega arith in z))
 first-at (x ∷ before) n rest i h k =
     simp (h .0) (first-at before n rest (suc i) (h .1) k ∙ ap (withPlace n) (let z : suc i + length before ≡ i + suc (length before) = omega arith in z))
@@ -58,14 +58,14 @@ module _ (calls : List ℕ) where
   abbrev f : ℕ
   f = firstRefused 0 (answersOf calls)
 
-  none : Accepted (answersOf calls) → strictly calls ≡ builtOf calls .number
+  none : AllAccepted (answersOf calls) → strictly calls ≡ builtOf calls .number
   none h = simp (none-refused (answersOf calls) 0 h)
 
-  only : (t : Bool) → ltb 0 f ≡ t → cond t f (builtOf calls .number) ≡ 0 → Accepted (answersOf calls) × (builtOf calls .number ≡ 0)
+  only : (t : Bool) → ltb 0 f ≡ t → cond t f (builtOf calls .number) ≡ 0 → AllAccepted (answersOf calls) × (builtOf calls .number ≡ 0)
   only true e g = let h = ltb-true 0 f e in absurd (omega (arith, g, h))
   only false e g = let h = ltb-false 0 f e in (none-only (answersOf calls) 0 (omega (arith, h)), g)
 
-  at-first : (before : List ℕ) (n : ℕ) (rest : List ℕ) → answersOf calls ≡ before ++ (n ∷ rest) → Accepted before → 0 < n
+  at-first : (before : List ℕ) (n : ℕ) (rest : List ℕ) → answersOf calls ≡ before ++ (n ∷ rest) → AllAccepted before → 0 < n
       → length before < lastPlace → strictly calls ≡ n + 256 * (length before + 1)
   at-first before n rest e h k room =
       let g : f ≡ withPlace n (length before) = ap (firstRefused 0) e ∙ first-at before n rest 0 h k ∙ ap (withPlace n) (let z : 0 + length before ≡ length before = omega arith in z) in

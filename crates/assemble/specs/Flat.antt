@@ -1,17 +1,14 @@
 -- A run as the code has it: the snippet, the frame and the sequence by value, and a memory's builder that the bytes keep (Holding.antt).
 -- Only private contracts cite this; proofs/Assembly.antt: it answers and leaves what Lists.antt says.
 use Prim.Native.Nat.{ℕ}
-use mathlib.Core.Bool.{false}
-use mathlib.Core.List.{List, [], _∷_}
 use Rattle.errors.specs.Told.{Handed, refused}
 use Rattle.snippet.specs.Snippet.{newSnippet, builtSnippet}
 use Rattle.sequence.specs.Sequence.{newSequence, builtSequence}
 use Rattle.calls.specs.declared.Call.{Call}
 use Rattle.calls.specs.declared.Call.the-variants as Call
 use Rattle.calls.specs.declared.Builders.{Builders}
-use Rattle.calls.specs.Calls.{started, called}
+use Rattle.calls.specs.Calls.{called}
 use Rattle.memory.specs.declared.WaveformMemoryBuilder.{WaveformMemoryBuilder}
-use Rattle.memory.specs.Memory.{newMemory}
 use Rattle.pattern.specs.Calls.{withBuiltSnippet, withBuiltSequence}
 use Rattle.assemble.specs.Lists.{leftBy, noCall}
 
@@ -42,14 +39,3 @@ flatCalled s Call.AddSnippet =
 flatCalled s Call.AddSequence =
     onMemory (lessSequence (s .builders)) (withBuiltSequence (s .memory) (builtSequence (s .builders .sequence)))
 flatCalled s Call.Unknown = refused noCall s
-
-abbrev pub nothingYet : State
-nothingYet = state started (newMemory false)
-
-unfoldable pub flatAfter : State → List Call → State
-flatAfter s [] = s
-flatAfter s (k ∷ ks) = flatAfter (flatCalled s k .builder) ks
-
-unfoldable pub flatAnswers : State → List Call → List ℕ
-flatAnswers s [] = []
-flatAnswers s (k ∷ ks) = flatCalled s k .number ∷ flatAnswers (flatCalled s k .builder) ks

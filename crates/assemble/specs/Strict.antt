@@ -10,19 +10,19 @@ use Rattle.laws.specs.Bytes.{All}
 use Rattle.assemble.specs.Lists.{answersOf, builtOf, lastPlace, strictly, strictOut}
 
 -- each of these answers accepts its call
-abbrev pub Accepted : List ℕ → Type 0
-Accepted answers = All (λ n. n ≡ 0) answers
+abbrev pub AllAccepted : List ℕ → Type 0
+AllAccepted answers = All (λ n. n ≡ 0) answers
 
 pub record Strict (calls : List ℕ) : Type 0 where
   -- 0 exactly if no call is refused and an image is built
-  pub whole : (strictly calls ≡ 0) ↔ (Accepted (answersOf calls) × (builtOf calls .number ≡ 0))
+  pub whole : (strictly calls ≡ 0) ↔ (AllAccepted (answersOf calls) × (builtOf calls .number ≡ 0))
   -- where a call is refused, the first that is: its number, and 256 times its place, counted from 1
-  pub first : (before : List ℕ) (number : ℕ) (rest : List ℕ) → answersOf calls ≡ before ++ (number ∷ rest) → Accepted before → 0 < number
+  pub first : (before : List ℕ) (number : ℕ) (rest : List ℕ) → answersOf calls ≡ before ++ (number ∷ rest) → AllAccepted before → 0 < number
       → length before < lastPlace → strictly calls ≡ number + 256 * (length before + 1)
   -- number and place can be told apart in that sum
   pub numbers : All (λ n. n ≤ 14) (answersOf calls)
   -- where none is, what building answers (9, 10 or 8), with place 0
-  pub builds : Accepted (answersOf calls) → strictly calls ≡ builtOf calls .number
+  pub builds : AllAccepted (answersOf calls) → strictly calls ≡ builtOf calls .number
   -- a refusal leaves the buffer; else it takes the image, as much as fits
   pub kept : (buffer : List ℕ) → 0 < strictly calls → strictOut calls buffer ≡ buffer
   pub image : (buffer : List ℕ) → strictly calls ≡ 0 → strictOut calls buffer ≡ copied buffer (builtOf calls .item .«data»)

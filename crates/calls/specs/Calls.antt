@@ -88,10 +88,10 @@ onFrame b n f = record { number = n; builder = record { snippet = b .snippet; fr
 abbrev pub onSequence : Builders → Handed SequenceBuilder → Handed Builders
 onSequence b s = record { number = s .number; builder = record { snippet = b .snippet; frame = b .frame; sequence = s .builder } }
 
--- `new` begins a frame; where it is refused none is begun
-abbrev pub begins : Builders → Told FrameBuilder → Handed Builders
-begins b (gives f) = onFrame b 0 (UnderWay.Begun f)
-begins b (refuses n) = onFrame b n UnderWay.NotBegun
+-- `new` beginsFrame a frame; where it is refused none is begun
+abbrev pub beginsFrame : Builders → Told FrameBuilder → Handed Builders
+beginsFrame b (gives f) = onFrame b 0 (UnderWay.Begun f)
+beginsFrame b (refuses n) = onFrame b n UnderWay.NotBegun
 
 abbrev pub withField : FrameBuilder → FieldCall → Handed FrameBuilder
 withField f (Field.Gain g) = accepted (withGain f (gainAt g))
@@ -122,8 +122,8 @@ called b Builder.SnippetNew = onSnippet b (accepted newSnippet)
 called b (Builder.Ramp t a) = onSnippet b (withMade (b .snippet) (point true t a))
 called b (Builder.Step t a) = onSnippet b (withMade (b .snippet) (point false t a))
 called b (Builder.Point byte) = onSnippet b (withPoint (b .snippet) (pointOf byte))
-called b (Builder.FrameNew n) = begins b (newFrame n)
-called b Builder.Silence = begins b (gives silentFrame)
+called b (Builder.FrameNew n) = beginsFrame b (newFrame n)
+called b Builder.Silence = beginsFrame b (gives silentFrame)
 called b (Builder.Set k) = sets b k (b .frame)
 called b Builder.SequenceNew = onSequence b (accepted newSequence)
 called b Builder.AddFrame = adds b (b .frame)

@@ -1,6 +1,6 @@
 // Builder calls (added; no Rust file): the form in which they cross the boundary, and calls on one snippet, one frame and one sequence
 // under construction. Document 01, 'The hundred bytes': each call gets what the last handed back; a refused call adds nothing.
-// A frame is begun or not: `new` or `silence` begins it, a refused `new` leaves none, an accepted `add_frame` uses it up.
+// A frame is begun or not: `new` or `silence` beginsFrame it, a refused `new` leaves none, an accepted `add_frame` uses it up.
 // Proved: `read` gives the call that the bytes say, `apply` the number and the builders that specs/Calls.antt says, for any bytes and
 // builders. Lists of calls, and those that add to a memory, are run in `assemble`.
 ghost use mathlib.Core.Path.{_≡_};
@@ -10,7 +10,7 @@ ghost use Rattle.errors.specs.Told.{accepted, refused};
 ghost use Rattle.snippet.specs.Snippet as snippet;
 ghost use Rattle.frame.specs.Builder as frame;
 ghost use Rattle.sequence.specs.Sequence as sequence;
-ghost use Rattle.calls.specs.Calls.{chosen, callAt, firstCall, started, onSnippet, onFrame, onSequence, begins, withField, sets, uses, adds, called, steppedTold};
+ghost use Rattle.calls.specs.Calls.{chosen, callAt, firstCall, started, onSnippet, onFrame, onSequence, beginsFrame, withField, sets, uses, adds, called, steppedTold};
 use errors::Answer;
 use errors::Error;
 use frame::FrameBuilder;
@@ -74,7 +74,7 @@ pub struct Stepped {
 }
 
 impl Call {
-    // The call of the record that begins at an index.
+    // The call of the record that beginsFrame at an index.
     pub fn read(calls: &[u8], at: usize) -> Call
         ensures { λ r. ⌜ r ≡ firstCall (drop at (now (calls .entry))) ⌝ }
     {
@@ -209,7 +209,7 @@ impl Builders {
     }
 
     fn begin(self, r: NewFrame) -> Stepped
-        ensures { λ x. ⌜ steppedTold x ≡ begins self (frame.newTold r) ⌝ }
+        ensures { λ x. ⌜ steppedTold x ≡ beginsFrame self (frame.newTold r) ⌝ }
     {
         match r {
             NewFrame::Builder(f) => self.with_frame(0, UnderWay::Begun(f)),

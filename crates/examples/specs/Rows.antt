@@ -53,9 +53,9 @@ framed [] (suc n) b = refusal (suc n)
 framed (k ∷ ks) zero b = framed ks (frameStep b k .number) (frameStep b k .builder)
 framed (k ∷ ks) (suc n) b = refusal (suc n)
 
-abbrev pub begun : Told FrameBuilder → List FrameCall → Outcome
-begun (gives b) ks = framed ks 0 b
-begun (refuses n) ks = refusal n
+abbrev pub framedFrom : Told FrameBuilder → List FrameCall → Outcome
+framedFrom (gives b) ks = framed ks 0 b
+framedFrom (refuses n) ks = refusal n
 
 abbrev pub pointed : Told ℕ → Outcome
 pointed (gives byte) = bytes (byte ∷ [])
@@ -67,7 +67,7 @@ imaged (suc n) image = refusal (suc n)
 
 abbrev pub outcome : Question → Outcome
 outcome (pointOf r t a) = pointed (point r t a)
-outcome (frameOf n ks) = begun (newFrame n) ks
+outcome (frameOf n ks) = framedFrom (newFrame n) ks
 outcome (imageOf ks) = imaged (builtFrom false ks .number) (builtFrom false ks .item .«data»)
 outcome (voltageOf mV) = bytes (voltageByte mV ∷ [])
 outcome (imaxOf mA) = bytes (imaxCode mA ∷ [])

@@ -14,7 +14,8 @@ use Rattle.laws.proofs.Lists.{bytes-of}
 use Rattle.calls.specs.declared.Builders.{Builders}
 use Rattle.calls.specs.Calls.{callsIn}
 use Rattle.assemble.specs.Lists.{firstRefused}
-use Rattle.assemble.specs.Flat.{state, nothingYet, flatAfter, flatAnswers}
+use Rattle.assemble.specs.Flat.{state}
+use Rattle.assemble.proofs.Flat.{nothingYet, flatAfter, flatAnswers}
 use Rattle.assemble.specs.Kept.{roomFor}
 use Rattle.assemble.proofs.Assembly.{answers-from, builders-from, memory-from}
 use Rattle.assemble.proofs.Holding.{keeps-none}
