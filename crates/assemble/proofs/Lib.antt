@@ -1,4 +1,5 @@
 pub mod Assembly
+pub mod Example
 pub mod Flat
 pub mod Holding
 pub mod Keeping

@@ -1,4 +1,5 @@
 -- The definitions that the contracts of `assemble` cite.
+pub mod Example
 pub mod Flat
 pub mod Holding
 pub mod Kept

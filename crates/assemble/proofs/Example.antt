@@ -1,0 +1,10 @@
+-- By computation. Assumes nothing.
+use mathlib.Core.Path.{refl}
+use Rattle.calls.specs.Calls.{callsIn}
+use Rattle.memory.specs.Memory.{builtMemory}
+use Rattle.assemble.specs.Lists.{groupsOf, answersOf}
+use Rattle.assemble.specs.Example.{Example}
+
+pub example : Example
+unfolding groupsOf answersOf callsIn builtMemory
+example = record { oneBuilt = refl; allBuilt = refl; noStaleFrame = refl; refusals = refl; firstTold = refl }
