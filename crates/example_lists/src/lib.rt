@@ -2,8 +2,6 @@
 ghost use Prim.Native.Nat.{_<_};
 use errors::Answer;
 use frame::FrameBuilder;
-use frame::Frequency;
-use frame::LoopCount;
 use reader::Frames;
 use reader::Points;
 use reader::items;
@@ -144,42 +142,37 @@ fn frame_at(frames: Frames, i: usize, j: usize) {
     }
 }
 
+// The fields as they stand in the frame's number of 48 bits.
 fn frame(f: FrameBuilder) {
-    let p = f.parts();
-    let gain = p.gain;
-    let timebase = p.timebase;
-    let loop_count = p.loop_count;
-    let frequency = p.frequency;
-    who(p.snippet_id);
+    let word = f.word();
+    who(word % 256);
     show::text(b", gain ");
-    show::gain(gain.code());
+    show::gain(((word >> 8) % 256) as u8);
     show::text(b", ");
-    show::timebase(timebase.code());
-    loops(loop_count);
-    hertz(frequency);
+    show::timebase(((word >> 16) % 256) as u8);
+    loops((word >> 24) % 256);
+    hertz(word >> 32);
 }
 
-fn who(snippet_id: u8) {
+fn who(snippet_id: u64) {
     if 0 < snippet_id {
-        title(b"\n    snippet ", snippet_id as u64);
+        title(b"\n    snippet ", snippet_id);
     } else {
         show::text(b"\n    silence");
     }
 }
 
-fn loops(loop_count: LoopCount) {
-    match loop_count {
-        LoopCount::Absent => {}
-        LoopCount::Given(n) => title(b", loop count ", n as u64),
+// 255 says that there is no loop count.
+fn loops(count: u64) {
+    if count < 255 {
+        title(b", loop count ", count);
     }
 }
 
-fn hertz(frequency: Frequency) {
-    match frequency {
-        Frequency::Absent => {}
-        Frequency::Given(f) => {
-            title(b", ", f as u64);
-            show::text(b" Hz");
-        }
+// 65535 says that there is no frequency.
+fn hertz(frequency: u64) {
+    if frequency < 65535 {
+        title(b", ", frequency);
+        show::text(b" Hz");
     }
 }

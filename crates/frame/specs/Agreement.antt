@@ -32,10 +32,12 @@ pub record Agree (a b : FrameBuilder) : Type 0 where
   pub frequencies : a .frequency ≡ b .frequency
   pub loopCounts : LoopsAgree (absentIsZero (a .«snippet_id») (a .frequency)) (a .«loop_count») (b .«loop_count»)
 
+-- a loop count 0..15 or absent
 abbrev pub LoopAdmitted : LoopCount → Type 0
 LoopAdmitted LoopCount.Absent = Unit
 LoopAdmitted (LoopCount.Given k) = k ≤ 15
 
+-- a frequency 0..511 or absent
 abbrev pub FrequencyAdmitted : Frequency → Type 0
 FrequencyAdmitted Frequency.Absent = Unit
 FrequencyAdmitted (Frequency.Given f) = f ≤ 511

@@ -34,13 +34,16 @@ silentFrame = plainFrame 0
 abbrev pub newFrame : ℕ → Told FrameBuilder
 newFrame n = cond (ltb n 1) (refuses 3) (cond (ltb 15 n) (refuses 3) (gives (plainFrame n)))
 
+-- what `new` answers, in these terms
 abbrev pub newTold : NewFrame → Told FrameBuilder
 newTold (NewFrame.Builder b) = gives b
 newTold (NewFrame.Refused e) = refuses (errorNumber e)
 
+-- another gain, the rest as it was
 abbrev pub withGain : FrameBuilder → Gain → FrameBuilder
 withGain b g = frameWith (b .«snippet_id») g (b .timebase) (b .«loop_count») (b .frequency)
 
+-- another timebase, the rest as it was
 abbrev pub withTimebase : FrameBuilder → Timebase → FrameBuilder
 withTimebase b t = frameWith (b .«snippet_id») (b .gain) t (b .«loop_count») (b .frequency)
 
@@ -56,5 +59,6 @@ withFrequency b f =
     cond (ltb 511 f) (refused 5 b)
     (accepted (frameWith (b .«snippet_id») (b .gain) (b .timebase) (b .«loop_count») (Frequency.Given f)))
 
+-- what setting a field answers, in these terms
 abbrev pub setTold : SetFrame → Handed FrameBuilder
 setTold r = record { number = answerNumber (r .answer); builder = r .builder }

@@ -19,12 +19,14 @@ use Rattle.frame.specs.declared.Frame.{Frame}
 
 -- ---- codes
 
+-- full, a half, a quarter, an eighth
 abbrev pub gainCode : Gain → ℕ
 gainCode Full = 0
 gainCode Half = 1
 gainCode Quarter = 2
 gainCode Eighth = 3
 
+-- 5.44, 21.76, 43.52, 87.04 ms
 abbrev pub timebaseCode : Timebase → ℕ
 timebaseCode «Ms5_44» = 0
 timebaseCode «Ms21_76» = 1
@@ -36,10 +38,12 @@ abbrev pub loops : LoopCount → ℕ
 loops LoopCount.Absent = 0
 loops (LoopCount.Given k) = k % 16
 
+-- whether a loop count was given
 abbrev pub loopGiven : LoopCount → Bool
 loopGiven LoopCount.Absent = false
 loopGiven (LoopCount.Given k) = true
 
+-- whether a frequency was given
 abbrev pub frequencyGiven : Frequency → Bool
 frequencyGiven Frequency.Absent = false
 frequencyGiven (Frequency.Given f) = true
@@ -68,6 +72,7 @@ thirdByte (Frequency.Given f) = f % 256 ∷ []
 abbrev pub hasSecond : FrameBuilder → Bool
 hasSecond b = frequencyGiven (b .frequency) || loopGiven (b .«loop_count») || leb 8 (b .«snippet_id» % 16)
 
+-- one to three bytes
 abbrev pub bytesOf : FrameBuilder → List ℕ
 bytesOf b = firstByte b ∷ cond (hasSecond b) (secondByte b ∷ thirdByte (b .frequency)) []
 

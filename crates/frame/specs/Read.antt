@@ -21,10 +21,11 @@ use Rattle.frame.specs.declared.FrameRead.{FrameRead}
 use Rattle.frame.specs.declared.FrameRead.the-variants as FrameRead
 use Rattle.frame.specs.Builder.{frameWith}
 
--- a code past the last counts as the last
+-- the gain with a code; a code past the last counts as the last
 abbrev pub gainAt : ℕ → Gain
 gainAt code = getD (Full ∷ Half ∷ Quarter ∷ []) code Eighth
 
+-- the timebase with a code, in the same way
 abbrev pub timebaseAt : ℕ → Timebase
 timebaseAt code = getD («Ms5_44» ∷ «Ms21_76» ∷ «Ms43_52» ∷ []) code «Ms87_04»
 
@@ -36,9 +37,11 @@ fieldsIn a n k f = frameWith n (gainAt (a / 32 % 4)) (timebaseAt (a / 8 % 4)) k 
 abbrev pub oneByte : ℕ → FrameBuilder
 oneByte a = fieldsIn a (a % 8) LoopCount.Absent Frequency.Absent
 
+-- the loop count from the second byte b, its bit 0 the number's bit 3
 abbrev pub twoBytes : ℕ → ℕ → FrameBuilder
 twoBytes a b = fieldsIn a (b % 2 * 8 + a % 8) (LoopCount.Given (b / 8 % 16)) Frequency.Absent
 
+-- with the frequency: its bit 8 from the second byte, the rest the third byte c
 abbrev pub threeBytes : ℕ → ℕ → ℕ → FrameBuilder
 threeBytes a b c = fieldsIn a (b % 2 * 8 + a % 8) (LoopCount.Given (b / 8 % 16)) (Frequency.Given (b / 2 % 2 * 256 + c))
 
@@ -47,9 +50,11 @@ pub record Parsed : Type 0 where
   pub frame : FrameBuilder
   pub rest : List ℕ
 
+-- a parse that succeeded
 abbrev pub parsed : FrameBuilder → List ℕ → Option Parsed
 parsed f r = some (record { frame = f; rest = r })
 
+-- a third byte has to be there
 abbrev pub readThird : ℕ → ℕ → List ℕ → Option Parsed
 readThird a b [] = none
 readThird a b (c ∷ r) = parsed (threeBytes a b c) r
@@ -66,6 +71,7 @@ abbrev pub readAfter : ℕ → List ℕ → Option Parsed
 readAfter a [] = parsed (oneByte a) []
 readAfter a (b ∷ r) = cond (ltb b 128) (parsed (oneByte a) (b ∷ r)) (readSecond a b r)
 
+-- a first byte has bit 7 clear
 unfoldable pub readFrame : List ℕ → Option Parsed
 readFrame [] = none
 readFrame (a ∷ r) = cond (ltb a 128) (readAfter a r) none
@@ -77,6 +83,7 @@ pub record Taken : Type 0 where
   pub frame : FrameBuilder
   pub len : ℕ
 
+-- the same of n bytes, with the parse's rest
 abbrev pub takenFrom : ℕ → Option Parsed → Told Taken
 takenFrom n none = refuses 18
 takenFrom n (some p) = gives (record { frame = p .frame; len = n - length (p .rest) })
@@ -89,6 +96,7 @@ firstFrame l = takenFrom (length l) (readFrame l)
 abbrev pub secondAt : List ℕ → ℕ → ℕ → ℕ → Told Taken
 secondAt l at a b = takenFrom (length (drop at l)) (readSecond a b (drop (at + 2) l))
 
+-- what reading answers, in these terms
 abbrev pub readTold : FrameRead → Told Taken
 readTold (FrameRead.Frame f n) = gives (record { frame = f; len = n })
 readTold (FrameRead.Refused e) = refuses (errorNumber e)

@@ -1,7 +1,8 @@
 // Frames and their builder (waveform/frame.rs; document 01, 'Points, frames, sequences').
 // Proved: each function answers what specs/ says of its arguments, whatever the builder's fields hold, and a refusal hands the
 // builder back as it came in. proofs/Frames.antt: frames agree, in the words of demand 3, exactly when their bytes are the same.
-// proofs/Written.antt and Reading.antt: `read` (added) undoes `build`, and reads nothing else.
+// proofs/Written.antt and Reading.antt: `read` (added) undoes `build`, and reads nothing else. `word` (added) gives the fields as one
+// number. src/bits.rt packs and unpacks the bytes.
 // `build` gives the frame itself, since it cannot refuse; `as_bytes` gives the array, of which the first `byte_len` are the
 // frame's; no function here takes a closure. Left out: `Default` and what the Rust derives.
 mod bits;
@@ -86,6 +87,7 @@ impl Gain {
         }
     }
 
+    // The code in a frame's first byte.
     pub fn code(self) -> u8
         ensures { λ r. ⌜ r ≡ gainCode self ⌝ }
     {
@@ -111,6 +113,7 @@ impl Timebase {
         }
     }
 
+    // The code in a frame's first byte.
     pub fn code(self) -> u8
         ensures { λ r. ⌜ r ≡ timebaseCode self ⌝ }
     {
@@ -124,6 +127,7 @@ impl Timebase {
 }
 
 impl Frame {
+    // How many bytes the frame has, three at most.
     pub fn byte_len(self) -> usize
         ensures { λ r. ⌜ r ≡ length (frameBytes self) ⌝ }
     {
@@ -149,6 +153,7 @@ impl Frame {
 }
 
 impl FrameBuilder {
+    // A frame of a snippet, or InvalidSnippetId for a number that is 0 or above 15.
     pub fn new(snippet_id: u8) -> NewFrame
         ensures { λ r. ⌜ newTold r ≡ newFrame «snippet_id» ⌝ }
     {
@@ -168,6 +173,7 @@ impl FrameBuilder {
         FrameBuilder::plain(0)
     }
 
+    // Sets the gain.
     pub fn gain(self, gain: Gain) -> FrameBuilder
         ensures { λ r. ⌜ r ≡ withGain self gain ⌝ }
     {
@@ -177,6 +183,7 @@ impl FrameBuilder {
         FrameBuilder::with(self.snippet_id, gain, timebase, loop_count, frequency)
     }
 
+    // Sets the timebase.
     pub fn timebase(self, timebase: Timebase) -> FrameBuilder
         ensures { λ r. ⌜ r ≡ withTimebase self timebase ⌝ }
     {
@@ -186,6 +193,7 @@ impl FrameBuilder {
         FrameBuilder::with(self.snippet_id, gain, timebase, loop_count, frequency)
     }
 
+    // Sets the loop count, or InvalidLoopCount for one above 15.
     pub fn loop_count(self, count: u8) -> SetFrame
         ensures { λ r. ⌜ setTold r ≡ withLoopCount self count ⌝ }
     {
@@ -205,6 +213,7 @@ impl FrameBuilder {
         }
     }
 
+    // Sets the frequency, or InvalidFrequency for one above 511.
     pub fn frequency_hz(self, freq_hz: u16) -> SetFrame
         ensures { λ r. ⌜ setTold r ≡ withFrequency self «freq_hz» ⌝ }
     {
@@ -224,38 +233,7 @@ impl FrameBuilder {
         }
     }
 
-    // The Rust's defaults.
-    fn plain(number: u8) -> FrameBuilder
-        ensures { λ r. ⌜ r ≡ plainFrame number ⌝ }
-    {
-        FrameBuilder::with(
-            number,
-            Gain::Full,
-            Timebase::Ms5_44,
-            LoopCount::Absent,
-            Frequency::Absent,
-        )
-    }
-
-    // A builder of its five fields.
-    fn with(
-        number: u8,
-        gain: Gain,
-        timebase: Timebase,
-        loop_count: LoopCount,
-        frequency: Frequency,
-    ) -> FrameBuilder
-        ensures { λ r. ⌜ r ≡ frameWith number gain timebase «loop_count» frequency ⌝ }
-    {
-        FrameBuilder {
-            snippet_id: number,
-            gain: gain,
-            timebase: timebase,
-            loop_count: loop_count,
-            frequency: frequency,
-        }
-    }
-
+    // The frame of the fields set so far.
     pub fn build(self) -> Frame
         ensures { λ r. ⌜ r ≡ builtFrame self ⌝ }
     {
@@ -299,6 +277,38 @@ impl FrameBuilder {
             },
         }
     }
+
+    // The Rust's defaults.
+    fn plain(number: u8) -> FrameBuilder
+        ensures { λ r. ⌜ r ≡ plainFrame number ⌝ }
+    {
+        FrameBuilder::with(
+            number,
+            Gain::Full,
+            Timebase::Ms5_44,
+            LoopCount::Absent,
+            Frequency::Absent,
+        )
+    }
+
+    // A builder of its five fields.
+    fn with(
+        number: u8,
+        gain: Gain,
+        timebase: Timebase,
+        loop_count: LoopCount,
+        frequency: Frequency,
+    ) -> FrameBuilder
+        ensures { λ r. ⌜ r ≡ frameWith number gain timebase «loop_count» frequency ⌝ }
+    {
+        FrameBuilder {
+            snippet_id: number,
+            gain: gain,
+            timebase: timebase,
+            loop_count: loop_count,
+            frequency: frequency,
+        }
+    }
 }
 
 // A loop count, 0 if absent; only its low four bits count.
@@ -314,7 +324,7 @@ fn loop_code(c: LoopCount) -> u8
 // ---- a frame's fields as one number (added)
 
 impl FrameBuilder {
-    // The fields as one number of 48 bits: the snippet's number in bits 7..0, the gain's code in 15..8, the timebase's in 23..16, the
+    // One number of 48 bits: the snippet's number in bits 7..0, the gain's code in 15..8, the timebase's in 23..16, the
     // loop count in 31..24 (255 if absent), the frequency in 47..32 (65535 if absent).
     pub fn word(self) -> u64
         ensures { λ r. ⌜ r ≡ frameWord self ⌝ }
@@ -333,6 +343,7 @@ impl FrameBuilder {
     }
 }
 
+// A loop count, 255 if absent.
 fn loop_byte(k: LoopCount) -> u8
     ensures { λ r. ⌜ r ≡ loopByte k ⌝ }
 {
@@ -342,6 +353,7 @@ fn loop_byte(k: LoopCount) -> u8
     }
 }
 
+// A frequency, 65535 if absent.
 fn frequency_word(f: Frequency) -> u16
     ensures { λ r. ⌜ r ≡ frequencyWord f ⌝ }
 {

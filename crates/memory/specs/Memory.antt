@@ -20,14 +20,17 @@ use Rattle.memory.specs.Image.{imageSize, imageBytes}
 
 -- ---- what a builder holds
 
+-- the bytes of each snippet
 abbrev pub snippetItems : WaveformMemoryBuilder → List (List ℕ)
 snippetItems b = map snippetBytes (take (b .«num_snippets») (b .snippets))
 
+-- the bytes of each sequence
 abbrev pub sequenceItems : WaveformMemoryBuilder → List (List ℕ)
 sequenceItems b = map sequenceBytes (take (b .«num_sequences») (b .sequences))
 
 -- ---- its calls
 
+-- a builder that holds nothing
 abbrev pub newMemory : Bool → WaveformMemoryBuilder
 newMemory acceleration =
     record {
@@ -38,7 +41,7 @@ newMemory acceleration =
       «acceleration_enabled» = acceleration;
     }
 
--- a snippet more behind the others, or 6 for a 16th
+-- a snippet appended, or 6 for a 16th
 abbrev pub withSnippet : WaveformMemoryBuilder → Snippet → Handed WaveformMemoryBuilder
 withSnippet b s =
     cond (leb 15 (b .«num_snippets»)) (refused 6 b)
@@ -51,7 +54,7 @@ withSnippet b s =
       «acceleration_enabled» = b .«acceleration_enabled»;
     }))
 
--- a sequence more behind the others, or 7 for a 17th
+-- a sequence appended, or 7 for a 17th
 abbrev pub withSequence : WaveformMemoryBuilder → Sequence → Handed WaveformMemoryBuilder
 withSequence b s =
     cond (leb 16 (b .«num_sequences»)) (refused 7 b)
@@ -64,6 +67,7 @@ withSequence b s =
       «acceleration_enabled» = b .«acceleration_enabled»;
     }))
 
+-- what adding answers, in these terms
 abbrev pub addedTold : AddedItem → Handed WaveformMemoryBuilder
 addedTold r = record { number = answerNumber (r .answer); builder = r .builder }
 
@@ -95,9 +99,11 @@ abbrev pub answered : ℕ → List (List ℕ) → List (List ℕ) → WaveformMe
 answered n snippets sequences b =
     record { number = n; item = cond (ltb 0 n) noMemory (memoryOf snippets sequences); builder = b }
 
+-- the image of what the builder holds, or the refusal
 unfoldable pub builtMemory : WaveformMemoryBuilder → Built WaveformMemory WaveformMemoryBuilder
 builtMemory b = answered (imageNumber (snippetItems b) (sequenceItems b)) (snippetItems b) (sequenceItems b) b
 
+-- what building answers, in these terms
 abbrev pub builtTold : BuiltMemory → Built WaveformMemory WaveformMemoryBuilder
 builtTold r = record { number = answerNumber (r .answer); item = r .memory; builder = r .builder }
 
@@ -109,5 +115,6 @@ loaded bytes n snippets sequences =
     cond (ltb 100 n) (refused 8 noMemory)
     (accepted (record { «data» = bytes; len = n; «num_snippets» = snippets; «num_sequences» = sequences }))
 
+-- what `from_bytes` answers, in these terms
 abbrev pub loadedTold : LoadedMemory → Handed WaveformMemory
 loadedTold r = record { number = answerNumber (r .answer); builder = r .memory }

@@ -1,38 +1,18 @@
 -- `sequences_len` meets its contract. The loop's invariant: the sum with the lengths of what is left is the whole's.
 -- Assumes nothing.
 use borrow.Author.Needs.{needs}
-use Prim.Native.Nat.{ℕ, _-_}
-use mathlib.Core.Path.{_≡_}
-use mathlib.Core.List.{List, map}
+use Prim.Native.Nat.{_-_}
 use native.Mathlib.Omega.{arith}
-use lib.ListN.{length, take}
-use Rattle.sequence.specs.declared.Sequence.{Sequence}
 use Rattle.sequence.specs.Sequence.{sequenceBytes}
 use Rattle.memory.proofs.Turns.{Summed, summed-none, summed-more, summed-all}
 use Rattle.memory.proofs.sequences_len.Statement.{statement}
 use Rattle.memory.proofs.sequences_len.Tie as tie
 
-abbrev items : List Sequence → ℕ → List (List ℕ)
-items l n = map sequenceBytes (take n l)
-
 abbrev Inv-loop : tie.InvT-loop
-Inv-loop n sequences sum₀ i₀ sum i = Summed (items sequences n) n 96 sum i
+Inv-loop n items sum₀ i₀ sum i = Summed sequenceBytes 16 items n 96 sum i
 
 abbrev μ-loop : tie.MeasureT-loop
-μ-loop n sequences sum₀ i₀ sum i = n - i
-
-loop-again : tie.Need-loop-again Inv-loop μ-loop
-loop-again c =
-    let b = c .before .before .before .before in
-    let r = c .sequence-len .ensures in
-    let h : length (b .args .t1) ≡ 16 = search needs in
-    summed-more sequenceBytes (b .args .t1) (b .args .n) 16 h (b .pre) (c .before .before .before .loop .inv) (c .before .before .loop-test .taken) _ (r .0) (r .1)
-
-returns : tie.Need-returns Inv-loop μ-loop
-returns c =
-    let b = c .before .before in
-    let h : length (b .args .t1) ≡ 16 = search needs in
-    summed-all sequenceBytes (b .args .t1) (b .args .n) 16 h (b .pre) (c .before .loop .inv) (c .loop-test .left)
+μ-loop n items sum₀ i₀ sum i = n - i
 
 pub sequences-len-spec : {M : Type 1} → statement M
 sequences-len-spec =
@@ -40,12 +20,12 @@ sequences-len-spec =
     (tie.spec
     Inv-loop
     μ-loop
-    (λ c. summed-none (items (c .args .t1) (c .args .n)) (c .args .n) 96)
+    (λ c. summed-none (search needs) (c .pre))
     (λ c. omega arith)
     (λ c. omega arith)
     (λ c κs. search needs)
     (λ c. search needs)
     (λ c. search needs)
     (λ c. search needs)
-    loop-again
-    returns)
+    (λ c. summed-more (c .before .before .before .loop .inv) (c .before .before .loop-test .taken) _ (c .sequence-len .ensures))
+    (λ c. summed-all (c .before .loop .inv) (c .loop-test .left)))
