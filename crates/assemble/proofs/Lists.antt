@@ -105,19 +105,3 @@ over-more l a b at next e h =
     ∙ ap (λ (m : List ℕ). m ++ drop (at + length (a ++ b)) l) (append-assoc (take at l) a b)
 
 -- ---- bytes copied into a part that is put back
-
-pub placed-out : (l bytes : List ℕ) (at : ℕ) → length l ≤ at → l ≡ take at l ++ copied (drop at l) bytes
-placed-out l bytes at h =
-    sym
-    (ap (λ (m : List ℕ). take at l ++ copied m bytes) (drop-of-length-le l {i = at} h)
-    ∙ ap (λ (m : List ℕ). take at l ++ m) (drop-of-length-le [] {i = length bytes} (omega arith))
-    ∙ append-nil (take at l)
-    ∙ take-all at l h)
-
-pub put-placed : (l last bytes : List ℕ) (at : ℕ) → last ≡ copied (midOf at (length l - at) l) bytes
-    → putMid at (length l - at) l last ≡ take at l ++ copied (drop at l) bytes
-put-placed l last bytes at e =
-    let p : postOf at (length l - at) l ≡ [] = drop-of-length-le (drop at l) {i = length l - at} (simp length-drop (omega arith)) in
-    ap (λ (m : List ℕ). take at l ++ (last ++ m)) p
-    ∙ ap (λ (m : List ℕ). take at l ++ m) (append-nil last ∙ e)
-    ∙ ap (λ (m : List ℕ). take at l ++ copied m bytes) (part-to-end l at)

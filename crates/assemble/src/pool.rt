@@ -29,7 +29,7 @@ pub(crate) fn push(list: &mut [u8], most: usize, bytes: &[u8]) -> bool
         return false;
     }
     let at = 1 + most + sum(&list[1..1 + n]);
-    place(list, at, bytes);
+    laws::copy_at(list, at, bytes);
     list[1 + n] = bytes.len() as u8;
     list[0] = (n + 1) as u8;
     true
@@ -105,16 +105,6 @@ fn put(out: &mut [u8], at: usize, bytes: &[u8])
     ensures { λ _. ⌜ now (out .exit) ≡ over (now (out .entry)) at (now (bytes .entry)) ⌝ }
 {
     laws::copy_into(&mut out[at..], bytes);
-}
-
-// Copies as much as fits.
-fn place(list: &mut [u8], at: usize, bytes: &[u8])
-    ensures { λ _. ⌜ now (list .exit) ≡ take at (now (list .entry)) ++ copied (drop at (now (list .entry))) (now (bytes .entry)) ⌝ }
-{
-    if list.len() <= at {
-        return;
-    }
-    laws::copy_into(&mut list[at..], bytes);
 }
 
 fn sum(lens: &[u8]) -> usize

@@ -10,7 +10,7 @@ use lib.ListN.{length, take, drop, length-append, length-take, length-drop, drop
 use lib.Seq.{paste, take-all, take-at, drop-at, drop-drop}
 use borrow.Rule.Slice.PartMut.{midOf, postOf, putMid}
 use borrow.Rule.Slice.PartAt.{part-to-end}
-use Rattle.laws.specs.Copied.{copied, over}
+use Rattle.laws.specs.Copied.{copied, over, placed}
 
 -- the first k of xs laid over the front of d, k being as many as there are of both
 pub paste-copied : (d xs : List ℕ) (k : ℕ) → k ≡ min (length xs) (length d) → paste d 0 xs k ≡ copied d xs
@@ -56,3 +56,20 @@ over-behind front l xs n e =
 -- and what stands behind as many others
 pub over-at : (front z rest xs : List ℕ) (n : ℕ) → length front ≡ n → length z ≡ length xs → over (front ++ (z ++ rest)) n xs ≡ front ++ xs ++ rest
 over-at front z rest xs n e f = over-behind front (z ++ rest) xs n e ∙ ap (λ (l : List ℕ). front ++ xs ++ l) (drop-at z rest (length xs) f)
+
+-- bytes copied from an index on, past the end and within
+pub placed-out : (l bytes : List ℕ) (at : ℕ) → length l ≤ at → l ≡ placed l at bytes
+placed-out l bytes at h =
+    sym
+    (ap (λ (m : List ℕ). take at l ++ copied m bytes) (drop-of-length-le l {i = at} h)
+    ∙ ap (λ (m : List ℕ). take at l ++ m) (drop-of-length-le [] {i = length bytes} (omega arith))
+    ∙ append-nil (take at l)
+    ∙ take-all at l h)
+
+pub placed-in : (l last bytes : List ℕ) (at : ℕ) → last ≡ copied (midOf at (length l - at) l) bytes
+    → putMid at (length l - at) l last ≡ placed l at bytes
+placed-in l last bytes at e =
+    let p : postOf at (length l - at) l ≡ [] = drop-of-length-le (drop at l) {i = length l - at} (simp length-drop (omega arith)) in
+    ap (λ (m : List ℕ). take at l ++ (last ++ m)) p
+    ∙ ap (λ (m : List ℕ). take at l ++ m) (append-nil last ∙ e)
+    ∙ ap (λ (m : List ℕ). take at l ++ copied m bytes) (part-to-end l at)

@@ -5,7 +5,7 @@
 ghost use mathlib.Core.Path.{_≡_};
 ghost use Prim.Native.Nat.{min, _<_};
 ghost use lib.ListN.{length};
-ghost use Rattle.laws.specs.Copied.{copied};
+ghost use Rattle.laws.specs.Copied.{copied, placed};
 
 // The smaller of two lengths.
 fn least(a: usize, b: usize) -> usize
@@ -26,6 +26,16 @@ pub fn copy_into(buffer: &mut [u8], bytes: &[u8]) -> usize
         i += 1;
     }
     n
+}
+
+// Copies as much of the bytes as fits from an index on.
+pub fn copy_at(buffer: &mut [u8], at: usize, bytes: &[u8])
+    ensures { λ _. ⌜ now (buffer .exit) ≡ placed (now (buffer .entry)) at (now (bytes .entry)) ⌝ }
+{
+    if buffer.len() <= at {
+        return;
+    }
+    copy_into(&mut buffer[at..], bytes);
 }
 
 // A byte as a length or an index.

@@ -30,11 +30,6 @@ use Rattle.reader.proofs.Capacity.{Tracks, flatPoints, flatFrames, rawS
 use Rattle.reader.proofs.Cuts.{lastOf, inTurn, afterCut, walk-cut, joinCut, cutMore, cut-append, cond-then, WasCut, was-cut}
 use Rattle.reader.proofs.Flats.{flatOf, shows}
 
--- what is below 256 everywhere is a list of bytes
-pub bytes-of : (l : List ℕ) → ((i : ℕ) → getD l i 0 < 256) → Bytes l
-bytes-of [] h = tt
-bytes-of (b ∷ l) h = (h 0, bytes-of l (λ i. h (suc i)))
-
 -- a reading is right for what the definition reads
 abbrev Right : Option Content → Reading → Type 0
 Right o r = (readingTold r ≡ imageTold o) × (r ≡ readingOf o)

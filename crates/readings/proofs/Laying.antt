@@ -15,25 +15,9 @@ use Rattle.frame.specs.Word.{frameWord}
 use Rattle.memory.specs.Image.{joined}
 use Rattle.reader.specs.Reading.{padded}
 use Rattle.readings.specs.Lists.{lowBytes, wordBytes, wordsBytes}
-use Rattle.readings.specs.Laying.{placed}
+use Rattle.laws.specs.Copied.{placed}
 
 -- ---- bytes copied into a part that is put back
-
-pub placed-out : (l bytes : List ℕ) (at : ℕ) → length l ≤ at → l ≡ placed l at bytes
-placed-out l bytes at h =
-    sym
-    (ap (λ (m : List ℕ). take at l ++ copied m bytes) (drop-of-length-le l {i = at} h)
-    ∙ ap (λ (m : List ℕ). take at l ++ m) (drop-of-length-le [] {i = length bytes} (omega arith))
-    ∙ append-nil (take at l)
-    ∙ take-all at l h)
-
-pub placed-in : (l last bytes : List ℕ) (at : ℕ) → last ≡ copied (midOf at (length l - at) l) bytes
-    → putMid at (length l - at) l last ≡ placed l at bytes
-placed-in l last bytes at e =
-    let p : postOf at (length l - at) l ≡ [] = drop-of-length-le (drop at l) {i = length l - at} (simp length-drop (omega arith)) in
-    ap (λ (m : List ℕ). take at l ++ (last ++ m)) p
-    ∙ ap (λ (m : List ℕ). take at l ++ m) (append-nil last ∙ e)
-    ∙ ap (λ (m : List ℕ). take at l ++ copied m bytes) (part-to-end l at)
 
 -- ---- one part behind the other
 

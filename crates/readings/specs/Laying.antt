@@ -8,10 +8,6 @@ use Rattle.reader.specs.declared.Frames.{Frames}
 use Rattle.reader.specs.Reading.{padded}
 use Rattle.readings.specs.Lists.{wordsBytes}
 
--- as many of the bytes as fit, from an index on
-abbrev pub placed : List ℕ → ℕ → List ℕ → List ℕ
-placed l at bytes = take at l ++ copied (drop at l) bytes
-
 -- the arrays of a reading
 abbrev pub laidBytes : Points → Frames → List ℕ
 laidBytes s q = s .items ++ s .ends ++ padded 576 0 (wordsBytes (take (q .len) (q .items))) ++ q .ends

@@ -6,7 +6,7 @@
 ghost use mathlib.Core.Path.{_≡_};
 ghost use Prim.Native.Nat.{_≤_, _<_};
 ghost use lib.ListN.{length, take, getD, getElem?};
-ghost use Rattle.laws.specs.Copied.{copied};
+ghost use Rattle.laws.specs.Copied.{copied, placed};
 ghost use Rattle.errors.specs.Packed.{packed};
 ghost use Rattle.content.specs.ReadImage.{readImage, readFrames};
 ghost use Rattle.reader.specs.Items.{frameAtTold};
@@ -14,7 +14,7 @@ ghost use Rattle.reader.specs.Reading.{padded};
 ghost use Rattle.readings.specs.InPlace.{present, itemFits, lastIn, indexTold, itemsFit, beforeItem, itemAt, NthFrame, FrameOf};
 ghost use Rattle.readings.specs.Readings.{countsAnswer, byteCode, Small, pointAnswer, frameCode, frameAnswer};
 ghost use Rattle.readings.specs.Lists.{lowBytes, wordsBytes, listsOut};
-ghost use Rattle.readings.specs.Laying.{placed, laidBytes};
+ghost use Rattle.readings.specs.Laying.{laidBytes};
 use errors::Answer;
 use frame::FrameBuilder;
 use frame::FrameRead;
@@ -119,10 +119,10 @@ fn lay(snippets: Points, sequences: Frames, out: &mut [u8])
     let point_ends = snippets.ends;
     let words = frame_bytes(sequences);
     let frame_ends = sequences.ends;
-    copy_at(out, 0, &points);
-    copy_at(out, POINT_ENDS, &point_ends);
-    copy_at(out, FRAMES, &words);
-    copy_at(out, FRAME_ENDS, &frame_ends);
+    laws::copy_at(out, 0, &points);
+    laws::copy_at(out, POINT_ENDS, &point_ends);
+    laws::copy_at(out, FRAMES, &words);
+    laws::copy_at(out, FRAME_ENDS, &frame_ends);
 }
 
 // The frames in use, six bytes each, then zeros.
@@ -138,7 +138,7 @@ fn frame_bytes(frames: Frames) -> [u8; FRAMES_SIZE]
         }
         let f = frames.items[i];
         let six = low_bytes(f.word());
-        copy_at(&mut out, 6 * i, &six);
+        laws::copy_at(&mut out, 6 * i, &six);
         i += 1;
     }
     out
@@ -161,16 +161,6 @@ fn low_bytes(w: u64) -> [u8; 6]
         (e % 256) as u8,
         (f % 256) as u8,
     ]
-}
-
-// Copies as much as fits from an index on.
-fn copy_at(out: &mut [u8], at: usize, bytes: &[u8])
-    ensures { λ _. ⌜ now (out .exit) ≡ placed (now (out .entry)) at (now (bytes .entry)) ⌝ }
-{
-    if out.len() <= at {
-        return;
-    }
-    laws::copy_into(&mut out[at..], bytes);
 }
 
 // ---- whether bytes are an image

@@ -10,7 +10,8 @@ use Rattle.content.specs.Content.{Content}
 use Rattle.content.specs.ReadImage.{readImage}
 use Rattle.reader.specs.declared.Reading.{Reading}
 use Rattle.reader.specs.Reading.{readNumber, readingOf}
-use Rattle.reader.proofs.Whole.{bytes-of, whole}
+use Rattle.reader.proofs.Whole.{whole}
+use Rattle.laws.proofs.Lists.{bytes-of}
 use Rattle.reader.proofs.read.Statement.{statement}
 use Rattle.reader.proofs.read.Tie as tie
 

@@ -4,7 +4,7 @@ use mathlib.Core.Path.{sym, _∙_}
 use native.Mathlib.Omega.{arith}
 use denote.Ref.{now}
 use Rattle.content.proofs.Items.{counts-sound}
-use Rattle.reader.proofs.Whole.{bytes-of}
+use Rattle.laws.proofs.Lists.{bytes-of}
 use Rattle.readings.proofs.Fitting.{fits-other, fits-not, fits-items}
 use Rattle.readings.proofs.is_image.Statement.{statement}
 use Rattle.readings.proofs.is_image.Tie as tie

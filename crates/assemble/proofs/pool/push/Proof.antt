@@ -14,12 +14,12 @@ returns c =
     full (a .most) _ (now (a .list)) (now (a .bytes)) (c .before .wide .ensures .0) (c .if1 .taken)
 
 slice-write-list-2 : tie.Need-slice-write-list-2
-slice-write-list-2 c = simp length-set (omega (arith, c .before .before .place .kept .0, c .before .before .before .before .before .before .before .before .before .before .before .before .pre .0))
+slice-write-list-2 c = simp length-set (omega (arith, c .before .before .copy-at .kept .0, c .before .before .before .before .before .before .before .before .before .before .before .before .pre .0))
 
 returns-2 : tie.Need-returns-2
 returns-2 c =
     let a = c .before .before .before .before .before .before .before .before .before .before .before .before .args in
-    room (a .most) _ (now (a .list)) (now (a .bytes)) (c .before .before .before .before .before .before .before .before .wide .ensures .0) (c .before .before .before .before .before .before .before .if1 .left) _ _ _ (c .before .before .before .before .sum .ensures .0) refl (c .before .before .place .ensures)
+    room (a .most) _ (now (a .list)) (now (a .bytes)) (c .before .before .before .before .before .before .before .before .wide .ensures .0) (c .before .before .before .before .before .before .before .if1 .left) _ _ _ (c .before .before .before .before .sum .ensures .0) refl (c .before .before .copy-at .ensures)
 
 pub push-spec : {M : Type 1} → statement M
 push-spec =

@@ -4,15 +4,14 @@ use mathlib.Core.Path.{_∙_}
 use native.Mathlib.Omega.{arith}
 use denote.Ref.{now}
 use lib.ListN.{length}
-use Rattle.laws.proofs.Copies.{copied-over}
-use Rattle.assemble.proofs.Lists.{put-placed}
+use Rattle.laws.proofs.Copies.{copied-over, placed-in}
 use Rattle.assemble.proofs.pool.put.Statement.{statement}
 use Rattle.assemble.proofs.pool.put.Tie as tie
 
 returns : tie.Need-returns
 returns c =
     let b = c .before .before .before .before .before .before in
-    put-placed (now (b .args .out)) _ (now (b .args .bytes)) (b .args .at) (c .before .before .copy-into .ensures .1)
+    placed-in (now (b .args .out)) _ (now (b .args .bytes)) (b .args .at) (c .before .before .copy-into .ensures .1)
     ∙ copied-over (now (b .args .out)) (now (b .args .bytes)) (b .args .at) (omega (arith, b .pre .0, b .pre .1))
 
 pub put-spec : {M : Type 1} → statement M
