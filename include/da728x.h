@@ -6,7 +6,7 @@
  *     cc -Iinclude examples/c/pattern.c -Ltarget/staticlib -lcapi -lcapi_driver
  *
  * The archives need memcpy and memset only. They allocate nothing and keep no data, so calls
- * that lend different bytes may run at the same time. Stack, as measured: 7 KB in
+ * that lend different bytes may run at the same time. Stack, as measured: 5 KB in
  * da728x_read_lists, 2 KB in the functions that run builder calls, 1 KB in the others.
  *
  * Words of the chip, by which everything below is named:
