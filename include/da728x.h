@@ -6,7 +6,7 @@
  *     cc -Iinclude examples/c/pattern.c -Ltarget/staticlib -lcapi -lcapi_driver
  *
  * The archives need memcpy and memset only. They allocate nothing and keep no data, so calls
- * that lend different bytes may run at the same time. Stack, as measured: 7 KB in
+ * that lend different bytes may run at the same time. Stack, as measured: 5 KB in
  * da728x_read_lists, 2 KB in the functions that run builder calls, 1 KB in the others.
  *
  * Words of the chip, by which everything below is named:
@@ -88,13 +88,14 @@ uint8_t da728x_point_amplitude(uint8_t byte);
  *   an argument out of range     the call is refused, and changes nothing
  *   a refused FRAME_NEW          3, and no frame is begun any more, even if one was before:
  *                                the calls meant for the new frame are refused with 3
- *   a forgotten FRAME_NEW        each call on the frame is refused with 3, before its argument
- *                                is looked at
+ *   a forgotten FRAME_NEW        each call on the frame is refused with 3, also if its loop
+ *                                count or frequency is out of range
  *   a forgotten SNIPPET_NEW      nothing after an accepted ADD_SNIPPET; else the points are
  *   or SEQUENCE_NEW              appended to those that were not added. Likewise for frames
  *   a refused add                the frame, the snippet or the sequence stays, and can be added
  *                                by a later call
- *   an unknown code              14, for 0 and for codes above 14; it changes nothing
+ *   an unknown code              14, for 0 and for codes above 14, and for a gain or timebase
+ *                                code above 3; it changes nothing
  *   a list that is cut short     1 to 3 bytes at the end count as one call, the last, which is
  *                                refused with 14
  *
@@ -110,8 +111,8 @@ uint8_t da728x_point_amplitude(uint8_t byte);
 #define DA728X_CALL_POINT 4         /* SnippetBuilder::point(the point with the byte a): 6 */
 #define DA728X_CALL_FRAME_NEW 5     /* FrameBuilder::new(snippet number a): 3 */
 #define DA728X_CALL_SILENCE 6       /* FrameBuilder::silence() */
-#define DA728X_CALL_GAIN 7          /* FrameBuilder::gain(code a; above 3 counts as 3): 3 */
-#define DA728X_CALL_TIMEBASE 8      /* FrameBuilder::timebase(code a; above 3 counts as 3): 3 */
+#define DA728X_CALL_GAIN 7          /* FrameBuilder::gain(code a, 0 to 3): 14, 3 */
+#define DA728X_CALL_TIMEBASE 8      /* FrameBuilder::timebase(code a, 0 to 3): 14, 3 */
 #define DA728X_CALL_LOOP_COUNT 9    /* FrameBuilder::loop_count(a): 3, 4 */
 #define DA728X_CALL_FREQUENCY_HZ 10 /* FrameBuilder::frequency_hz(a + 256 * b): 3, 5 */
 #define DA728X_CALL_SEQUENCE_NEW 11 /* SequenceBuilder::new(): a sequence without frames */

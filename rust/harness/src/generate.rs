@@ -2,7 +2,7 @@
 
 use crate::random::Random;
 use crate::{GAINS, TIMEBASES, oracle};
-use yambelugo::{Call, Gain, PwlPoint, Timebase};
+use yambelugo::{Call, PwlPoint};
 
 /// The last code of a call.
 const LAST: u8 = 14;
@@ -41,9 +41,11 @@ pub fn list(calls: &[Option<Call>], random: &mut Random) -> Vec<u8> {
 pub fn record(call: Option<Call>, random: &mut Random) -> [u8; 4] {
     let [x, y, z] = [random.byte(), random.byte(), random.byte()];
     let Some(call) = call else {
-        let code = match random.below(4) {
+        let code = match random.below(5) {
             0 => 0,
             1 => LAST + random.within(1, 3) as u8,
+            // A gain or a timebase that there is not.
+            2 => return [random.pick(&[7, 8]), random.near(&[4, 5, 7, 8, 255]).max(4), y, z],
             _ => random.within(usize::from(LAST) + 1, 255) as u8,
         };
         return [code, x, y, z];
@@ -52,8 +54,6 @@ pub fn record(call: Option<Call>, random: &mut Random) -> [u8; 4] {
     match call {
         Call::SnippetNew | Call::Silence | Call::SequenceNew | Call::AddFrame => [code, x, y, z],
         Call::AddSnippet | Call::AddSequence => [code, x, y, z],
-        // A code above 3 counts as 3.
-        Call::Gain(Gain::Eighth) | Call::Timebase(Timebase::Ms87_04) => [code, x.max(3), y, z],
         Call::Point(_) | Call::FrameNew(_) => [code, a, y, z],
         Call::Gain(_) | Call::Timebase(_) | Call::LoopCount(_) => [code, a, y, z],
         Call::Ramp(..) | Call::Step(..) | Call::FrequencyHz(_) => [code, a, b, z],

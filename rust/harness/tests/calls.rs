@@ -269,7 +269,7 @@ fn compare_strict(list: &[u8], answers: &[u8]) {
     assert_eq!(image, [0xA5; yambelugo::IMAGE]);
 }
 
-/// Every code that is no call at every place of lists, and lists cut at every byte.
+/// Every code that is no call, and every gain and timebase that there is not, at every place of lists; lists cut at every byte.
 #[test]
 fn unknown_codes_and_cut_lists() {
     let mut random = Random::new(6);
@@ -282,10 +282,11 @@ fn unknown_codes_and_cut_lists() {
             other.insert(place, None);
             let wanted = published(&other, other.len());
             assert_eq!(wanted.answers[place], NO_CALL);
-            for code in (15..=255).chain([0]) {
+            let gains = (4..=255).flat_map(|choice| [[7, choice], [8, choice]]);
+            for [code, a] in (15..=255).chain([0]).map(|code| [code, 1]).chain(gains) {
                 let mut list = all.clone();
-                list.splice(4 * place..4 * place, [code, 1, 1, 1]);
-                assert_eq!(library(&list, other.len()), wanted, "code {code} at {place}");
+                list.splice(4 * place..4 * place, [code, a, 1, 1]);
+                assert_eq!(library(&list, other.len()), wanted, "code {code} {a} at {place}");
                 compare_strict(&list, &wanted.answers[..other.len()]);
                 unknown += 1;
             }
@@ -300,7 +301,7 @@ fn unknown_codes_and_cut_lists() {
         }
     }
     println!("{unknown} unknown codes, {cut} cut lists");
-    assert!(unknown > 50_000 && cut > 1_000);
+    assert!(unknown > 100_000 && cut > 1_000);
 }
 
 /// More calls than a u16 counts, with the last ones taking effect.

@@ -80,7 +80,7 @@ impl Function {
     }
 }
 
-/// What a builder call answers, by its code; other codes are no call, as 0 is.
+/// What a builder call answers, by its code; other codes are no call, as 0 is, and neither is a gain or a timebase above 3.
 const CALLS: [&[u8]; 15] = [
     &[14],
     &[0],
@@ -124,6 +124,7 @@ impl Tally {
     /// Counts what a record of 1 to 4 bytes answered; it has to be listed.
     pub fn count_call(&mut self, record: &[u8], told: u8) {
         let code = match record {
+            [7 | 8, 4..=255, _, _] => 0,
             [code @ 0..15, _, _, _] => usize::from(*code),
             _ => 0,
         };

@@ -17,11 +17,12 @@ use hands::Hands;
 use patterns::Patterns;
 use sessions::Sessions;
 
-/// How often each function is called: the last ones, which move a session on, more often.
+/// How often each function is called: the last ones, which move a session on, and those that tell the most numbers more often.
 fn weight(function: Function) -> usize {
     match function {
         Function::da728x_answer => 24,
         Function::da728x_record | Function::da728x_result => 3,
+        Function::da728x_answers | Function::da728x_assemble_strict => 2,
         _ => 1,
     }
 }

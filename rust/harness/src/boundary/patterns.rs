@@ -398,14 +398,14 @@ fn too_many(random: &mut Random) -> Vec<Call> {
     if random.chance(40) {
         let snippets = [good_point(random), Call::AddSnippet].repeat(random.within(14, 17));
         let sequence = [Call::Silence, Call::AddFrame, Call::AddSequence];
-        return [snippets, sequence.repeat(random.within(15, 18))].concat();
+        return [snippets, sequence.repeat(random.within(16, 18))].concat();
     }
     let bytes = random.pick(&[1, 2, 3, 3, 3]);
     let mut calls = mended(&add_frames(random.within(32, 36), bytes, random));
     if random.chance(80) {
         calls.extend([Call::FrameNew(9), Call::FrequencyHz(300), Call::AddFrame]);
     }
-    calls.extend((0..random.within(14, 18)).map(|_| good_point(random)));
+    calls.extend((0..random.within(15, 24)).map(|_| good_point(random)));
     calls.extend([Call::AddSnippet, Call::AddSequence]);
     calls
 }

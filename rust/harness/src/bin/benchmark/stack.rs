@@ -50,7 +50,7 @@ extern "C" fn trampoline(call: &mut &mut dyn FnMut()) {
 mod tests {
     use super::*;
 
-    /// 8 KB for all lists of an image, 4 KB for building and other reading, 1 KB for what drives the
+    /// 6 KB for all lists of an image, 4 KB for building and other reading, 1 KB for what drives the
     /// chip, each with the caller's buffers.
     #[test]
     fn stack_stays_within_its_bounds() {
@@ -59,7 +59,7 @@ mod tests {
         for (name, ours, _) in depths {
             let patterns = ["images", "answers", "one item", "reading"];
             let bound = match name {
-                "reading all lists" => 8192,
+                "reading all lists" => 6144,
                 _ if patterns.iter().any(|it| name.starts_with(it)) => 4096,
                 _ => 1024,
             };
