@@ -1,3 +1,4 @@
+pub mod Accepts
 pub mod Demand3
 pub mod Flag
 pub mod Frames
