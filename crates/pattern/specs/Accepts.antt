@@ -94,5 +94,6 @@ pub record Accepts : Type 0 where
   pub frame : (m : FrameCalls) (k : FrameCall) → frameCalled m k ≡ frameFault (m .begin) k
   pub sequence : (ms : List FrameCalls) (m : FrameCalls) → sequenceStep (sequenceFrom ms) m .number ≡ sequenceFault (framesFrom ms) m
   pub sequenceBuild : (ms : List FrameCalls) → builtSequence (sequenceFrom ms) .number ≡ emptySequence (framesFrom ms)
-  pub memory : (a : Bool) (ks : List MemoryCall) (k : MemoryCall) → memoryStep (memoryFrom a ks) k .number ≡ memoryFault (contentFrom a ks) k
+  pub memory : (a : Bool) (ks : List MemoryCall) (k : MemoryCall)
+      → memoryStep (memoryFrom a ks) k .number ≡ memoryFault (contentFrom a ks) k
   pub memoryBuild : (a : Bool) (ks : List MemoryCall) → builtFrom a ks .number ≡ buildFault (contentFrom a ks)
