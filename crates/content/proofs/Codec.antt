@@ -40,12 +40,12 @@ module _ {A B : Type 0} where
     pub fit : (b : B) → Good b → Fit (write b)
 
   module _ (Fit : A → Type 0) (read : A → Option B) (write : B → A) (Good : B → Type 0) (canon : B → B) (k : Codec Fit read write Good canon) where
-    pub refuses : (a : A) → Fit a → (read a ≡ none) ↔ ¬ ((b : B) × Good b × (write b ≡ a))
-    refuses a h = (λ e w. none-some (canon (w .0)) (cc (k .complete (w .0) (w .1), w .2, e)), λ f. go f (read a) refl)
+    pub refuses : (a : A) → Fit a → (read a ≡ none) ↔ ¬ ((b : B) × (Good b × (write b ≡ a)))
+    refuses a h = (λ e w. none-some (canon (w .0)) (cc (k .complete (w .0) (w .1 .0), w .1 .1, e)), λ f. go f (read a) refl)
       where
-        go : ¬ ((b : B) × Good b × (write b ≡ a)) → (m : Option B) → read a ≡ m → read a ≡ none
+        go : ¬ ((b : B) × (Good b × (write b ≡ a))) → (m : Option B) → read a ≡ m → read a ≡ none
         go f none e = e
-        go f (some b) e = absurd (f (b, k .sound a b h e .0, k .sound a b h e .1))
+        go f (some b) e = absurd (f (b, k .sound a b h e))
 
     pub write-canon : (b : B) → Good b → write (canon b) ≡ write b
     write-canon b g = k .sound (write b) (canon b) (k .fit b g) (k .complete b g) .1

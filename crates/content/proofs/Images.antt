@@ -149,7 +149,7 @@ same-image c d a b =
     (λ e. canonical-same c d (s .0 e), λ x. s .1 (same-canonical c d x))
 
 -- "refuses exactly when there are no such lists"
-pub refuses-image : (l : List ℕ) → Bytes l → (readImage l ≡ none) ↔ ¬ ((c : Content) × Admitted c × (imageOf c ≡ l))
+pub refuses-image : (l : List ℕ) → Bytes l → (readImage l ≡ none) ↔ ¬ ((c : Content) × (Admitted c × (imageOf c ≡ l)))
 refuses-image = refuses Bytes readImage imageOf Admitted canonical image-codec
 
 -- an admitted content is the same as what its image is read back to

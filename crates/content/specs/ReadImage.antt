@@ -1,14 +1,14 @@
 -- The content that an image has: what the reader answers. Demand 3, "lists that the builders admit and whose image those bytes are";
 -- document 01, 'The hundred bytes'. proofs/Images.antt: it is the one whose image the bytes are, if there is one.
 use Prim.Native.Nat.{ℕ, zero, suc, _+_, _-_}
-use mathlib.Core.Bool.{Bool, true, false, cond, _&&_}
+use mathlib.Core.Bool.{Bool, true, cond, _&&_}
 use mathlib.Core.List.{List, [], _∷_}
-use mathlib.Core.Option.{Option, none, some, Option·map}
+use mathlib.Core.Option.{Option, none, some}
 use lib.Dec.{ltb, leb, eqb}
 use lib.ListN.{length, take, drop}
 use Rattle.snippet.specs.Point.{rampIn, timebasesIn, amplitudeIn}
 use Rattle.frame.specs.declared.FrameBuilder.{FrameBuilder}
-use Rattle.frame.specs.Read.{Parsed, readFrame}
+use Rattle.frame.specs.Read.{readFrame}
 use Rattle.content.specs.Content.{Point, Content}
 
 -- what follows where the first is there

@@ -18,7 +18,7 @@ use Rattle.frame.specs.declared.Frequency.{Frequency}
 use Rattle.frame.specs.declared.Frequency.the-variants as Frequency
 use Rattle.frame.specs.declared.FrameBuilder.{FrameBuilder}
 use Rattle.frame.specs.Agreement.{FrameAdmitted, LoopAdmitted, FrequencyAdmitted}
-use Rattle.frame.specs.Builder.{plainFrame, silentFrame, newFrame, withLoopCount, withFrequency}
+use Rattle.frame.specs.Builder.{frameWith, plainFrame, newFrame, withLoopCount, withFrequency}
 use Rattle.frame.specs.Frame.{firstByte, secondByte, thirdByte, hasSecond, bytesOf, frameBytes, builtFrame}
 use Rattle.pattern.specs.Calls.{FrameCall, gain, timebase, loopCount, frequencyHz, frameStep, Begin, new, silence, begunBy, FrameCalls, frameRan, numberOf, lastGain, lastTimebase, lastLoop, lastFrequency, frameFrom}
 
@@ -39,13 +39,7 @@ built-bytes b = go (hasSecond b) where
 
 abbrev pub fieldsAfter : FrameBuilder → List FrameCall → FrameBuilder
 fieldsAfter b ks =
-    record {
-      «snippet_id» = b .«snippet_id»;
-      gain = lastGain (b .gain) ks;
-      timebase = lastTimebase (b .timebase) ks;
-      «loop_count» = lastLoop (b .«loop_count») ks;
-      frequency = lastFrequency (b .frequency) ks;
-    }
+    frameWith (b .«snippet_id») (lastGain (b .gain) ks) (lastTimebase (b .timebase) ks) (lastLoop (b .«loop_count») ks) (lastFrequency (b .frequency) ks)
 
 loop-after : (b : FrameBuilder) (k : ℕ) (ks : List FrameCall) → fieldsAfter (withLoopCount b k .builder) ks ≡ fieldsAfter b (loopCount k ∷ ks)
 loop-after b k ks = go (decLe k 15) where

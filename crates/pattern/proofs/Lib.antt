@@ -1,6 +1,8 @@
+pub mod Accepts
 pub mod Demand3
 pub mod Flag
 pub mod Frames
+pub mod Loops
 pub mod Memories
 pub mod Outcomes
 pub mod Reached

@@ -1,31 +1,31 @@
 -- A memory's builder holds the content that its accepted calls added, and what it builds is that content's image.
 -- Assumes nothing.
 use mathlib.Core.Path.{_≡_, refl, sym, ap, ap₂, _∙_, subst}
-use mathlib.Core.Logic.{_⊎_, inl, inr}
-use mathlib.Core.Bool.{Bool, true, false, cond}
+use mathlib.Core.Logic.{inl, inr}
+use mathlib.Core.Bool.{Bool}
 use mathlib.Core.List.{List, [], _∷_, _++_, map, append-nil}
-use Prim.Native.Nat.{ℕ, zero, suc, _+_, _-_, _≤_, _<_}
+use Prim.Native.Nat.{ℕ, zero, suc, _≤_, _<_}
 use native.Mathlib.Decide.{decLe}
 use native.Mathlib.Omega.{arith}
 use borrow.Author.Tests.{lt-ltb, le-ltb, le-leb, lt-leb}
 use lib.ListN.{length, take, length-map}
 use Rattle.laws.specs.Bytes.{All}
-use Rattle.errors.specs.Told.{Handed, Built}
-use Rattle.snippet.specs.declared.PwlPoint.{PwlPoint}
-use Rattle.snippet.specs.declared.Snippet.{Snippet}
+use Rattle.errors.specs.Told.{Handed}
 use Rattle.snippet.specs.declared.SnippetBuilder.{SnippetBuilder}
 use Rattle.snippet.specs.Snippet as code
 use Rattle.snippet.specs.Snippet.{snippetBytes, builtSnippet}
 use Rattle.frame.specs.declared.FrameBuilder.{FrameBuilder}
 use Rattle.sequence.specs.declared.SequenceBuilder.{SequenceBuilder}
 use Rattle.sequence.specs.Sequence.{sequenceBytes, builtSequence}
+use Rattle.memory.specs.declared.WaveformMemory.{WaveformMemory}
 use Rattle.memory.specs.declared.WaveformMemoryBuilder.{WaveformMemoryBuilder}
-use Rattle.memory.specs.Image.{imageSize, imageBytes}
-use Rattle.memory.specs.Memory.{newMemory, withSnippet, withSequence, imageNumber, answered, snippetItems, sequenceItems, builtMemory}
-use Rattle.content.specs.Content.{Point, Content, pointBytes, framesBytes, imageOf, SnippetAdmitted, SequenceAdmitted, Admitted}
+use Rattle.memory.specs.Image.{imageSize}
+use Rattle.memory.specs.Memory.{newMemory, imageNumber, snippetItems, sequenceItems, memoryOf, builtMemory}
+use Rattle.content.specs.Content.{Point, pointBytes, framesBytes, imageOf, SnippetAdmitted, SequenceAdmitted, Admitted}
 use Rattle.content.proofs.Codec.{all-append}
 use Rattle.content.proofs.Sequences.{short}
 use Rattle.pattern.specs.Calls.{held, MemoryCall, addSnippet, addSequence, Item, points, frames, snippetsOf, sequencesOf, contentOf, withBuiltSnippet, withBuiltSequence, memoryStep, addedItem, memoryFrom, contentFrom, builtFrom, snippetFrom, pointsFrom, sequenceFrom, framesFrom}
+use Rattle.pattern.specs.Demand.{ValuesOf}
 use Rattle.pattern.proofs.Outcomes.{Outcome, all-calls, Shows, shows-more}
 use Rattle.pattern.proofs.Snippets as snippet
 use Rattle.pattern.proofs.Snippets.{snippet-holds}
@@ -153,17 +153,25 @@ number-whole ss qs e = first (decLe 1 (length ss)) where
   first (yes p) = second p (decLe 1 (length qs))
   first (no p) = let p′ : length ss < 1 = omega arith in let z : _≡_ {A = ℕ} 9 0 = simp (lt-ltb (length ss) 1 p′) at e in absurd (omega arith)
 
--- what a builder that holds a content builds, where nothing is refused
-built : (b : WaveformMemoryBuilder) (is : List Item) → Holds b is → builtMemory b .number ≡ 0
-    → Admitted (contentOf is) × (imageOf (contentOf is) ≡ builtMemory b .item .«data»)
-unfolding builtMemory imageOf
-built b is h e =
-    let ss : List (List ℕ) = map pointBytes (snippetsOf is) in
-    let qs : List (List ℕ) = map framesBytes (sequencesOf is) in
-    let r : imageNumber (snippetItems b) (sequenceItems b) ≡ imageNumber ss qs = ap₂ imageNumber (h .snippets .shown) (h .sequences .shown) in
-    let w = number-whole ss qs (sym r ∙ e) in
-    let ns = length-map (snippetsOf is) pointBytes in
-    let nq = length-map (sequencesOf is) framesBytes in (
+module _ (b : WaveformMemoryBuilder) (is : List Item) (h : Holds b is) (e : builtMemory b .number ≡ 0) where
+  abbrev ss : List (List ℕ)
+  ss = map pointBytes (snippetsOf is)
+
+  abbrev qs : List (List ℕ)
+  qs = map framesBytes (sequencesOf is)
+
+  -- what a builder that holds a content builds, where nothing is refused
+  built-memory : builtMemory b .item ≡ memoryOf ss qs
+  unfolding builtMemory
+  built-memory = simp e (ap₂ memoryOf (h .snippets .shown) (h .sequences .shown))
+
+  built-admitted : Admitted (contentOf is)
+  unfolding builtMemory
+  built-admitted =
+      let r : imageNumber (snippetItems b) (sequenceItems b) ≡ imageNumber ss qs = ap₂ imageNumber (h .snippets .shown) (h .sequences .shown) in
+      let w = number-whole ss qs (sym r ∙ e) in
+      let ns = length-map (snippetsOf is) pointBytes in
+      let nq = length-map (sequencesOf is) framesBytes in
       record {
         someSnippets = omega (arith, w .someSnippets);
         fewSnippets = omega (arith, h .snippets .counted, h .snippets .room);
@@ -172,9 +180,19 @@ built b is h e =
         fewSequences = omega (arith, h .sequences .counted, h .sequences .room);
         sequence = h .sequence;
         fits = w .fits;
-      },
-      simp e (ap₂ imageBytes (sym (h .snippets .shown)) (sym (h .sequences .shown))),
-    )
+      }
+
+  built : Admitted (contentOf is) × (imageOf (contentOf is) ≡ builtMemory b .item .«data»)
+  unfolding imageOf
+  built = (built-admitted, ap (λ (m : WaveformMemory). m .«data») (sym built-memory))
+
+  built-values : ValuesOf (builtMemory b .item) (contentOf is)
+  built-values =
+      record {
+        size = ap (λ (m : WaveformMemory). m .len) built-memory;
+        snippets = ap (λ (m : WaveformMemory). m .«num_snippets») built-memory ∙ length-map (snippetsOf is) pointBytes;
+        sequences = ap (λ (m : WaveformMemory). m .«num_sequences») built-memory ∙ length-map (sequencesOf is) framesBytes;
+      }
 
 pub memory-holds : (a : Bool) (ks : List MemoryCall) → Holds (memoryFrom a ks) (held memoryStep addedItem (newMemory a) ks)
 memory-holds a ks = all-calls memoryStep addedItem Holds one-call ks (newMemory a) [] (none-held a)
@@ -182,3 +200,6 @@ memory-holds a ks = all-calls memoryStep addedItem Holds one-call ks (newMemory 
 pub image-from : (a : Bool) (ks : List MemoryCall) → builtFrom a ks .number ≡ 0
     → Admitted (contentFrom a ks) × (imageOf (contentFrom a ks) ≡ builtFrom a ks .item .«data»)
 image-from a ks e = built (memoryFrom a ks) _ (memory-holds a ks) e
+
+pub values-from : (a : Bool) (ks : List MemoryCall) → builtFrom a ks .number ≡ 0 → ValuesOf (builtFrom a ks .item) (contentFrom a ks)
+values-from a ks e = built-values (memoryFrom a ks) _ (memory-holds a ks) e

@@ -23,7 +23,7 @@ use Rattle.frame.specs.declared.Frequency.{Frequency}
 use Rattle.frame.specs.declared.Frequency.the-variants as Frequency
 use Rattle.frame.specs.declared.FrameBuilder.{FrameBuilder}
 use Rattle.frame.specs.Agreement.{FrameAdmitted, LoopAdmitted, FrequencyAdmitted}
-use Rattle.frame.specs.Builder.{plainFrame, newFrame}
+use Rattle.frame.specs.Builder.{frameWith, plainFrame}
 use Rattle.frame.specs.Frame.{bytesOf, frameBytes, builtFrame}
 use Rattle.sequence.specs.declared.SequenceBuilder.{SequenceBuilder}
 use Rattle.sequence.specs.Sequence.{newSequence}
@@ -133,7 +133,7 @@ begun-back zero h = refl
 begun-back (suc n) h = simp (le-ltb (suc n) 1 (omega arith), le-ltb 15 (suc n) h)
 
 frame-back : (n : ℕ) (g : Gain) (t : Timebase) (l : LoopCount) (q : Frequency) → LoopAdmitted l → FrequencyAdmitted q
-    → frameFrom (frameCallOf n g t l q) ≡ record { «snippet_id» = n; gain = g; timebase = t; «loop_count» = l; frequency = q }
+    → frameFrom (frameCallOf n g t l q) ≡ frameWith n g t l q
 frame-back n g t LoopCount.Absent Frequency.Absent hl hq = simp (number-back n)
 frame-back n g t LoopCount.Absent (Frequency.Given f) hl hq = simp (number-back n, le-ltb 511 f hq)
 frame-back n g t (LoopCount.Given k) Frequency.Absent hl hq = simp (number-back n, le-ltb 15 k hl)

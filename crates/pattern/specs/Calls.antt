@@ -18,7 +18,7 @@ use Rattle.frame.specs.declared.LoopCount.the-variants as LoopCount
 use Rattle.frame.specs.declared.Frequency.{Frequency}
 use Rattle.frame.specs.declared.Frequency.the-variants as Frequency
 use Rattle.frame.specs.declared.FrameBuilder.{FrameBuilder}
-use Rattle.frame.specs.Builder.{silentFrame, newFrame, withGain, withTimebase, withLoopCount, withFrequency}
+use Rattle.frame.specs.Builder.{frameWith, silentFrame, newFrame, withGain, withTimebase, withLoopCount, withFrequency}
 use Rattle.frame.specs.Frame.{builtFrame}
 use Rattle.sequence.specs.declared.Sequence.{Sequence}
 use Rattle.sequence.specs.declared.SequenceBuilder.{SequenceBuilder}
@@ -146,13 +146,8 @@ lastFrequency q (frequencyHz f ∷ ks) = lastFrequency (cond (ltb 511 f) q (Freq
 
 abbrev pub frameFrom : FrameCalls → FrameBuilder
 frameFrom m =
-    record {
-      «snippet_id» = numberOf (m .begin);
-      gain = lastGain Full (m .calls);
-      timebase = lastTimebase «Ms5_44» (m .calls);
-      «loop_count» = lastLoop LoopCount.Absent (m .calls);
-      frequency = lastFrequency Frequency.Absent (m .calls);
-    }
+    frameWith (numberOf (m .begin)) (lastGain Full (m .calls)) (lastTimebase «Ms5_44» (m .calls))
+    (lastLoop LoopCount.Absent (m .calls)) (lastFrequency Frequency.Absent (m .calls))
 
 -- ---- a sequence: each call adds the frame that its own calls make; where `new` was refused there is no frame to add
 

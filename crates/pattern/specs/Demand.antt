@@ -5,11 +5,14 @@ use mathlib.Core.Path.{_≡_}
 use mathlib.Core.Logic.{_↔_}
 use mathlib.Core.Bool.{Bool, false}
 use mathlib.Core.List.{List, _++_}
-use mathlib.Core.Option.{Option, none, some}
+use mathlib.Core.Option.{none, some}
 use lib.ListN.{length}
-use Rattle.laws.specs.Bytes.{Bytes}
+use Rattle.laws.specs.Bytes.{All, Bytes}
+use Rattle.frame.specs.declared.FrameBuilder.{FrameBuilder}
+use Rattle.frame.specs.Frame.{loopGiven, hasSecond}
+use Rattle.memory.specs.declared.WaveformMemory.{WaveformMemory}
 use Rattle.memory.specs.Memory.{builtMemory}
-use Rattle.content.specs.Content.{Content, Admitted, imageOf, Same}
+use Rattle.content.specs.Content.{Content, Admitted, sizeOf, imageOf, Same}
 use Rattle.content.specs.ReadImage.{readImage}
 use Rattle.pattern.specs.Calls.{ran, MemoryCall, memoryStep, addedItem, contentFrom, builtFrom}
 
@@ -22,8 +25,12 @@ pub record Pattern : Type 0 where
 abbrev pub IsBuilt : Pattern → Type 0
 IsBuilt p = builtFrom (p .acceleration) (p .calls) .number ≡ 0
 
+-- what `build` hands out
+abbrev pub patternMemory : Pattern → WaveformMemory
+patternMemory p = builtFrom (p .acceleration) (p .calls) .item
+
 abbrev pub image : Pattern → List ℕ
-image p = builtFrom (p .acceleration) (p .calls) .item .«data»
+image p = patternMemory p .«data»
 
 abbrev pub content : Pattern → Content
 content p = contentFrom (p .acceleration) (p .calls)
@@ -31,6 +38,16 @@ content p = contentFrom (p .acceleration) (p .calls)
 -- lists that the builders admit and whose image those bytes are
 abbrev pub ImageOf : List ℕ → Content → Type 0
 ImageOf l c = Admitted c × (imageOf c ≡ l)
+
+-- the length and the counts beside an image are its content's; an upload sends the first `len` bytes
+pub record ValuesOf (m : WaveformMemory) (c : Content) : Type 0 where
+  pub size : m .len ≡ sizeOf c
+  pub snippets : m .«num_snippets» ≡ length (c .snippets)
+  pub sequences : m .«num_sequences» ≡ length (c .sequences)
+
+-- "an absent loop count for a one-byte frame, a present one otherwise"
+abbrev pub LoopAsRead : FrameBuilder → Type 0
+LoopAsRead f = loopGiven (f .«loop_count») ≡ hasSecond f
 
 pub record Demand3 : Type 0 where
   -- the acceleration flag changes nothing: the refusal and the image are those without it
@@ -40,6 +57,8 @@ pub record Demand3 : Type 0 where
   pub hundred : (p : Pattern) → IsBuilt p → length (image p) ≡ 100
   -- what its accepted calls added is admitted, and its image is laid out as document 01 says
   pub laidOut : (p : Pattern) → IsBuilt p → ImageOf (image p) (content p)
+  -- the length and the counts beside the image are those of that content
+  pub values : (p : Pattern) → IsBuilt p → ValuesOf (patternMemory p) (content p)
   -- "The builders admit ..": what is admitted is what some calls build
   pub admits : (c : Content) → Admitted c → (p : Pattern) × IsBuilt p × (content p ≡ c)
   -- "Two images .. are equal exactly when .." their contents are the same
@@ -47,7 +66,9 @@ pub record Demand3 : Type 0 where
   -- "it returns lists that the builders admit and whose image those bytes are"
   pub returned : (l : List ℕ) → Bytes l → (c : Content) → readImage l ≡ some c → ImageOf l c
   -- "and refuses exactly when there are no such lists"
-  pub refusal : (l : List ℕ) → Bytes l → (readImage l ≡ none) ↔ ¬ ((c : Content) × Admitted c × (imageOf c ≡ l))
+  pub refusal : (l : List ℕ) → Bytes l → (readImage l ≡ none) ↔ ¬ ((c : Content) × ImageOf l c)
+  -- "The reader returns an absent loop count for a one-byte frame, a present one otherwise"
+  pub loopsRead : (l : List ℕ) → Bytes l → (c : Content) → readImage l ≡ some c → All (All LoopAsRead) (c .sequences)
   -- a `build`, refused or not, hands back its builder as it came in: more calls on it add to what was added before
   pub goesOn : (a : Bool) (ks js : List MemoryCall)
       → builtMemory (ran memoryStep addedItem (builtFrom a ks .builder) js) ≡ builtFrom a (ks ++ js)
