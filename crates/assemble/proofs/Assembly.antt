@@ -18,10 +18,8 @@ use Rattle.sequence.specs.declared.SequenceBuilder.{SequenceBuilder}
 use Rattle.sequence.specs.Sequence.{newSequence, withFrame}
 use Rattle.calls.specs.declared.FieldCall.{FieldCall}
 use Rattle.calls.specs.declared.FieldCall.the-variants as Field
-use Rattle.calls.specs.declared.BuilderCall.{BuilderCall}
-use Rattle.calls.specs.declared.BuilderCall.the-variants as Builder
-use Rattle.calls.specs.declared.Call.{Call}
-use Rattle.calls.specs.declared.Call.the-variants as Call
+use Rattle.calls.specs.Said.{BuilderCall, Call}
+use Rattle.calls.specs.Said as Call
 use Rattle.calls.specs.declared.UnderWay.{UnderWay}
 use Rattle.calls.specs.declared.UnderWay.the-variants as UnderWay
 use Rattle.calls.specs.declared.Builders.{Builders}
@@ -62,15 +60,15 @@ three (new k) = go (ltb k 1) (ltb 15 k) where
 
 -- a point's byte is a byte
 abbrev Fits : Call → Type 0
-Fits (Call.Builder (Builder.Point b)) = b < 256
-Fits (Call.Builder Builder.SnippetNew) = Unit
-Fits (Call.Builder (Builder.Ramp t a)) = Unit
-Fits (Call.Builder (Builder.Step t a)) = Unit
-Fits (Call.Builder (Builder.FrameNew n)) = Unit
-Fits (Call.Builder Builder.Silence) = Unit
-Fits (Call.Builder (Builder.Set k)) = Unit
-Fits (Call.Builder Builder.SequenceNew) = Unit
-Fits (Call.Builder Builder.AddFrame) = Unit
+Fits (Call.Builder (Call.Point b)) = b < 256
+Fits (Call.Builder Call.SnippetNew) = Unit
+Fits (Call.Builder (Call.Ramp t a)) = Unit
+Fits (Call.Builder (Call.Step t a)) = Unit
+Fits (Call.Builder (Call.FrameNew n)) = Unit
+Fits (Call.Builder Call.Silence) = Unit
+Fits (Call.Builder (Call.Set k)) = Unit
+Fits (Call.Builder Call.SequenceNew) = Unit
+Fits (Call.Builder Call.AddFrame) = Unit
 Fits Call.AddSnippet = Unit
 Fits Call.AddSequence = Unit
 Fits Call.Unknown = Unit
@@ -142,23 +140,23 @@ module _ (g : Groups) where
   memory-more k = ran-append memoryStep addedItem (newMemory false) (g .memory) (k ∷ [])
 
   one-call : (k : Call) → Fits k → flatCalled (mirror g) k ≡ mirrored (grouped g k)
-  one-call (Call.Builder Builder.SnippetNew) h = refl
-  one-call (Call.Builder (Builder.Ramp t a)) h = snippet-call (ramp t a) _ refl
-  one-call (Call.Builder (Builder.Step t a)) h = snippet-call (step t a) _ refl
-  one-call (Call.Builder (Builder.Point x)) h = snippet-call (point x) _ (ap (λ (y : ℕ). withPoint (b .snippet) (pointOf y)) (sym (mod-eq-of-lt h)))
-  one-call (Call.Builder (Builder.FrameNew n)) h =
+  one-call (Call.Builder Call.SnippetNew) h = refl
+  one-call (Call.Builder (Call.Ramp t a)) h = snippet-call (ramp t a) _ refl
+  one-call (Call.Builder (Call.Step t a)) h = snippet-call (step t a) _ refl
+  one-call (Call.Builder (Call.Point x)) h = snippet-call (point x) _ (ap (λ (y : ℕ). withPoint (b .snippet) (pointOf y)) (sym (mod-eq-of-lt h)))
+  one-call (Call.Builder (Call.FrameNew n)) h =
       ap (λ (r : Handed Builders). record { number = r .number; builder = state (r .builder) (mirror g .memory) }) (begin-call (newFrame n))
-  one-call (Call.Builder Builder.Silence) h = refl
-  one-call (Call.Builder (Builder.Set k)) h =
+  one-call (Call.Builder Call.Silence) h = refl
+  one-call (Call.Builder (Call.Set k)) h =
       ap (λ (r : Handed Builders). record { number = r .number; builder = state (r .builder) (mirror g .memory) })
       (set-call k (g .frame .calls) (begunBy (g .frame .begin)) (three (g .frame .begin)) refl)
-  one-call (Call.Builder Builder.SequenceNew) h = refl
-  one-call (Call.Builder Builder.AddFrame) h =
+  one-call (Call.Builder Call.SequenceNew) h = refl
+  one-call (Call.Builder Call.AddFrame) h =
       ap (λ (r : Handed Builders). record { number = r .number; builder = state (r .builder) (mirror g .memory) }) (add-call (begunBy (g .frame .begin)) (three (g .frame .begin)) refl)
       ∙ ap (λ (q : SequenceBuilder). mirrored-with q) (ran-append sequenceStep frameFrom newSequence (g .sequence) (g .frame ∷ [])) where
         mirrored-with : SequenceBuilder → Handed State
         mirrored-with q =
-            let r = grouped g (Call.Builder Builder.AddFrame) in
+            let r = grouped g (Call.Builder Call.AddFrame) in
             record { number = r .number; builder = state (record { snippet = b .snippet; frame = frameIn (r .builder .frame); sequence = q }) (mirror g .memory) }
   one-call Call.AddSnippet h =
       let r = grouped g Call.AddSnippet in
@@ -195,7 +193,7 @@ one-of P (x ∷ l) (suc n) d h e = one-of P l n d (h .1) e
 
 chosen-fits : (k : FieldCall) (code : ℕ) → Fits (chosen k code)
 chosen-fits k code = go (ltb 3 code) where
-  go : (t : Bool) → Fits (cond t Call.Unknown (Call.Builder (Builder.Set k)))
+  go : (t : Bool) → Fits (cond t Call.Unknown (Call.Builder (Call.Set k)))
   go true = tt
   go false = tt
 

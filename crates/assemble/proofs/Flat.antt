@@ -2,7 +2,7 @@
 use Prim.Native.Nat.{ℕ}
 use mathlib.Core.Bool.{false}
 use mathlib.Core.List.{List, [], _∷_}
-use Rattle.calls.specs.declared.Call.{Call}
+use Rattle.calls.specs.Said.{Call}
 use Rattle.calls.specs.Calls.{started}
 use Rattle.memory.specs.Memory.{newMemory}
 use Rattle.assemble.specs.Flat.{State, state, flatCalled}

@@ -19,9 +19,8 @@ use Rattle.sequence.specs.declared.Sequence.{Sequence}
 use Rattle.sequence.specs.declared.SequenceBuilder.{SequenceBuilder}
 use Rattle.sequence.specs.Sequence.{withFrame, builtSequence}
 use Rattle.calls.specs.declared.FieldCall.the-variants as Field
-use Rattle.calls.specs.declared.BuilderCall.the-variants as Builder
-use Rattle.calls.specs.declared.Call.{Call}
-use Rattle.calls.specs.declared.Call.the-variants as Call
+use Rattle.calls.specs.Said.{Call}
+use Rattle.calls.specs.Said as Call
 use Rattle.calls.specs.Calls.{callsIn}
 use Rattle.memory.specs.declared.WaveformMemoryBuilder.{WaveformMemoryBuilder}
 use Rattle.memory.specs.Memory.{withSnippet, withSequence}
@@ -100,15 +99,15 @@ sequence-added-number m b =
     (either 14 (leb 16 (m .«num_sequences»)) (refused 7 m) _ (omega arith) (omega arith))
 
 call-number : (g : Groups) (k : Call) → grouped g k .number ≤ 14
-call-number g (Call.Builder Builder.SnippetNew) = omega arith
-call-number g (Call.Builder (Builder.Ramp t a)) = snippet-number (snippetFrom (g .snippet)) (ramp t a)
-call-number g (Call.Builder (Builder.Step t a)) = snippet-number (snippetFrom (g .snippet)) (step t a)
-call-number g (Call.Builder (Builder.Point b)) = snippet-number (snippetFrom (g .snippet)) (point b)
-call-number g (Call.Builder (Builder.FrameNew n)) = begun-number (newFrame n) (begin-number (new n))
-call-number g (Call.Builder Builder.Silence) = omega arith
-call-number g (Call.Builder (Builder.Set k)) = called-number (begunBy (g .frame .begin)) (g .frame .calls) (fieldOf k) (begin-number (g .frame .begin))
-call-number g (Call.Builder Builder.SequenceNew) = omega arith
-call-number g (Call.Builder Builder.AddFrame) = added-number (sequenceFrom (g .sequence)) (g .frame .calls) (begunBy (g .frame .begin)) (begin-number (g .frame .begin))
+call-number g (Call.Builder Call.SnippetNew) = omega arith
+call-number g (Call.Builder (Call.Ramp t a)) = snippet-number (snippetFrom (g .snippet)) (ramp t a)
+call-number g (Call.Builder (Call.Step t a)) = snippet-number (snippetFrom (g .snippet)) (step t a)
+call-number g (Call.Builder (Call.Point b)) = snippet-number (snippetFrom (g .snippet)) (point b)
+call-number g (Call.Builder (Call.FrameNew n)) = begun-number (newFrame n) (begin-number (new n))
+call-number g (Call.Builder Call.Silence) = omega arith
+call-number g (Call.Builder (Call.Set k)) = called-number (begunBy (g .frame .begin)) (g .frame .calls) (fieldOf k) (begin-number (g .frame .begin))
+call-number g (Call.Builder Call.SequenceNew) = omega arith
+call-number g (Call.Builder Call.AddFrame) = added-number (sequenceFrom (g .sequence)) (g .frame .calls) (begunBy (g .frame .begin)) (begin-number (g .frame .begin))
 call-number g Call.AddSnippet = snippet-added-number (memoryFrom false (g .memory)) (snippetFrom (g .snippet))
 call-number g Call.AddSequence = sequence-added-number (memoryFrom false (g .memory)) (sequenceFrom (g .sequence))
 call-number g Call.Unknown = omega arith

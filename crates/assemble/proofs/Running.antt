@@ -2,13 +2,15 @@
 -- Assumes nothing.
 use mathlib.Core.Path.{_≡_, refl, sym, ap, ap₂, _∙_, subst}
 use mathlib.Core.Bool.{Bool, true, false, cond}
-use mathlib.Core.List.{List, [], _∷_}
-use Prim.Native.Nat.{ℕ, suc, _+_, _*_, _≤_, _<_, min}
+use mathlib.Core.List.{List, [], _∷_, _++_}
+use Prim.Native.Nat.{ℕ, zero, suc, _+_, _*_, _≤_, _<_, min}
+use native.Mathlib.Decide.{ℕ-discrete, decLe}
 use native.Mathlib.Omega.{arith}
 use borrow.Author.Tests.{lt-ltb, ltb-true, ltb-false}
 use lib.Dec.{ltb}
-use lib.ListN.{length, drop, set}
+use lib.ListN.{length, take, drop, getD, set, List·getD-eq-default}
 use lib.Seq.{sets}
+use Rattle.laws.specs.Bytes.{All}
 use Rattle.laws.specs.Copied.{copied}
 use Rattle.laws.proofs.Answers.{sets-copied}
 use Rattle.errors.specs.Told.{Handed, Built}
@@ -18,11 +20,13 @@ use Rattle.snippet.specs.Snippet.{builtSnippet}
 use Rattle.sequence.specs.declared.Sequence.{Sequence}
 use Rattle.sequence.specs.declared.SequenceBuilder.{SequenceBuilder}
 use Rattle.sequence.specs.Sequence.{builtSequence}
-use Rattle.calls.specs.declared.BuilderCall.{BuilderCall}
-use Rattle.calls.specs.declared.Call.{Call}
-use Rattle.calls.specs.declared.Call.the-variants as Call
+use Rattle.calls.specs.Said.{Call}
+use Rattle.calls.specs.Said as Call
+use Rattle.calls.specs.declared.FieldCall.{FieldCall}
+use Rattle.calls.specs.declared.FieldCall.the-variants as Field
+use Rattle.calls.specs.declared.Record.{Record}
 use Rattle.calls.specs.declared.Builders.{Builders}
-use Rattle.calls.specs.Calls.{firstCall, callsIn, called}
+use Rattle.calls.specs.Calls.{chosen, callsByCode, firstRecord, callOf, callsIn, calledBy}
 use Rattle.calls.proofs.Turns.{calls-next, calls-none}
 use Rattle.memory.specs.declared.WaveformMemoryBuilder.{WaveformMemoryBuilder}
 use Rattle.pattern.specs.Calls.{withBuiltSnippet, withBuiltSequence}
@@ -34,9 +38,56 @@ use Rattle.assemble.proofs.Holding.{spares-sequences, spares-snippets}
 
 -- ---- one call
 
+-- a call that adds nothing to the memory
+abbrev Small : Call → Type 0
+Small (Call.Builder j) = Unit
+Small Call.AddSnippet = ⊥
+Small Call.AddSequence = ⊥
+Small Call.Unknown = Unit
+
+-- every code but two says such a call
+front-small : (xs ys : List Call) (n : ℕ) (d : Call) → All Small xs → n < length xs → Small (getD (xs ++ ys) n d)
+front-small [] ys n d h k = absurd (omega arith)
+front-small (x ∷ xs) ys zero d h k = h .0
+front-small (x ∷ xs) ys (suc n) d h k = front-small xs ys n d (h .1) (omega arith)
+
+chosen-small : (k : FieldCall) (code : ℕ) → Small (chosen k code)
+chosen-small k code = go (ltb 3 code) where
+  go : (t : Bool) → Small (cond t Call.Unknown (Call.Builder (Call.Set k)))
+  go true = tt
+  go false = tt
+
+-- none of 13 and 14, and not below
+beyond : (n : ℕ) → 13 ≤ n → ¬ (n ≡ 13) → ¬ (n ≡ 14) → Dec (15 ≤ n) → 15 ≤ n
+beyond n d h k (yes e) = e
+beyond n d h k (no e) = go (ℕ-discrete n 13) where
+  go : Dec (n ≡ 13) → 15 ≤ n
+  go (yes f) = absurd (h f)
+  go (no f) = absurd (k (omega arith))
+
+pub small-code : (r : Record) → ¬ (r .code ≡ 13) → ¬ (r .code ≡ 14) → Small (callOf r)
+small-code r h k = go (decLe 13 (r .code)) where
+  go : Dec (13 ≤ r .code) → Small (callOf r)
+  go (no d) =
+      front-small (take 13 (callsByCode (r .a) (r .b))) (Call.AddSnippet ∷ Call.AddSequence ∷ []) (r .code) Call.Unknown
+      (tt, (tt, (tt, (tt, (tt, (tt, (tt, (chosen-small (Field.Gain (r .a)) (r .a), (chosen-small (Field.Timebase (r .a)) (r .a), (tt, (tt, (tt, (tt, tt)))))))))))))
+      (omega arith)
+  go (yes d) = subst Small (sym (List·getD-eq-default (callsByCode (r .a) (r .b)) Call.Unknown (beyond (r .code) d h k (decLe 15 (r .code))))) tt
+
 module _ (b : Builders) (call : Call) (l k : List ℕ) (t : Handed Builders) where
-  pub builder-step : (j : BuilderCall) → call ≡ Call.Builder j → t ≡ called b j → StepsMemory b call l k t l k
-  builder-step j e f = subst (λ (c : Call). StepsMemory b c l k t l k) (sym e) (λ m w. (f, w))
+  pub small-step : Small call → t ≡ calledBy b call → StepsMemory b call l k t l k
+  small-step h f m w = (f ∙ same call h, kept call h) where
+    same : (c : Call) → Small c → calledBy b c ≡ shownBy (flatCalled (state b m) c)
+    same (Call.Builder j) h = refl
+    same Call.AddSnippet h = absurd h
+    same Call.AddSequence h = absurd h
+    same Call.Unknown h = refl
+
+    kept : (c : Call) → Small c → KeepsMemory (flatCalled (state b m) c .builder .memory) l k
+    kept (Call.Builder j) h = w
+    kept Call.AddSnippet h = absurd h
+    kept Call.AddSequence h = absurd h
+    kept Call.Unknown h = w
 
   pub snippet-step : (l′ : List ℕ) (n : ℕ) (r : Built Snippet SnippetBuilder) → call ≡ Call.AddSnippet → r ≡ builtSnippet (b .snippet)
       → StepsSnippets (λ m. withBuiltSnippet m r) l n l′ → t ≡ record { number = n; builder = lessSnippet b n } → StepsMemory b call l k t l′ k
@@ -57,9 +108,6 @@ module _ (b : Builders) (call : Call) (l k : List ℕ) (t : Handed Builders) whe
       (λ m w.
       let p = s m (w .1) in
       (g ∙ ap (λ (j : ℕ). record { number = j; builder = lessSequence b j }) (p .0), (spares-snippets r l m (w .0), p .1))))
-
-  pub unknown-step : call ≡ Call.Unknown → t ≡ record { number = 14; builder = b } → StepsMemory b call l k t l k
-  unknown-step e f = subst (λ (c : Call). StepsMemory b c l k t l k) (sym e) (λ m w. (f, w))
 
 -- ---- where a run stands
 
@@ -92,7 +140,7 @@ first-last told = go (ltb 0 told) refl where
 module _ {bytes k₀ k ls qs : List ℕ} {b : Builders} {at i told : ℕ} (r : Running bytes k₀ k ls qs b at i told) where
   -- one turn
   pub turn : (call : Call) (t : Handed Builders) (ls′ qs′ k′ : List ℕ) (b′ : Builders) (n at′ told′ : ℕ) → at < length bytes → at′ ≡ min (at + 4) (length bytes)
-      → call ≡ firstCall (drop at bytes) → StepsMemory b call ls qs t ls′ qs′ → n ≡ t .number → b′ ≡ t .builder → k′ ≡ set k i n
+      → call ≡ callOf (firstRecord (drop at bytes)) → StepsMemory b call ls qs t ls′ qs′ → n ≡ t .number → b′ ≡ t .builder → k′ ≡ set k i n
       → told′ ≡ cond (ltb 0 told) told (cond (ltb 0 n) (withPlace n i) 0) → Running bytes k₀ k′ ls′ qs′ b′ at′ (i + 1) told′
   unfolding flatAfter flatAnswers
   turn call t ls′ qs′ k′ b′ n at′ told′ h e ec steps en eb ek et =

@@ -17,9 +17,8 @@ use Rattle.frame.specs.Frame.{frameBytes, builtFrame}
 use Rattle.sequence.specs.declared.SequenceBuilder.{SequenceBuilder}
 use Rattle.sequence.specs.Sequence.{newSequence, withFrame, builtSequence}
 use Rattle.calls.specs.declared.FieldCall.{FieldCall}
-use Rattle.calls.specs.declared.BuilderCall.the-variants as Builder
-use Rattle.calls.specs.declared.Call.{Call}
-use Rattle.calls.specs.declared.Call.the-variants as Call
+use Rattle.calls.specs.Said.{Call}
+use Rattle.calls.specs.Said as Call
 use Rattle.calls.specs.declared.UnderWay.{UnderWay}
 use Rattle.calls.specs.declared.UnderWay.the-variants as UnderWay
 use Rattle.calls.specs.declared.Builders.{Builders}
@@ -111,20 +110,20 @@ module _ (g : Groups) where
       let e = sym (ran-append snippetStep addedPoint newSnippet (g .snippet) (k ∷ [])) ∙ snippet-keeps (b .snippet) k h in
       record { builders = ap (λ (s : SnippetBuilder). record { snippet = s; frame = b .frame; sequence = b .sequence }) e; memory = refl }
 
-  left : (k : Call) → ((n : ℕ) → ¬ (k ≡ Call.Builder (Builder.FrameNew n))) → 0 < grouped g k .number → Unchanged g (grouped g k .builder)
-  left (Call.Builder Builder.SnippetNew) d h = absurd (omega arith)
-  left (Call.Builder (Builder.Ramp t a)) d h = snippet-left (ramp t a) h
-  left (Call.Builder (Builder.Step t a)) d h = snippet-left (step t a) h
-  left (Call.Builder (Builder.Point x)) d h = snippet-left (point x) h
-  left (Call.Builder (Builder.FrameNew n)) d h = absurd (d n refl)
-  left (Call.Builder Builder.Silence) d h = absurd (omega arith)
-  left (Call.Builder (Builder.Set k)) d h =
+  left : (k : Call) → ((n : ℕ) → ¬ (k ≡ Call.Builder (Call.FrameNew n))) → 0 < grouped g k .number → Unchanged g (grouped g k .builder)
+  left (Call.Builder Call.SnippetNew) d h = absurd (omega arith)
+  left (Call.Builder (Call.Ramp t a)) d h = snippet-left (ramp t a) h
+  left (Call.Builder (Call.Step t a)) d h = snippet-left (step t a) h
+  left (Call.Builder (Call.Point x)) d h = snippet-left (point x) h
+  left (Call.Builder (Call.FrameNew n)) d h = absurd (d n refl)
+  left (Call.Builder Call.Silence) d h = absurd (omega arith)
+  left (Call.Builder (Call.Set k)) d h =
       let e = frame-left (begunBy (g .frame .begin)) (g .frame .calls) (fieldOf k) h in
       record { builders = ap (λ (f : UnderWay). record { snippet = b .snippet; frame = f; sequence = b .sequence }) e; memory = refl }
-  left (Call.Builder Builder.SequenceNew) d h = absurd (omega arith)
-  left (Call.Builder Builder.AddFrame) d h =
+  left (Call.Builder Call.SequenceNew) d h = absurd (omega arith)
+  left (Call.Builder Call.AddFrame) d h =
       let e = sym (ran-append sequenceStep frameFrom newSequence (g .sequence) (g .frame ∷ [])) ∙ sequence-keeps (b .sequence) (g .frame .calls) (begunBy (g .frame .begin)) h in
-      let f = stays (grouped g (Call.Builder Builder.AddFrame) .number) noFrame (g .frame) h in
+      let f = stays (grouped g (Call.Builder Call.AddFrame) .number) noFrame (g .frame) h in
       record { builders = λ i. record { snippet = b .snippet; frame = underWay (f i .calls) (begunBy (f i .begin)); sequence = e i }; memory = refl }
   left Call.AddSnippet d h =
       let s = stays (grouped g Call.AddSnippet .number) [] (g .snippet) h in
@@ -145,20 +144,20 @@ none-begun g n e =
       adding = ap (λ (t : Told FrameBuilder). withMadeFrame (sequenceFrom (g .sequence)) (g .frame .calls) t .number) e ∙ k;
     }
 
-refused-new : (g : Groups) (n : ℕ) → 0 < begunNumber (newFrame n) → NotBegun (grouped g (Call.Builder (Builder.FrameNew n)) .builder)
+refused-new : (g : Groups) (n : ℕ) → 0 < begunNumber (newFrame n) → NotBegun (grouped g (Call.Builder (Call.FrameNew n)) .builder)
 refused-new g n h = go (newFrame n) refl h where
-  go : (t : Told FrameBuilder) → newFrame n ≡ t → 0 < begunNumber t → NotBegun (grouped g (Call.Builder (Builder.FrameNew n)) .builder)
+  go : (t : Told FrameBuilder) → newFrame n ≡ t → 0 < begunNumber t → NotBegun (grouped g (Call.Builder (Call.FrameNew n)) .builder)
   go (gives f) e k = absurd (omega arith)
-  go (refuses m) e k = none-begun (grouped g (Call.Builder (Builder.FrameNew n)) .builder) m e
+  go (refuses m) e k = none-begun (grouped g (Call.Builder (Call.FrameNew n)) .builder) m e
 
 -- what was accepted is used up
 used : {A : Type 0} (n : ℕ) (fresh item : A) → n ≡ 0 → leftBy n fresh item ≡ fresh
 used n fresh item e = simp e
 
-used-frame : (g : Groups) → grouped g (Call.Builder Builder.AddFrame) .number ≡ 0 → NotBegun (grouped g (Call.Builder Builder.AddFrame) .builder)
+used-frame : (g : Groups) → grouped g (Call.Builder Call.AddFrame) .number ≡ 0 → NotBegun (grouped g (Call.Builder Call.AddFrame) .builder)
 used-frame g e =
-    none-begun (grouped g (Call.Builder Builder.AddFrame) .builder) 3
-    (ap (λ (m : FrameCalls). begunBy (m .begin)) (used (grouped g (Call.Builder Builder.AddFrame) .number) noFrame (g .frame) e))
+    none-begun (grouped g (Call.Builder Call.AddFrame) .builder) 3
+    (ap (λ (m : FrameCalls). begunBy (m .begin)) (used (grouped g (Call.Builder Call.AddFrame) .number) noFrame (g .frame) e))
 
 pub used-up : UsedUp
 used-up =

@@ -4,13 +4,13 @@ use Prim.Native.Nat.{ℕ}
 use Rattle.errors.specs.Told.{Handed, refused}
 use Rattle.snippet.specs.Snippet.{newSnippet, builtSnippet}
 use Rattle.sequence.specs.Sequence.{newSequence, builtSequence}
-use Rattle.calls.specs.declared.Call.{Call}
-use Rattle.calls.specs.declared.Call.the-variants as Call
+use Rattle.calls.specs.Said.{Call}
+use Rattle.calls.specs.Said as Call
 use Rattle.calls.specs.declared.Builders.{Builders}
-use Rattle.calls.specs.Calls.{called}
+use Rattle.calls.specs.Calls.{noCall, called}
 use Rattle.memory.specs.declared.WaveformMemoryBuilder.{WaveformMemoryBuilder}
 use Rattle.pattern.specs.Calls.{withBuiltSnippet, withBuiltSequence}
-use Rattle.assemble.specs.Lists.{leftBy, noCall}
+use Rattle.assemble.specs.Lists.{leftBy}
 
 -- the builders of all four kinds
 pub record State : Type 0 where

@@ -6,7 +6,7 @@ use lib.ListN.{length, take}
 use Rattle.errors.specs.Told.{Handed}
 use Rattle.snippet.specs.Snippet.{snippetBytes}
 use Rattle.sequence.specs.Sequence.{sequenceBytes}
-use Rattle.calls.specs.declared.Call.{Call}
+use Rattle.calls.specs.Said.{Call}
 use Rattle.calls.specs.declared.Builders.{Builders}
 use Rattle.memory.specs.declared.WaveformMemoryBuilder.{WaveformMemoryBuilder}
 use Rattle.assemble.specs.Flat.{State, state, flatCalled}

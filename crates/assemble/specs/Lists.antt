@@ -10,14 +10,12 @@ use Rattle.frame.specs.declared.FrameBuilder.{FrameBuilder}
 use Rattle.frame.specs.Read.{gainAt, timebaseAt}
 use Rattle.calls.specs.declared.FieldCall.{FieldCall}
 use Rattle.calls.specs.declared.FieldCall.the-variants as Field
-use Rattle.calls.specs.declared.BuilderCall.{BuilderCall}
-use Rattle.calls.specs.declared.BuilderCall.the-variants as Builder
-use Rattle.calls.specs.declared.Call.{Call}
-use Rattle.calls.specs.declared.Call.the-variants as Call
+use Rattle.calls.specs.Said.{BuilderCall, Call}
+use Rattle.calls.specs.Said as Call
 use Rattle.calls.specs.declared.UnderWay.{UnderWay}
 use Rattle.calls.specs.declared.UnderWay.the-variants as UnderWay
 use Rattle.calls.specs.declared.Builders.{Builders}
-use Rattle.calls.specs.Calls.{callsIn}
+use Rattle.calls.specs.Calls.{callsIn, noCall}
 use Rattle.memory.specs.declared.WaveformMemory.{WaveformMemory}
 use Rattle.memory.specs.declared.WaveformMemoryBuilder.{WaveformMemoryBuilder}
 use Rattle.pattern.specs.Calls.{ran, answersTo, SnippetCall, ramp, step, point, snippetStep, snippetFrom, FrameCall, gain, timebase, loopCount, frequencyHz, Begin, new, silence, begunBy, FrameCalls, frameRan, frameCalled, sequenceStep, sequenceFrom, MemoryCall, addSnippet, addSequence, memoryStep, memoryFrom, builtFrom}
@@ -97,20 +95,16 @@ fieldOf (Field.Timebase c) = timebase (timebaseAt c)
 fieldOf (Field.LoopCount k) = loopCount k
 fieldOf (Field.FrequencyHz f) = frequencyHz f
 
--- a record that says no call is refused with 14, NotSupported
-abbrev pub noCall : ℕ
-noCall = 14
-
 abbrev pub grouped : Groups → Call → Handed Groups
-grouped g (Call.Builder Builder.SnippetNew) = record { number = 0; builder = record { snippet = []; frame = g .frame; sequence = g .sequence; memory = g .memory } }
-grouped g (Call.Builder (Builder.Ramp t a)) = toSnippet g (ramp t a)
-grouped g (Call.Builder (Builder.Step t a)) = toSnippet g (step t a)
-grouped g (Call.Builder (Builder.Point b)) = toSnippet g (point b)
-grouped g (Call.Builder (Builder.FrameNew n)) = toBegin g (new n)
-grouped g (Call.Builder Builder.Silence) = toBegin g silence
-grouped g (Call.Builder (Builder.Set k)) = toFrame g (fieldOf k)
-grouped g (Call.Builder Builder.SequenceNew) = record { number = 0; builder = record { snippet = g .snippet; frame = g .frame; sequence = []; memory = g .memory } }
-grouped g (Call.Builder Builder.AddFrame) = toSequence g
+grouped g (Call.Builder Call.SnippetNew) = record { number = 0; builder = record { snippet = []; frame = g .frame; sequence = g .sequence; memory = g .memory } }
+grouped g (Call.Builder (Call.Ramp t a)) = toSnippet g (ramp t a)
+grouped g (Call.Builder (Call.Step t a)) = toSnippet g (step t a)
+grouped g (Call.Builder (Call.Point b)) = toSnippet g (point b)
+grouped g (Call.Builder (Call.FrameNew n)) = toBegin g (new n)
+grouped g (Call.Builder Call.Silence) = toBegin g silence
+grouped g (Call.Builder (Call.Set k)) = toFrame g (fieldOf k)
+grouped g (Call.Builder Call.SequenceNew) = record { number = 0; builder = record { snippet = g .snippet; frame = g .frame; sequence = []; memory = g .memory } }
+grouped g (Call.Builder Call.AddFrame) = toSequence g
 grouped g Call.AddSnippet = snippetToMemory g
 grouped g Call.AddSequence = sequenceToMemory g
 grouped g Call.Unknown = refused noCall g

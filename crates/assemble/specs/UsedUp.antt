@@ -4,16 +4,15 @@ use Prim.Native.Nat.{ℕ, _<_}
 use mathlib.Core.Path.{_≡_}
 use mathlib.Core.Bool.{false}
 use Rattle.calls.specs.declared.FieldCall.{FieldCall}
-use Rattle.calls.specs.declared.BuilderCall.the-variants as Builder
-use Rattle.calls.specs.declared.Call.{Call}
-use Rattle.calls.specs.declared.Call.the-variants as Call
+use Rattle.calls.specs.Said.{Call}
+use Rattle.calls.specs.Said as Call
 use Rattle.pattern.specs.Calls.{memoryFrom}
 use Rattle.assemble.specs.Lists.{Groups, noGroups, grouped, buildersIn}
 
 -- no frame is begun: every call on it is refused with 3
 pub record NotBegun (g : Groups) : Type 0 where
-  pub fields : (k : FieldCall) → grouped g (Call.Builder (Builder.Set k)) .number ≡ 3
-  pub adding : grouped g (Call.Builder Builder.AddFrame) .number ≡ 3
+  pub fields : (k : FieldCall) → grouped g (Call.Builder (Call.Set k)) .number ≡ 3
+  pub adding : grouped g (Call.Builder Call.AddFrame) .number ≡ 3
 
 -- the same snippet, frame, sequence and memory under construction
 pub record Unchanged (g h : Groups) : Type 0 where
@@ -24,10 +23,10 @@ pub record UsedUp : Type 0 where
   -- a list begins with no frame
   pub begins : NotBegun noGroups
   -- a refused `new` leaves none
-  pub refusedNew : (g : Groups) (n : ℕ) → 0 < grouped g (Call.Builder (Builder.FrameNew n)) .number → NotBegun (grouped g (Call.Builder (Builder.FrameNew n)) .builder)
+  pub refusedNew : (g : Groups) (n : ℕ) → 0 < grouped g (Call.Builder (Call.FrameNew n)) .number → NotBegun (grouped g (Call.Builder (Call.FrameNew n)) .builder)
   -- a frame, a snippet, a sequence that was accepted is used up: the next has to be begun, or is empty
-  pub frames : (g : Groups) → grouped g (Call.Builder Builder.AddFrame) .number ≡ 0 → NotBegun (grouped g (Call.Builder Builder.AddFrame) .builder)
+  pub frames : (g : Groups) → grouped g (Call.Builder Call.AddFrame) .number ≡ 0 → NotBegun (grouped g (Call.Builder Call.AddFrame) .builder)
   pub snippets : (g : Groups) → grouped g Call.AddSnippet .number ≡ 0 → grouped (grouped g Call.AddSnippet .builder) Call.AddSnippet .number ≡ 9
   pub sequences : (g : Groups) → grouped g Call.AddSequence .number ≡ 0 → grouped (grouped g Call.AddSequence .builder) Call.AddSequence .number ≡ 10
   -- any other refused call leaves everything
-  pub refusals : (g : Groups) (k : Call) → ((n : ℕ) → ¬ (k ≡ Call.Builder (Builder.FrameNew n))) → 0 < grouped g k .number → Unchanged g (grouped g k .builder)
+  pub refusals : (g : Groups) (k : Call) → ((n : ℕ) → ¬ (k ≡ Call.Builder (Call.FrameNew n))) → 0 < grouped g k .number → Unchanged g (grouped g k .builder)

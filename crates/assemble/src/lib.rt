@@ -13,14 +13,14 @@ ghost use lib.ListN.{length, replicate, set};
 ghost use Rattle.laws.specs.Copied.{copied};
 ghost use Rattle.snippet.specs.Snippet as snippet;
 ghost use Rattle.sequence.specs.Sequence as sequence;
-ghost use Rattle.calls.specs.Calls.{callsIn, steppedTold};
+ghost use Rattle.calls.specs.Calls.{callsIn, callOf, steppedTold};
 ghost use Rattle.pattern.specs.Calls.{memoryFrom, withBuiltSnippet, withBuiltSequence};
 ghost use Rattle.assemble.specs.Lists.{groupsOf, answersOf, buildersOf, builtOf, imageOut, lastPlace, withPlace, firstRefused, strictly, strictOut};
 ghost use Rattle.assemble.specs.Flat.{lessSnippet, lessSequence};
 ghost use Rattle.assemble.specs.Kept.{roomFor, PushedUnless, addedNumber};
 ghost use Rattle.assemble.specs.Holding.{KeepsMemory, StepsSnippets, StepsSequences, StepsMemory};
 use calls::Builders;
-use calls::Call;
+use calls::Record;
 use calls::Stepped;
 use errors::Error;
 use sequence::BuiltSequence;
@@ -32,6 +32,11 @@ use snippet::SnippetBuilder;
 const SNIPPETS_KEPT: usize = 116;
 
 const SEQUENCES_KEPT: usize = 117;
+
+// The codes of the calls that add to the memory.
+const ADD_SNIPPET: u8 = 13;
+
+const ADD_SEQUENCE: u8 = 14;
 
 // The last place of a call that has room in an answer.
 const LAST_PLACE: usize = 16777215;
@@ -110,8 +115,8 @@ fn run(calls: &[u8], answers: &mut [u8], snippets: &mut [u8], sequences: &mut [u
     let mut i = 0usize;
     let mut told = 0u32;
     while at < calls.len() {
-        let call = Call::read(calls, at);
-        let r = step(b, call, snippets, sequences);
+        let record = Record::read(calls, at);
+        let r = step(b, record, snippets, sequences);
         let n = r.number;
         b = r.builders;
         put(answers, i, n);
@@ -126,28 +131,25 @@ fn run(calls: &[u8], answers: &mut [u8], snippets: &mut [u8], sequences: &mut [u
     }
 }
 
-// Makes one call, on the builders or on the items kept.
-fn step(b: Builders, call: Call, snippets: &mut [u8], sequences: &mut [u8]) -> Stepped
+// Makes the call that a record says, on the builders or on the items kept.
+fn step(b: Builders, record: Record, snippets: &mut [u8], sequences: &mut [u8]) -> Stepped
     requires { ⌜ (length (now snippets) ≡ roomFor 15) × (length (now sequences) ≡ roomFor 16) ⌝ }
-    ensures { λ r. ⌜ StepsMemory b call (now (snippets .entry)) (now (sequences .entry)) (steppedTold r)
+    ensures { λ r. ⌜ StepsMemory b (callOf «record») (now (snippets .entry)) (now (sequences .entry)) (steppedTold r)
         (now (snippets .exit)) (now (sequences .exit)) ⌝ }
 {
-    match call {
-        Call::Builder(k) => b.apply(k),
-        Call::AddSnippet => {
+    let code = record.code;
+    match code {
+        ADD_SNIPPET => {
             let s = b.snippet;
             let n = add_snippet(snippets, s.build());
             less_snippet(b, n)
         }
-        Call::AddSequence => {
+        ADD_SEQUENCE => {
             let q = b.sequence;
             let n = add_sequence(sequences, q.build());
             less_sequence(b, n)
         }
-        Call::Unknown => Stepped {
-            number: Error::NotSupported.number(),
-            builders: b,
-        },
+        _ => b.apply(record),
     }
 }
 

@@ -7,17 +7,17 @@ use native.Mathlib.Decide.{decLe}
 use native.Mathlib.Omega.{arith}
 use lib.ListN.{length, drop, getD, length-drop, drop-of-length-le}
 use lib.Seq.{drop-drop}
-use Rattle.calls.specs.declared.Call.{Call}
-use Rattle.calls.specs.declared.Call.the-variants as Call
-use Rattle.calls.specs.Calls.{callAt, firstCall, callsIn}
+use Rattle.calls.specs.Said.{Call}
+use Rattle.calls.specs.Calls.{noRecord, firstRecord, callOf, callsIn}
 
 -- a whole record
-pub whole-record : (l : List ℕ) (at : ℕ) → at + 4 ≤ length l → firstCall (drop at l) ≡ callAt (getD l at 0) (getD l (at + 1) 0) (getD l (at + 2) 0)
+pub whole-record : (l : List ℕ) (at : ℕ) → at + 4 ≤ length l
+    → firstRecord (drop at l) ≡ record { code = getD l at 0; a = getD l (at + 1) 0; b = getD l (at + 2) 0 }
 whole-record l at h =
     let a : at + 1 ≡ suc at = omega arith in
     let b : at + 2 ≡ suc (suc at) = omega arith in
     rw (a, b) (go l at h) where
-      go : (l : List ℕ) (at : ℕ) → at + 4 ≤ length l → firstCall (drop at l) ≡ callAt (getD l at 0) (getD l (suc at) 0) (getD l (suc (suc at)) 0)
+      go : (l : List ℕ) (at : ℕ) → at + 4 ≤ length l → firstRecord (drop at l) ≡ record { code = getD l at 0; a = getD l (suc at) 0; b = getD l (suc (suc at)) 0 }
       go [] at h = absurd (omega arith)
       go (k ∷ []) zero h = absurd (omega arith)
       go (k ∷ a ∷ []) zero h = absurd (omega arith)
@@ -26,7 +26,7 @@ whole-record l at h =
       go (k ∷ r) (suc at) h = go r at (omega arith)
 
 -- a shorter one
-pub short-record : (l : List ℕ) (at : ℕ) → length l - at < 4 → firstCall (drop at l) ≡ Call.Unknown
+pub short-record : (l : List ℕ) (at : ℕ) → length l - at < 4 → firstRecord (drop at l) ≡ noRecord
 short-record [] zero h = refl
 short-record [] (suc at) h = refl
 short-record (k ∷ []) zero h = refl
@@ -36,7 +36,7 @@ short-record (k ∷ a ∷ b ∷ c ∷ r) zero h = absurd (omega arith)
 short-record (k ∷ r) (suc at) h = short-record r at (omega arith)
 
 -- the first call and the calls behind it
-next : (l : List ℕ) → 0 < length l → callsIn l ≡ firstCall l ∷ callsIn (drop 4 l)
+next : (l : List ℕ) → 0 < length l → callsIn l ≡ callOf (firstRecord l) ∷ callsIn (drop 4 l)
 unfolding callsIn
 next [] h = absurd (omega arith)
 next (k ∷ []) h = refl
@@ -45,10 +45,10 @@ next (k ∷ a ∷ b ∷ []) h = refl
 next (k ∷ a ∷ b ∷ c ∷ r) h = refl
 
 -- the call at an index and the calls behind it
-pub calls-next : (l : List ℕ) (at after : ℕ) → at < length l → after ≡ min (at + 4) (length l) → callsIn (drop at l) ≡ firstCall (drop at l) ∷ callsIn (drop after l)
+pub calls-next : (l : List ℕ) (at after : ℕ) → at < length l → after ≡ min (at + 4) (length l) → callsIn (drop at l) ≡ callOf (firstRecord (drop at l)) ∷ callsIn (drop after l)
 calls-next l at after h e =
     next (drop at l) (rw (length-drop at l) (omega arith))
-    ∙ ap (λ (r : List ℕ). firstCall (drop at l) ∷ callsIn r) (drop-drop 4 at l ∙ go (decLe (at + 4) (length l)) ∙ ap (λ (n : ℕ). drop n l) (sym e)) where
+    ∙ ap (λ (r : List ℕ). callOf (firstRecord (drop at l)) ∷ callsIn r) (drop-drop 4 at l ∙ go (decLe (at + 4) (length l)) ∙ ap (λ (n : ℕ). drop n l) (sym e)) where
       go : Dec (at + 4 ≤ length l) → drop (at + 4) l ≡ drop (min (at + 4) (length l)) l
       go (yes k) = ap (λ (n : ℕ). drop n l) (sym (min-eq-left k))
       go (no k) =

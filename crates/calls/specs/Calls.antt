@@ -17,37 +17,36 @@ use Rattle.sequence.specs.declared.SequenceBuilder.{SequenceBuilder}
 use Rattle.sequence.specs.Sequence.{newSequence, withFrame}
 use Rattle.calls.specs.declared.FieldCall.{FieldCall}
 use Rattle.calls.specs.declared.FieldCall.the-variants as Field
-use Rattle.calls.specs.declared.BuilderCall.{BuilderCall}
-use Rattle.calls.specs.declared.BuilderCall.the-variants as Builder
-use Rattle.calls.specs.declared.Call.{Call}
-use Rattle.calls.specs.declared.Call.the-variants as Call
+use Rattle.calls.specs.Said.{BuilderCall, Call}
+use Rattle.calls.specs.Said as Call
 use Rattle.calls.specs.declared.UnderWay.{UnderWay}
 use Rattle.calls.specs.declared.UnderWay.the-variants as UnderWay
 use Rattle.calls.specs.declared.Builders.{Builders}
 use Rattle.calls.specs.declared.Stepped.{Stepped}
+use Rattle.calls.specs.declared.Record.{Record}
 
 -- ---- calls as bytes
 
 -- a choice of four by its code; a code above 3 says none
 abbrev pub chosen : FieldCall → ℕ → Call
-chosen k code = cond (ltb 3 code) Call.Unknown (Call.Builder (Builder.Set k))
+chosen k code = cond (ltb 3 code) Call.Unknown (Call.Builder (Call.Set k))
 
 -- the calls by their codes, of which 0 says none; a and b are the two bytes that follow the code
 abbrev pub callsByCode : ℕ → ℕ → List Call
 callsByCode a b =
     Call.Unknown
-    ∷ Call.Builder Builder.SnippetNew
-    ∷ Call.Builder (Builder.Ramp a b)
-    ∷ Call.Builder (Builder.Step a b)
-    ∷ Call.Builder (Builder.Point a)
-    ∷ Call.Builder (Builder.FrameNew a)
-    ∷ Call.Builder Builder.Silence
+    ∷ Call.Builder Call.SnippetNew
+    ∷ Call.Builder (Call.Ramp a b)
+    ∷ Call.Builder (Call.Step a b)
+    ∷ Call.Builder (Call.Point a)
+    ∷ Call.Builder (Call.FrameNew a)
+    ∷ Call.Builder Call.Silence
     ∷ chosen (Field.Gain a) a
     ∷ chosen (Field.Timebase a) a
-    ∷ Call.Builder (Builder.Set (Field.LoopCount a))
-    ∷ Call.Builder (Builder.Set (Field.FrequencyHz (a + b * 256)))
-    ∷ Call.Builder Builder.SequenceNew
-    ∷ Call.Builder Builder.AddFrame
+    ∷ Call.Builder (Call.Set (Field.LoopCount a))
+    ∷ Call.Builder (Call.Set (Field.FrequencyHz (a + b * 256)))
+    ∷ Call.Builder Call.SequenceNew
+    ∷ Call.Builder Call.AddFrame
     ∷ Call.AddSnippet
     ∷ Call.AddSequence
     ∷ []
@@ -56,13 +55,19 @@ callsByCode a b =
 abbrev pub callAt : ℕ → ℕ → ℕ → Call
 callAt code a b = getD (callsByCode a b) code Call.Unknown
 
--- the first record of four bytes, the last of which says nothing; a shorter record says no call
-abbrev pub firstCall : List ℕ → Call
-firstCall [] = Call.Unknown
-firstCall (code ∷ []) = Call.Unknown
-firstCall (code ∷ a ∷ []) = Call.Unknown
-firstCall (code ∷ a ∷ b ∷ []) = Call.Unknown
-firstCall (code ∷ a ∷ b ∷ last ∷ r) = callAt code a b
+-- the first record of four bytes, the last of which says nothing; a shorter one counts as one of zeros, which says no call
+abbrev pub noRecord : Record
+noRecord = record { code = 0; a = 0; b = 0 }
+
+abbrev pub firstRecord : List ℕ → Record
+firstRecord [] = noRecord
+firstRecord (code ∷ []) = noRecord
+firstRecord (code ∷ a ∷ []) = noRecord
+firstRecord (code ∷ a ∷ b ∷ []) = noRecord
+firstRecord (code ∷ a ∷ b ∷ last ∷ r) = record { code = code; a = a; b = b }
+
+abbrev pub callOf : Record → Call
+callOf r = callAt (r .code) (r .a) (r .b)
 
 -- a list of calls: records one after the other, a shorter last one among them
 unfoldable pub callsIn : List ℕ → List Call
@@ -118,15 +123,25 @@ adds b (UnderWay.Begun f) = uses b (withFrame (b .sequence) (builtFrame f))
 
 -- the call's number, and the builders after it
 abbrev pub called : Builders → BuilderCall → Handed Builders
-called b Builder.SnippetNew = onSnippet b (accepted newSnippet)
-called b (Builder.Ramp t a) = onSnippet b (withMade (b .snippet) (point true t a))
-called b (Builder.Step t a) = onSnippet b (withMade (b .snippet) (point false t a))
-called b (Builder.Point byte) = onSnippet b (withPoint (b .snippet) (pointOf byte))
-called b (Builder.FrameNew n) = beginsFrame b (newFrame n)
-called b Builder.Silence = beginsFrame b (gives silentFrame)
-called b (Builder.Set k) = sets b k (b .frame)
-called b Builder.SequenceNew = onSequence b (accepted newSequence)
-called b Builder.AddFrame = adds b (b .frame)
+called b Call.SnippetNew = onSnippet b (accepted newSnippet)
+called b (Call.Ramp t a) = onSnippet b (withMade (b .snippet) (point true t a))
+called b (Call.Step t a) = onSnippet b (withMade (b .snippet) (point false t a))
+called b (Call.Point byte) = onSnippet b (withPoint (b .snippet) (pointOf byte))
+called b (Call.FrameNew n) = beginsFrame b (newFrame n)
+called b Call.Silence = beginsFrame b (gives silentFrame)
+called b (Call.Set k) = sets b k (b .frame)
+called b Call.SequenceNew = onSequence b (accepted newSequence)
+called b Call.AddFrame = adds b (b .frame)
+
+-- a call on a memory is none for these three; what is none is refused with 14, NotSupported
+abbrev pub noCall : ℕ
+noCall = 14
+
+abbrev pub calledBy : Builders → Call → Handed Builders
+calledBy b (Call.Builder k) = called b k
+calledBy b Call.AddSnippet = refused noCall b
+calledBy b Call.AddSequence = refused noCall b
+calledBy b Call.Unknown = refused noCall b
 
 abbrev pub steppedTold : Stepped → Handed Builders
 steppedTold r = record { number = r .number; builder = r .builders }

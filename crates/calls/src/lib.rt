@@ -1,7 +1,7 @@
 // Builder calls (added; no Rust file): the form in which they cross the boundary, and calls on one snippet, one frame and one sequence
 // under construction. Document 01, 'The hundred bytes': each call gets what the last handed back; a refused call adds nothing.
 // A frame is begun or not: `new` or `silence` beginsFrame it, a refused `new` leaves none, an accepted `add_frame` uses it up.
-// Proved: `read` gives the call that the bytes say, `apply` the number and the builders that specs/Calls.antt says, for any bytes and
+// Proved: `read` gives the record that the bytes say, `apply` the number and the builders that specs/Calls.antt says, for any bytes and
 // builders. Lists of calls, and those that add to a memory, are run in `assemble`.
 ghost use mathlib.Core.Path.{_≡_};
 ghost use Prim.Native.Nat.{_+_, _*_};
@@ -10,7 +10,7 @@ ghost use Rattle.errors.specs.Told.{accepted, refused};
 ghost use Rattle.snippet.specs.Snippet as snippet;
 ghost use Rattle.frame.specs.Builder as frame;
 ghost use Rattle.sequence.specs.Sequence as sequence;
-ghost use Rattle.calls.specs.Calls.{chosen, callAt, firstCall, started, onSnippet, onFrame, onSequence, beginsFrame, withField, sets, uses, adds, called, steppedTold};
+ghost use Rattle.calls.specs.Calls.{chosen, firstRecord, callOf, noCall, calledBy, started, onSnippet, onFrame, onSequence, beginsFrame, withField, sets, uses, adds, steppedTold};
 use errors::Answer;
 use errors::Error;
 use frame::FrameBuilder;
@@ -33,25 +33,11 @@ pub enum FieldCall {
     FrequencyHz(u16),
 }
 
-// A call on the snippet, the frame or the sequence under construction.
-pub enum BuilderCall {
-    SnippetNew,
-    Ramp(u8, u8),
-    Step(u8, u8),
-    Point(u8),
-    FrameNew(u8),
-    Silence,
-    Set(FieldCall),
-    SequenceNew,
-    AddFrame,
-}
-
-// A record of a list: a call on the three builders, one that adds to a memory, or none.
-pub enum Call {
-    Builder(BuilderCall),
-    AddSnippet,
-    AddSequence,
-    Unknown,
+// A record of a list of calls: a code and two arguments. specs/Said.antt has the calls, Calls.antt their codes.
+pub struct Record {
+    pub code: u8,
+    pub a: u8,
+    pub b: u8,
 }
 
 // The frame under construction.
@@ -73,41 +59,29 @@ pub struct Stepped {
     pub builders: Builders,
 }
 
-impl Call {
-    // The call of the record that beginsFrame at an index.
-    pub fn read(calls: &[u8], at: usize) -> Call
-        ensures { λ r. ⌜ r ≡ firstCall (drop at (now (calls .entry))) ⌝ }
+impl Record {
+    // The record that begins at an index; a shorter one has code 0, which says no call.
+    pub fn read(calls: &[u8], at: usize) -> Record
+        ensures { λ r. ⌜ r ≡ firstRecord (drop at (now (calls .entry))) ⌝ }
     {
         if calls.len() <= at {
-            return Call::Unknown;
+            return Record {
+                code: 0,
+                a: 0,
+                b: 0,
+            };
         }
         if calls.len() - at < 4 {
-            return Call::Unknown;
+            return Record {
+                code: 0,
+                a: 0,
+                b: 0,
+            };
         }
-        Call::decode(calls[at], calls[at + 1], calls[at + 2])
-    }
-
-    // The call that a code and two bytes say.
-    fn decode(code: u8, a: u8, b: u8) -> Call
-        ensures { λ r. ⌜ r ≡ callAt code a b ⌝ }
-    {
-        match code {
-            0 => Call::Unknown,
-            1 => Call::Builder(BuilderCall::SnippetNew),
-            2 => Call::Builder(BuilderCall::Ramp(a, b)),
-            3 => Call::Builder(BuilderCall::Step(a, b)),
-            4 => Call::Builder(BuilderCall::Point(a)),
-            5 => Call::Builder(BuilderCall::FrameNew(a)),
-            6 => Call::Builder(BuilderCall::Silence),
-            7 => chosen(FieldCall::Gain(a), a),
-            8 => chosen(FieldCall::Timebase(a), a),
-            9 => Call::Builder(BuilderCall::Set(FieldCall::LoopCount(a))),
-            10 => Call::Builder(BuilderCall::Set(FieldCall::FrequencyHz(wide(a, b)))),
-            11 => Call::Builder(BuilderCall::SequenceNew),
-            12 => Call::Builder(BuilderCall::AddFrame),
-            13 => Call::AddSnippet,
-            14 => Call::AddSequence,
-            _ => Call::Unknown,
+        Record {
+            code: calls[at],
+            a: calls[at + 1],
+            b: calls[at + 2],
         }
     }
 }
@@ -126,34 +100,64 @@ impl Builders {
         }
     }
 
-    // Makes one call.
-    pub fn apply(self, call: BuilderCall) -> Stepped
-        ensures { λ r. ⌜ steppedTold r ≡ called self call ⌝ }
+    // Makes the call that a record says; one on a memory is none here.
+    pub fn apply(self, r: Record) -> Stepped
+        ensures { λ x. ⌜ steppedTold x ≡ calledBy self (callOf r) ⌝ }
     {
         let s = self.snippet;
-        match call {
-            BuilderCall::SnippetNew => {
+        let a = r.a;
+        let b = r.b;
+        let code = r.code;
+        match code {
+            0 => self.no_call(),
+            1 => {
                 let n = SnippetBuilder::new();
                 self.with_snippet(AddedPoint {
                     answer: Answer::Done,
                     builder: n,
                 })
             }
-            BuilderCall::Ramp(t, a) => self.with_snippet(s.ramp(t, a)),
-            BuilderCall::Step(t, a) => self.with_snippet(s.step(t, a)),
-            BuilderCall::Point(b) => self.with_snippet(s.point(PwlPoint::from_byte(b))),
-            BuilderCall::FrameNew(n) => self.begin(FrameBuilder::new(n)),
-            BuilderCall::Silence => self.begin(NewFrame::Builder(FrameBuilder::silence())),
-            BuilderCall::Set(k) => self.set(k),
-            BuilderCall::SequenceNew => {
+            2 => self.with_snippet(s.ramp(a, b)),
+            3 => self.with_snippet(s.step(a, b)),
+            4 => self.with_snippet(s.point(PwlPoint::from_byte(a))),
+            5 => self.begin(FrameBuilder::new(a)),
+            6 => self.begin(NewFrame::Builder(FrameBuilder::silence())),
+            7 => self.choose(FieldCall::Gain(a), a),
+            8 => self.choose(FieldCall::Timebase(a), a),
+            9 => self.set(FieldCall::LoopCount(a)),
+            10 => self.set(FieldCall::FrequencyHz(wide(a, b))),
+            11 => {
                 let n = SequenceBuilder::new();
                 self.with_sequence(AddedFrame {
                     answer: Answer::Done,
                     builder: n,
                 })
             }
-            BuilderCall::AddFrame => self.add_frame(),
+            12 => self.add_frame(),
+            13 => self.no_call(),
+            14 => self.no_call(),
+            _ => self.no_call(),
         }
+    }
+
+    // The builders as they are, where a record says no call.
+    fn no_call(self) -> Stepped
+        ensures { λ x. ⌜ steppedTold x ≡ refused noCall self ⌝ }
+    {
+        Stepped {
+            number: Error::NotSupported.number(),
+            builders: self,
+        }
+    }
+
+    // A choice of four by its code; a code above the last says no call.
+    fn choose(self, call: FieldCall, code: u8) -> Stepped
+        ensures { λ x. ⌜ steppedTold x ≡ calledBy self (chosen call code) ⌝ }
+    {
+        if LAST_CHOICE < code {
+            return self.no_call();
+        }
+        self.set(call)
     }
 
     fn with_snippet(self, r: AddedPoint) -> Stepped
@@ -275,16 +279,6 @@ impl Builders {
             builders: b,
         }
     }
-}
-
-// A choice of four by its code; a code above the last says no call.
-fn chosen(call: FieldCall, code: u8) -> Call
-    ensures { λ r. ⌜ r ≡ chosen call code ⌝ }
-{
-    if LAST_CHOICE < code {
-        return Call::Unknown;
-    }
-    Call::Builder(BuilderCall::Set(call))
 }
 
 fn with_field(f: FrameBuilder, call: FieldCall) -> SetFrame

@@ -12,7 +12,7 @@ use lib.Seq.{sets}
 use Rattle.laws.specs.Copied.{copied}
 use Rattle.laws.proofs.Lists.{bytes-of}
 use Rattle.calls.specs.declared.Builders.{Builders}
-use Rattle.calls.specs.Calls.{callsIn}
+use Rattle.calls.specs.Calls.{callOf, callsIn}
 use Rattle.assemble.specs.Lists.{firstRefused}
 use Rattle.assemble.specs.Flat.{state}
 use Rattle.assemble.proofs.Flat.{nothingYet, flatAfter, flatAnswers}
@@ -76,7 +76,7 @@ loop-again c =
       ap length (c .before .before .before .before .put .ensures) ∙ simp length-set (l .inv .2),
       c .before .before .before .before .before .before .before .before .before .before .before .step .kept .1 .1 .0 ∙ l .inv .3,
       c .before .before .before .before .before .before .before .before .before .before .before .step .kept .1 .1 .1 .0 ∙ l .inv .4,
-      turn (l .inv .5) _ _ _ _ _ _ _ _ _ h e (c .before .before .before .before .before .before .before .before .before .before .before .before .before .before .read .ensures) (c .before .before .before .before .before .before .before .before .before .before .before .step .ensures) refl refl (c .before .before .before .before .put .ensures) (c .before .first .ensures),
+      turn (l .inv .5) _ _ _ _ _ _ _ _ _ h e (ap callOf (c .before .before .before .before .before .before .before .before .before .before .before .before .before .before .read .ensures)) (c .before .before .before .before .before .before .before .before .before .before .before .step .ensures) refl refl (c .before .before .before .before .put .ensures) (c .before .first .ensures),
     )
 
 same-length : tie.Need-same-length Inv-loop μ-loop
