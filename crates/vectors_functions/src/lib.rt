@@ -210,7 +210,7 @@ fn reads(image: &[u8], counts: &[u8], points: &[u8], frames: &[u8], by_value: bo
 
 fn read_counts(image: &[u8], by_value: bool) -> u64 {
     if by_value {
-        return vectors_values::counts(image);
+        return vectors_values::read_counts(image);
     }
     capi::da728x_read_counts(image) as u64
 }
@@ -257,9 +257,9 @@ fn item(image: &[u8], i: usize, j: usize, width: usize, by_value: bool) -> u64 {
 
 fn value(image: &[u8], i: usize, j: usize, width: usize) -> u64 {
     if width == POINT {
-        return vectors_values::point(image, i, j);
+        return vectors_values::read_point(image, i, j);
     }
-    vectors_values::frame(image, i, j)
+    vectors_values::read_frame(image, i, j)
 }
 
 // The least word that is no item.

@@ -1,5 +1,6 @@
-// Lists of builder calls run, and images built and read, by the types that Rattle programs have (`WaveformMemoryBuilder`, `reader::read`
-// and its `items`), with the answers of the functions exported for C, which keep a memory's items in bytes and read images in place.
+// Lists of builder calls run, and images built and read, by the types that Rattle programs have: `WaveformMemoryBuilder`, `reader::read`
+// and its `items`. The functions exported for C do the same over items kept in bytes and over the image in place; each function here
+// answers in the form of the exported one with its name.
 // Proved: every function is safe and returns.
 use calls::Builders;
 use calls::Call;
@@ -29,7 +30,8 @@ const ABOVE_POINT: u64 = 1 << 16;
 
 const ABOVE_FRAME: u64 = 1 << 56;
 
-// What calls leave: the builders, how many calls there were, and the first refusal with 256 times the place of its call, counted from 1, or 0.
+// What calls leave: the builders, how many calls there were, and the first refusal with 256 times the place of its call, counted from 1
+// (0 if there is none).
 struct Ran {
     builders: Builders,
     memory: WaveformMemoryBuilder,
@@ -223,7 +225,7 @@ fn first(told: u64, place: usize, number: u8) -> u64 {
 // ---- images read
 
 // 256 times how many snippets and how many sequences, or the refusal.
-pub fn counts(image: &[u8]) -> u64 {
+pub fn read_counts(image: &[u8]) -> u64 {
     let r = reader::read(image);
     let answer = r.answer;
     match answer {
@@ -237,7 +239,7 @@ pub fn counts(image: &[u8]) -> u64 {
 }
 
 // The byte of a point, 256 where there is none, or the refusal.
-pub fn point(image: &[u8], i: usize, j: usize) -> u64 {
+pub fn read_point(image: &[u8], i: usize, j: usize) -> u64 {
     let r = reader::read(image);
     let answer = r.answer;
     match answer {
@@ -253,7 +255,7 @@ pub fn point(image: &[u8], i: usize, j: usize) -> u64 {
 }
 
 // The word of a frame's fields, 2 to the power of 48 where there is none, or the refusal.
-pub fn frame(image: &[u8], i: usize, j: usize) -> u64 {
+pub fn read_frame(image: &[u8], i: usize, j: usize) -> u64 {
     let r = reader::read(image);
     let answer = r.answer;
     match answer {
