@@ -1,9 +1,11 @@
 // The cases of the stored sample whose function drives no chip: it is called on what the case gives, and what it answers and leaves is
-// compared with what the case tells.
+// compared with what the case tells. A list of calls that adds to a memory is also run, and an image also read, by value
+// (`vectors_values`): such a case agrees only if both ways do.
 // Proved: every function is safe and returns.
 use vectors_bytes::MARKER;
 use vectors_bytes::at;
 use vectors_bytes::begins;
+use vectors_bytes::both;
 use vectors_bytes::field;
 use vectors_bytes::front;
 use vectors_bytes::next;
@@ -11,8 +13,16 @@ use vectors_bytes::number;
 use vectors_bytes::part;
 use vectors_bytes::sum;
 
-// The kind that reads images item by item, and the last kinds of points, builder calls, registers and all.
+// The kinds that are also run by value: images made, read item by item, all answers, images made strictly.
+const ASSEMBLE: u8 = 9;
+
 const READS: u8 = 10;
+
+const ANSWERS: u8 = 20;
+
+const STRICT: u8 = 21;
+
+// The last kinds of points, builder calls, registers and all.
 
 const LAST_POINT: u8 = 4;
 
@@ -38,21 +48,43 @@ pub fn agrees(kind: u8, bytes: &[u8], ends: &[usize]) -> bool {
     let third = field(bytes, ends, 3);
     let fourth = field(bytes, ends, 4);
     match kind {
-        READS => reads(first, second, third, fourth),
-        1..=LAST => called(kind, first, second, third, fourth),
+        READS => both(
+            reads(first, second, third, fourth, false),
+            reads(first, second, third, fourth, true),
+        ),
+        ASSEMBLE => twice(kind, second, third, fourth),
+        ANSWERS => twice(kind, second, third, fourth),
+        STRICT => twice(kind, second, third, fourth),
+        1..=LAST => called(kind, false, first, second, third, fourth),
         _ => false,
     }
 }
 
+// Whether the function and what is done by value both agree.
+fn twice(kind: u8, input: &[u8], word: &[u8], out: &[u8]) -> bool {
+    both(
+        called(kind, false, input, input, word, out),
+        called(kind, true, input, input, word, out),
+    )
+}
+
 // Whether the function of a kind from 1 to the last answers this word and leaves these bytes in the slice lent, which it finds filled
 // with the marker.
-fn called(kind: u8, arguments: &[u8], input: &[u8], word: &[u8], out: &[u8]) -> bool {
+fn called(
+    kind: u8,
+    by_value: bool,
+    arguments: &[u8],
+    input: &[u8],
+    word: &[u8],
+    out: &[u8],
+) -> bool {
     let mut lent = [MARKER; 1024];
-    leaves(kind, arguments, input, word, out, &mut lent)
+    leaves(kind, by_value, arguments, input, word, out, &mut lent)
 }
 
 fn leaves(
     kind: u8,
+    by_value: bool,
     arguments: &[u8],
     input: &[u8],
     word: &[u8],
@@ -60,7 +92,7 @@ fn leaves(
     lent: &mut [u8],
 ) -> bool {
     let n = out.len();
-    let answer = call(kind, arguments, input, front(lent, n));
+    let answer = call(kind, by_value, arguments, input, front(lent, n));
     if answer == number(word) {
         return begins(lent, out);
     }
@@ -68,7 +100,10 @@ fn leaves(
 }
 
 // The word that the function of this kind answers.
-fn call(kind: u8, arguments: &[u8], input: &[u8], out: &mut [u8]) -> u64 {
+fn call(kind: u8, by_value: bool, arguments: &[u8], input: &[u8], out: &mut [u8]) -> u64 {
+    if by_value {
+        return values(kind, input, out);
+    }
     if kind <= LAST_POINT {
         return point(kind, arguments) as u64;
     }
@@ -104,7 +139,7 @@ fn point(kind: u8, arguments: &[u8]) -> u16 {
 fn build(kind: u8, calls: &[u8], out: &mut [u8]) -> u64 {
     match kind {
         8 => capi::da728x_current_len(calls) as u64,
-        9 => capi::da728x_assemble(calls, out) as u64,
+        ASSEMBLE => capi::da728x_assemble(calls, out) as u64,
         _ => build_item(kind, calls, out) as u64,
     }
 }
@@ -120,9 +155,18 @@ fn build_item(kind: u8, calls: &[u8], out: &mut [u8]) -> u32 {
 // All answers, an image made strictly, all lists.
 fn whole(kind: u8, input: &[u8], out: &mut [u8]) -> u64 {
     match kind {
-        20 => capi::da728x_answers(input, out) as u64,
-        21 => capi::da728x_assemble_strict(input, out) as u64,
+        ANSWERS => capi::da728x_answers(input, out) as u64,
+        STRICT => capi::da728x_assemble_strict(input, out) as u64,
         _ => capi::da728x_read_lists(input, out) as u64,
+    }
+}
+
+// All answers and images by value.
+fn values(kind: u8, calls: &[u8], out: &mut [u8]) -> u64 {
+    match kind {
+        ANSWERS => vectors_values::answers(calls, out),
+        STRICT => vectors_values::assemble_strict(calls, out),
+        _ => vectors_values::assemble(calls, out),
     }
 }
 
@@ -154,18 +198,25 @@ struct Place {
 }
 
 // Whether the image has these counts, points and frames.
-fn reads(image: &[u8], counts: &[u8], points: &[u8], frames: &[u8]) -> bool {
-    if capi::da728x_read_counts(image) as u64 != number(counts) {
+fn reads(image: &[u8], counts: &[u8], points: &[u8], frames: &[u8], by_value: bool) -> bool {
+    if read_counts(image, by_value) != number(counts) {
         return false;
     }
-    if walk(image, points, POINT) {
-        return walk(image, frames, FRAME);
+    if walk(image, points, POINT, by_value) {
+        return walk(image, frames, FRAME, by_value);
     }
     false
 }
 
+fn read_counts(image: &[u8], by_value: bool) -> u64 {
+    if by_value {
+        return vectors_values::read_counts(image);
+    }
+    capi::da728x_read_counts(image) as u64
+}
+
 // Goes through every item: points where a word has the bytes of a point, else frames.
-fn walk(image: &[u8], told: &[u8], width: usize) -> bool {
+fn walk(image: &[u8], told: &[u8], width: usize, by_value: bool) -> bool {
     let mut p = Place {
         item: 0,
         at: 0,
@@ -175,18 +226,18 @@ fn walk(image: &[u8], told: &[u8], width: usize) -> bool {
     };
     let mut turns = 0usize;
     while turns < 256 {
-        p = turn(p, image, told, width);
+        p = turn(p, image, told, width, by_value);
         turns += 1;
     }
     p.agrees
 }
 
-fn turn(p: Place, image: &[u8], told: &[u8], width: usize) -> Place {
+fn turn(p: Place, image: &[u8], told: &[u8], width: usize, by_value: bool) -> Place {
     if p.over {
         return p;
     }
     let after = sum(p.told, width);
-    let word = item(image, p.item, p.at, width);
+    let word = item(image, p.item, p.at, width, by_value);
     if word != number(part(told, p.told, after)) {
         return stopped(p, false);
     }
@@ -194,11 +245,21 @@ fn turn(p: Place, image: &[u8], told: &[u8], width: usize) -> Place {
 }
 
 // The answer of the reader; as in `walk`.
-fn item(image: &[u8], i: usize, j: usize, width: usize) -> u64 {
+fn item(image: &[u8], i: usize, j: usize, width: usize, by_value: bool) -> u64 {
+    if by_value {
+        return value(image, i, j, width);
+    }
     if width == POINT {
         return capi::da728x_read_point(image, i, j) as u64;
     }
     capi::da728x_read_frame(image, i, j)
+}
+
+fn value(image: &[u8], i: usize, j: usize, width: usize) -> u64 {
+    if width == POINT {
+        return vectors_values::read_point(image, i, j);
+    }
+    vectors_values::read_frame(image, i, j)
 }
 
 // The least word that is no item.

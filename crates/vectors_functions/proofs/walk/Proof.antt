@@ -5,10 +5,10 @@ use Rattle.vectors_functions.proofs.walk.Statement.{statement}
 use Rattle.vectors_functions.proofs.walk.Tie as tie
 
 abbrev Inv-loop : tie.InvT-loop
-Inv-loop image told width p₀ turns₀ p turns = turns ≤ 256
+Inv-loop image told width by-value p₀ turns₀ p turns = turns ≤ 256
 
 abbrev μ-loop : tie.MeasureT-loop
-μ-loop image told width p₀ turns₀ p turns = 256 - turns
+μ-loop image told width by-value p₀ turns₀ p turns = 256 - turns
 
 returns : tie.Need-returns Inv-loop μ-loop
 returns c = search needs
