@@ -9,7 +9,10 @@ use borrow.Author.Tests.{lt-ltb, le-ltb, ltb-true, ltb-false}
 use lib.Dec.{ltb}
 use lib.ListN.{length}
 use Rattle.laws.specs.Copied.{copied}
-use Rattle.assemble.specs.Lists.{answersOf, builtOf, imageOut, lastPlace, withPlace, firstRefused, strictly, strictOut}
+use Rattle.pattern.specs.Calls.{contentFrom}
+use Rattle.pattern.specs.Demand.{ImageOf}
+use Rattle.pattern.proofs.Demand3.{demand3}
+use Rattle.assemble.specs.Lists.{groupsOf, answersOf, builtOf, imageOut, lastPlace, withPlace, firstRefused, strictly, strictOut}
 use Rattle.assemble.specs.Strict.{AllAccepted, Strict}
 use Rattle.assemble.proofs.Numbers.{answer-numbers}
 
@@ -74,5 +77,8 @@ module _ (calls : List ℕ) where
       ∙ g
       ∙ ap (λ (j : ℕ). n + 256 * j) (min-eq-left {n = length before + 1} {m = lastPlace} (omega (arith, room)))
 
+  made : strictly calls ≡ 0 → ImageOf (builtOf calls .item .«data») (contentFrom false (groupsOf calls .memory))
+  made e = demand3 .laidOut (record { acceleration = false; calls = groupsOf calls .memory }) (only (ltb 0 f) refl e .1)
+
   pub strict : Strict calls
-  strict = record { whole = (λ e. only (ltb 0 f) refl e, λ w. none (w .0) ∙ w .1); first = at-first; numbers = answer-numbers calls; builds = none; kept = λ buffer h. simp (lt-ltb 0 (strictly calls) h); image = λ buffer e. simp e }
+  strict = record { made = made; whole = (λ e. only (ltb 0 f) refl e, λ w. none (w .0) ∙ w .1); first = at-first; numbers = answer-numbers calls; builds = none; kept = λ buffer h. simp (lt-ltb 0 (strictly calls) h); image = λ buffer e. simp e }

@@ -1,5 +1,6 @@
 -- What a call finds. Assumes nothing.
 use mathlib.Core.Path.{_≡_, refl, sym, ap, _∙_}
+use mathlib.Core.Logic.{_⊎_, inl, inr}
 use mathlib.Core.Bool.{Bool, true, false, cond}
 use mathlib.Core.List.{List, [], _∷_, _++_}
 use Prim.Native.Nat.{ℕ, _+_, _<_}
@@ -17,6 +18,7 @@ use Rattle.frame.specs.Frame.{frameBytes, builtFrame}
 use Rattle.sequence.specs.declared.SequenceBuilder.{SequenceBuilder}
 use Rattle.sequence.specs.Sequence.{newSequence, withFrame, builtSequence}
 use Rattle.calls.specs.declared.FieldCall.{FieldCall}
+use Rattle.calls.specs.declared.FieldCall.the-variants as Field
 use Rattle.calls.specs.Said.{Call}
 use Rattle.calls.specs.Said as Call
 use Rattle.calls.specs.declared.UnderWay.{UnderWay}
@@ -27,7 +29,7 @@ use Rattle.memory.specs.Memory.{newMemory, withSnippet, withSequence}
 use Rattle.pattern.specs.Calls.{ran, SnippetCall, ramp, step, point, snippetStep, addedPoint, snippetFrom, FrameCall, gain, timebase, loopCount, frequencyHz, frameStep, Begin, new, silence, begunBy, FrameCalls, frameRan, frameFrom, answerOn, withMadeFrame, sequenceStep, sequenceFrom, MemoryCall, addSnippet, addSequence, withBuiltSnippet, withBuiltSequence, memoryStep, addedItem, memoryFrom}
 use Rattle.pattern.proofs.Runs.{ran-append}
 use Rattle.assemble.specs.Lists.{Groups, noFrame, noGroups, toSnippet, begunNumber, leftBy, fieldOf, grouped, underWay, buildersIn}
-use Rattle.assemble.specs.UsedUp.{NotBegun, Unchanged, UsedUp}
+use Rattle.assemble.specs.UsedUp.{NotBegun, Begins, Unchanged, UsedUp}
 use Rattle.assemble.proofs.Assembly.{Three, three}
 
 -- ---- a refused call hands back what came in
@@ -150,6 +152,36 @@ refused-new g n h = go (newFrame n) refl h where
   go (gives f) e k = absurd (omega arith)
   go (refuses m) e k = none-begun (grouped g (Call.Builder (Call.FrameNew n)) .builder) m e
 
+-- a frame that answers 3 to a call that sets its gain is not begun
+abbrev Refused : Told FrameBuilder → Type 0
+Refused (gives f) = ⊥
+Refused (refuses n) = Unit
+
+not-begun : (t : Told FrameBuilder) (ks : List FrameCall) → answerOn t ks (fieldOf (Field.Gain 0)) ≡ 3 → Refused t
+not-begun (gives f) ks e = let z : _≡_ {A = ℕ} 0 3 = e in absurd (omega arith)
+not-begun (refuses n) ks e = tt
+
+still : (g h : Groups) → NotBegun g → h .frame .begin ≡ g .frame .begin → NotBegun h
+still g h w e = go (begunBy (g .frame .begin)) refl (not-begun (begunBy (g .frame .begin)) (g .frame .calls) (w .fields (Field.Gain 0))) where
+  go : (t : Told FrameBuilder) → begunBy (g .frame .begin) ≡ t → Refused t → NotBegun h
+  go (gives f) d r = absurd r
+  go (refuses n) d r = none-begun h n (ap begunBy e ∙ d)
+
+stays-none : (g : Groups) (k : Call) → NotBegun g → Begins k ⊎ NotBegun (grouped g k .builder)
+stays-none g (Call.Builder Call.SnippetNew) w = inr (still g _ w refl)
+stays-none g (Call.Builder (Call.Ramp t a)) w = inr (still g _ w refl)
+stays-none g (Call.Builder (Call.Step t a)) w = inr (still g _ w refl)
+stays-none g (Call.Builder (Call.Point b)) w = inr (still g _ w refl)
+stays-none g (Call.Builder (Call.FrameNew n)) w = inl tt
+stays-none g (Call.Builder Call.Silence) w = inl tt
+stays-none g (Call.Builder (Call.Set k)) w = inr (still g _ w refl)
+stays-none g (Call.Builder Call.SequenceNew) w = inr (still g _ w refl)
+stays-none g (Call.Builder Call.AddFrame) w =
+    inr (still g _ w (ap (λ (n : ℕ). leftBy n noFrame (g .frame) .begin) (w .adding)))
+stays-none g Call.AddSnippet w = inr (still g _ w refl)
+stays-none g Call.AddSequence w = inr (still g _ w refl)
+stays-none g Call.Unknown w = inr (still g _ w refl)
+
 -- what was accepted is used up
 used : {A : Type 0} (n : ℕ) (fresh item : A) → n ≡ 0 → leftBy n fresh item ≡ fresh
 used n fresh item e = simp e
@@ -164,6 +196,7 @@ used-up =
     record {
       begins = none-begun noGroups 3 refl;
       refusedNew = refused-new;
+      stays = stays-none;
       frames = used-frame;
       snippets = λ g e.
           ap (λ (s : List SnippetCall). withBuiltSnippet (memoryFrom false (g .memory ++ (addSnippet (g .snippet) ∷ []))) (builtSnippet (snippetFrom s)) .number)

@@ -1,4 +1,4 @@
--- The definitions that the contracts of `assemble` cite.
+-- The definitions that the contracts of `assemble` cite (Lists; privately Flat, Holding, Kept), and the claims Strict, UsedUp, Example.
 pub mod Example
 pub mod Flat
 pub mod Holding

@@ -2,12 +2,15 @@
 -- and the image is built, and otherwise the first refusal with its place.
 use Prim.Native.Nat.{ℕ, _+_, _*_, _<_, _≤_}
 use mathlib.Core.Path.{_≡_}
+use mathlib.Core.Bool.{false}
 use mathlib.Core.Logic.{_↔_}
 use mathlib.Core.List.{List, [], _∷_, _++_}
 use lib.ListN.{length}
 use Rattle.laws.specs.Copied.{copied}
 use Rattle.laws.specs.Bytes.{All}
-use Rattle.assemble.specs.Lists.{answersOf, builtOf, lastPlace, strictly, strictOut}
+use Rattle.pattern.specs.Calls.{contentFrom}
+use Rattle.pattern.specs.Demand.{ImageOf}
+use Rattle.assemble.specs.Lists.{groupsOf, answersOf, builtOf, lastPlace, strictly, strictOut}
 
 -- each of these answers accepts its call
 abbrev pub AllAccepted : List ℕ → Type 0
@@ -26,3 +29,5 @@ pub record Strict (calls : List ℕ) : Type 0 where
   -- a refusal leaves the buffer; else it takes the image, as much as fits
   pub kept : (buffer : List ℕ) → 0 < strictly calls → strictOut calls buffer ≡ buffer
   pub image : (buffer : List ℕ) → strictly calls ≡ 0 → strictOut calls buffer ≡ copied buffer (builtOf calls .item .«data»)
+  -- and that is the image of what the calls added, which the builders admit
+  pub made : strictly calls ≡ 0 → ImageOf (builtOf calls .item .«data») (contentFrom false (groupsOf calls .memory))

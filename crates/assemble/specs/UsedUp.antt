@@ -2,6 +2,7 @@
 -- answers of the calls that follow, whatever calls came before.
 use Prim.Native.Nat.{ℕ, _<_}
 use mathlib.Core.Path.{_≡_}
+use mathlib.Core.Logic.{_⊎_}
 use mathlib.Core.Bool.{false}
 use Rattle.calls.specs.declared.FieldCall.{FieldCall}
 use Rattle.calls.specs.Said.{Call}
@@ -14,6 +15,21 @@ pub record NotBegun (g : Groups) : Type 0 where
   pub fields : (k : FieldCall) → grouped g (Call.Builder (Call.Set k)) .number ≡ 3
   pub adding : grouped g (Call.Builder Call.AddFrame) .number ≡ 3
 
+-- a call that begins a frame
+abbrev pub Begins : Call → Type 0
+Begins (Call.Builder (Call.FrameNew n)) = Unit
+Begins (Call.Builder Call.Silence) = Unit
+Begins (Call.Builder Call.SnippetNew) = ⊥
+Begins (Call.Builder (Call.Ramp t a)) = ⊥
+Begins (Call.Builder (Call.Step t a)) = ⊥
+Begins (Call.Builder (Call.Point b)) = ⊥
+Begins (Call.Builder (Call.Set k)) = ⊥
+Begins (Call.Builder Call.SequenceNew) = ⊥
+Begins (Call.Builder Call.AddFrame) = ⊥
+Begins Call.AddSnippet = ⊥
+Begins Call.AddSequence = ⊥
+Begins Call.Unknown = ⊥
+
 -- the same snippet, frame, sequence and memory under construction
 pub record Unchanged (g h : Groups) : Type 0 where
   pub builders : buildersIn h ≡ buildersIn g
@@ -24,6 +40,8 @@ pub record UsedUp : Type 0 where
   pub begins : NotBegun noGroups
   -- a refused `new` leaves none
   pub refusedNew : (g : Groups) (n : ℕ) → 0 < grouped g (Call.Builder (Call.FrameNew n)) .number → NotBegun (grouped g (Call.Builder (Call.FrameNew n)) .builder)
+  -- and none is begun until a call begins one
+  pub stays : (g : Groups) (k : Call) → NotBegun g → Begins k ⊎ NotBegun (grouped g k .builder)
   -- a frame, a snippet, a sequence that was accepted is used up: the next has to be begun, or is empty
   pub frames : (g : Groups) → grouped g (Call.Builder Call.AddFrame) .number ≡ 0 → NotBegun (grouped g (Call.Builder Call.AddFrame) .builder)
   pub snippets : (g : Groups) → grouped g Call.AddSnippet .number ≡ 0 → grouped (grouped g Call.AddSnippet .builder) Call.AddSnippet .number ≡ 9

@@ -93,7 +93,7 @@ onFrame b n f = record { number = n; builder = record { snippet = b .snippet; fr
 abbrev pub onSequence : Builders → Handed SequenceBuilder → Handed Builders
 onSequence b s = record { number = s .number; builder = record { snippet = b .snippet; frame = b .frame; sequence = s .builder } }
 
--- `new` beginsFrame a frame; where it is refused none is begun
+-- `new` begins a frame; where it is refused none is begun
 abbrev pub beginsFrame : Builders → Told FrameBuilder → Handed Builders
 beginsFrame b (gives f) = onFrame b 0 (UnderWay.Begun f)
 beginsFrame b (refuses n) = onFrame b n UnderWay.NotBegun

@@ -1,6 +1,6 @@
 // Builder calls (added; no Rust file): the form in which they cross the boundary, and calls on one snippet, one frame and one sequence
 // under construction. Document 01, 'The hundred bytes': each call gets what the last handed back; a refused call adds nothing.
-// A frame is begun or not: `new` or `silence` beginsFrame it, a refused `new` leaves none, an accepted `add_frame` uses it up.
+// A frame is begun or not: `new` or `silence` begins it, a refused `new` leaves none, an accepted `add_frame` uses it up.
 // Proved: `read` gives the record that the bytes say, `apply` the number and the builders that specs/Calls.antt says, for any bytes and
 // builders. Lists of calls, and those that add to a memory, are run in `assemble`.
 ghost use mathlib.Core.Path.{_≡_};

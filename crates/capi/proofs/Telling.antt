@@ -93,6 +93,9 @@ telling =
       frames = tells 16 _ (λ x. frame-room (x .0) (buildersOf (x .1) .frame));
       sequences =
           tells 16 _ (λ x. copied-room sequenceBytes (builtSequence (buildersOf (x .1) .sequence)) (sequence-few (buildersOf (x .1) .sequence) (sequence-holds (groupsOf (x .1) .sequence) .long)) (x .0));
+      counts = tells 16 _ (λ x. readings-told .answers (x .0) (x .1) .counts);
+      imagePoints = λ i j. tells 16 _ (λ x. readings-told .answers (x .0) (x .1) .point i j);
+      imageFrames = λ i j. tells 56 _ (λ x. readings-told .answers (x .0) (x .1) .frame i j);
       images = readings-told;
       strict = strict;
     }

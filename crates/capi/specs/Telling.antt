@@ -4,9 +4,12 @@ use Prim.Native.Nat.{ℕ}
 use mathlib.Core.Path.{_≡_}
 use mathlib.Core.Bool.{Bool}
 use mathlib.Core.List.{List}
+use Rattle.laws.specs.Bytes.{Bytes}
 use Rattle.errors.specs.Told.{Told}
 use Rattle.errors.specs.Packed.{packed}
 use Rattle.snippet.specs.Point.{point}
+use Rattle.content.specs.ReadImage.{readImage}
+use Rattle.readings.specs.Readings.{countsAnswer, pointAnswer, frameAnswer}
 use Rattle.readings.specs.Telling.{ReadingsTold}
 use Rattle.assemble.specs.Strict.{Strict}
 use Rattle.capi.specs.Items.{snippetItem, frameItem, sequenceItem, fullLength, copiedLength}
@@ -22,7 +25,11 @@ pub record Telling : Type 0 where
   pub snippets : Tells 16 (λ (calls : List ℕ). fullLength (snippetItem calls))
   pub frames : Tells 16 (λ (x : ℕ × List ℕ). copiedLength (x .0) (frameItem (x .1)))
   pub sequences : Tells 16 (λ (x : ℕ × List ℕ). copiedLength (x .0) (sequenceItem (x .1)))
-  -- da728x_read_counts, da728x_read_point, da728x_read_frame, da728x_read_lists
+  -- da728x_read_counts (and da728x_read_lists), da728x_read_point, da728x_read_frame on slices of bytes
+  pub counts : Tells 16 (λ (x : (l : List ℕ) × Bytes l). countsAnswer (readImage (x .0)))
+  pub imagePoints : (i j : ℕ) → Tells 16 (λ (x : (l : List ℕ) × Bytes l). pointAnswer (readImage (x .0)) i j)
+  pub imageFrames : (i j : ℕ) → Tells 56 (λ (x : (l : List ℕ) × Bytes l). frameAnswer (readImage (x .0)) i j)
+  -- images that are answered alike are read alike
   pub images : ReadingsTold
   -- da728x_assemble_strict: a number and a place
   pub strict : (calls : List ℕ) → Strict calls

@@ -3,10 +3,9 @@
 // answers in the form of the exported one with its name.
 // Proved: every function is safe and returns.
 use calls::Builders;
-use calls::Call;
+use calls::Record;
 use calls::Stepped;
 use errors::Answer;
-use errors::Error;
 use memory::AddedItem;
 use memory::WaveformMemoryBuilder;
 use reader::items;
@@ -19,6 +18,11 @@ use vectors_bytes::put;
 
 // How many bytes the record of a call has.
 const RECORD: usize = 4;
+
+// The codes of the calls that add to the memory.
+const ADD_SNIPPET: u8 = 13;
+
+const ADD_SEQUENCE: u8 = 14;
 
 // The words of no point and of no frame.
 const NO_POINT: u64 = 256;
@@ -102,16 +106,16 @@ fn turn(r: Ran, calls: &[u8], i: usize, answers: &mut [u8]) -> Ran {
     if 0 < i % RECORD {
         return r;
     }
-    made(r, Call::read(calls, i), answers)
+    made(r, Record::read(calls, i), answers)
 }
 
-fn made(r: Ran, call: Call, answers: &mut [u8]) -> Ran {
+fn made(r: Ran, record: Record, answers: &mut [u8]) -> Ran {
     let b = r.builders;
-    match call {
-        Call::Builder(k) => stepped(r, b.apply(k), answers),
-        Call::AddSnippet => add_snippet(r, answers),
-        Call::AddSequence => add_sequence(r, answers),
-        Call::Unknown => answered(r, Error::NotSupported.number(), answers),
+    let code = record.code;
+    match code {
+        ADD_SNIPPET => add_snippet(r, answers),
+        ADD_SEQUENCE => add_sequence(r, answers),
+        _ => stepped(r, b.apply(record), answers),
     }
 }
 
