@@ -59,7 +59,8 @@ extern "C" {
 /* ---- points ----------------------------------------------------------- */
 
 /* PwlPoint::ramp (ramp not 0) or PwlPoint::step (ramp 0).
- * The point's byte, or 256 times the number of the refusal (1, then 2). */
+ * The point's byte, or 256 times the number of the refusal (1, then 2): test for 256 or more
+ * before you keep it in a byte. (The calls RAMP and STEP below refuse by themselves.) */
 uint16_t da728x_point(uint8_t ramp, uint8_t timebases, uint8_t amplitude);
 
 /* The fields of a point's byte: 1 for a ramp and 0 for a step; its length, 1 to 8; its amplitude, 0
@@ -73,8 +74,8 @@ uint8_t da728x_point_amplitude(uint8_t byte);
 /* A pattern is written as a list of builder calls. da728x_assemble_strict makes its image, and
  * is the function to use; the other functions of this section show parts of the same work.
  *
- * A list is made of records of four bytes: a code, two arguments a and b (0 where there is
- * none), and a byte that is ignored. Every function runs the calls in order on the same four
+ * A list is made of records of four bytes: a code, two arguments a and b, and a byte that is
+ * ignored; so is an argument that a call does not have (write 0). Every function runs the calls in order on the same four
  * builders: one snippet, one frame, one sequence and one waveform memory. Each call is accepted
  * (its answer is 0) or refused (its answer is the number of the refusal). The calls after a
  * refused one still run.
@@ -85,19 +86,24 @@ uint8_t da728x_point_amplitude(uint8_t byte);
  * again. SNIPPET_NEW and SEQUENCE_NEW discard what was not added.
  *
  * What a wrong list gives:
- *   an argument out of range     the call is refused, and changes nothing
+ *   an argument out of range     the call is refused, and changes nothing (but see FRAME_NEW)
  *   a refused FRAME_NEW          3, and no frame is begun any more, even if one was before:
  *                                the calls meant for the new frame are refused with 3
  *   a forgotten FRAME_NEW        each call on the frame is refused with 3, also if its loop
- *                                count or frequency is out of range
- *   a forgotten SNIPPET_NEW      nothing after an accepted ADD_SNIPPET; else the points are
+ *                                count or frequency is out of range (a gain or timebase code
+ *                                above 3: 14)
+ *   a forgotten SNIPPET_NEW      no harm after an accepted ADD_SNIPPET; else the points are
  *   or SEQUENCE_NEW              appended to those that were not added. Likewise for frames
+ *   a forgotten add              NO refusal: what was not added is not in the image, and a frame
+ *                                that is still begun is added by the next ADD_FRAME
  *   a refused add                the frame, the snippet or the sequence stays, and can be added
  *                                by a later call
  *   an unknown code              14, for 0 and for codes above 14, and for a gain or timebase
  *                                code above 3; it changes nothing
  *   a list that is cut short     1 to 3 bytes at the end count as one call, the last, which is
- *                                refused with 14
+ *                                refused with 14. Cut between two records: NO refusal, the calls
+ *                                that are missing are not made
+ * The counts and lists that are read back (below) show what an image holds.
  *
  * A frame names its snippet by a number: 1 is the snippet that was added first, 0 is
  * silence. Gain codes 0 to 3 are 0, -6, -12 and -18 dB. Timebase codes 0 to 3 are 5.44,
@@ -148,9 +154,10 @@ size_t da728x_answers(const uint8_t *calls, size_t calls_len,
 #define DA728X_IMAGE 100
 
 /* Runs the calls and makes the image of the snippets and sequences that they added, unless a
- * call is refused. Use this one: a pattern with a mistake in it gives no image.
+ * call is refused. Use this one: a list with a refused call gives no image.
  * Returns 0, and the hundred bytes are copied into the front of image, as many as fit; the other
- * bytes of image stay. Or a refusal, and image stays as it was:
+ * bytes of image stay. 0 does not say that the image fitted: lend DA728X_IMAGE bytes. Or a
+ * refusal, and image stays as it was:
  *   number + 256 * place   the first call that was refused, and its place in the list, from 1
  *                          (any place above 16777215 is given as 16777215)
  *   number                 no call was refused, but build refuses: 9 without snippets, else 10

@@ -156,7 +156,7 @@ static void build(uint8_t image[DA728X_IMAGE])
     printf("built: %u calls\n", (unsigned)sizeof calls / 4);
 }
 
-/* A pattern with a mistake in it makes no image: the first refused call is given, and its place. */
+/* A list with a refused call makes no image: the first one is given, and its place. */
 static void refuse(void)
 {
     uint8_t wrong[sizeof calls], answers[sizeof calls / 4], image[DA728X_IMAGE] = {0};

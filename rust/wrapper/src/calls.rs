@@ -44,8 +44,8 @@ pub enum Timebase {
 ///
 /// A refused call changes nothing, except that a refused `FrameNew` leaves no frame begun, and the
 /// calls after it still run. A call on a frame that is not begun is refused with
-/// `InvalidSnippetId`. Bytes that are no call (another code, or fewer than four bytes at the end of
-/// the list) count as a call that is refused with `NotSupported`.
+/// `InvalidSnippetId`. Bytes that are no call (another code, a gain or timebase code above 3, or
+/// fewer than four bytes at the end of the list) count as a call that is refused with `NotSupported`.
 ///
 /// ```
 /// # use yambelugo::{Call, Error, Gain};

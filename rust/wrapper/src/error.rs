@@ -32,9 +32,9 @@ pub enum Error {
     TooManySequences,
     /// 8: a sequence above 96 bytes or an image above 100.
     WaveformMemoryFull,
-    /// 9: no snippet to build from.
+    /// 9: no points, or no snippets, to build from.
     EmptySnippet,
-    /// 10: no sequence to build from.
+    /// 10: no frames, or no sequences, to build from.
     EmptySequence,
     /// 11: a setting is out of range.
     InvalidValue,

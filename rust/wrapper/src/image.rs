@@ -41,7 +41,7 @@ impl From<NotAssembled> for Error {
 }
 
 /// Runs the calls and makes the image of the snippets and sequences that they added, unless a call
-/// is refused. Use this one: a pattern with a mistake in it gives no image.
+/// is refused. Use this one: a list with a refused call gives no image.
 ///
 /// ```
 /// # use yambelugo::{Call, Error};
