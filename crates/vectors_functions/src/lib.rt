@@ -23,7 +23,6 @@ const ANSWERS: u8 = 20;
 const STRICT: u8 = 21;
 
 // The last kinds of points, builder calls, registers and all.
-
 const LAST_POINT: u8 = 4;
 
 const LAST_BUILD: u8 = 9;
@@ -52,19 +51,19 @@ pub fn agrees(kind: u8, bytes: &[u8], ends: &[usize]) -> bool {
             reads(first, second, third, fourth, false),
             reads(first, second, third, fourth, true),
         ),
-        ASSEMBLE => twice(kind, second, third, fourth),
-        ANSWERS => twice(kind, second, third, fourth),
-        STRICT => twice(kind, second, third, fourth),
+        ASSEMBLE => twice(kind, first, second, third, fourth),
+        ANSWERS => twice(kind, first, second, third, fourth),
+        STRICT => twice(kind, first, second, third, fourth),
         1..=LAST => called(kind, false, first, second, third, fourth),
         _ => false,
     }
 }
 
-// Whether the function and what is done by value both agree.
-fn twice(kind: u8, input: &[u8], word: &[u8], out: &[u8]) -> bool {
+// Whether the function and the same by value both agree.
+fn twice(kind: u8, arguments: &[u8], input: &[u8], word: &[u8], out: &[u8]) -> bool {
     both(
-        called(kind, false, input, input, word, out),
-        called(kind, true, input, input, word, out),
+        called(kind, false, arguments, input, word, out),
+        called(kind, true, arguments, input, word, out),
     )
 }
 
