@@ -1,8 +1,6 @@
 // The main job, printed: two patterns made by the builders, their images, the lists that the reader gives back, and the driver on a
 // simulated chip. rust/harness/tests/example.rs holds what `stdout` says against the published Rust.
 // Proved: every function returns.
-mod drive;
-
 use memory::WaveformMemory;
 
 fn main() {
@@ -17,13 +15,14 @@ fn main() {
     );
     image(b"\nshallow ahead:", ahead);
     image(b"\nturn now:", turn);
+    example_calls::ahead();
     show::text(b"\n3. The same images, read back\n");
     read_back(b"\nshallow ahead\n", ahead);
     read_back(b"\nturn now\n", turn);
     damaged(turn);
     let mut registers = [0u8; 256];
     let mut session = [0u8; exchange::SESSION_SIZE];
-    drive::drive(turn, &mut registers, &mut session);
+    example_drive::drive(turn, &mut registers, &mut session);
 }
 
 fn image(title: &[u8], memory: WaveformMemory) {

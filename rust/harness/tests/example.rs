@@ -377,3 +377,55 @@ fn exchanges_are_the_published_ones() {
     assert!(told.next().is_none(), "more operations");
     compared("exchanges of the example", chip.exchanges, 31);
 }
+
+/// A pattern's calls in part 1 as one list, without the calls that begin an empty snippet or sequence.
+fn flat(name: &str) -> Vec<Call> {
+    let mut list = Vec::new();
+    for line in of_pattern(1, name) {
+        if let Some(rest) = line.strip_prefix("  snippet ") {
+            list.extend(calls(rest.split_once("   ").unwrap().1).into_iter().map(|(call, _)| call));
+            list.push(Call::AddSnippet);
+        } else if !line.starts_with("  sequence ") {
+            list.extend(calls(&line).into_iter().map(|(call, _)| call));
+            list.push(Call::AddFrame);
+        }
+    }
+    list.push(Call::AddSequence);
+    list
+}
+
+/// The list of calls in part 2 stops at the first call that the published Rust refuses; mended, it makes the published image.
+#[test]
+fn a_list_of_calls_stops_at_the_first_refusal() {
+    let mut list = flat("shallow ahead");
+    let answers = |list: &[Call]| {
+        let mut builders = Builders::default();
+        let answers: Vec<u8> = list.iter().map(|call| builders.call(*call)).collect();
+        (answers, builders)
+    };
+    let told = answers(&list).0;
+    let place = told.iter().position(|number| *number > 0).unwrap();
+    let lines = paragraphs(2);
+    let [.., stopped, mended] = &lines[..] else { panic!("{lines:?}") };
+    assert_eq!(
+        stopped.0,
+        "shallow ahead as a list of calls, by the form that stops at the first refusal"
+    );
+    assert_eq!(
+        stopped.1,
+        [format!("  refused with {} at call {}", refusal(told[place]), place + 1)]
+    );
+
+    let length =
+        mended.0.strip_prefix("the same list, the refused ramp with a length of ").unwrap();
+    let Call::Ramp(_, amplitude) = list[place] else { panic!("{:?}", list[place]) };
+    list[place] = Call::Ramp(length.parse().unwrap(), amplitude);
+    let (told, builders) = answers(&list);
+    assert!(told.iter().all(|number| *number == 0), "{told:?}");
+    let mut image = builders.memory.build().unwrap().as_bytes().to_vec();
+    image.resize(100, 0);
+    assert_eq!(mended.1[0], "  made");
+    let rows = mended.1[1..].iter().flat_map(|line| line.split_whitespace().skip(1).map(hex));
+    assert_eq!(rows.collect::<Vec<_>>(), image);
+    compared("calls of the list in part 2", list.len(), 21);
+}

@@ -1,4 +1,4 @@
-// The driver's operations on the simulated chip.
+// The program `example`: the driver's operations on the simulated chip, printed. Proved: every function returns.
 use config::ActuatorConfig;
 use config::ActuatorType;
 use config::DeviceConfig;
