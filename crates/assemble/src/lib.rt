@@ -20,6 +20,8 @@ ghost use Rattle.assemble.specs.Lists.{groupsOf, answersOf, buildersOf, 
 ghost use Rattle.assemble.specs.Flat.{lessSnippet, lessSequence};
 ghost use Rattle.assemble.specs.Kept.{roomFor, PushedUnless, addedNumber};
 ghost use Rattle.assemble.specs.Holding.{KeepsMemory, StepsSnippets, StepsSequences, StepsMemory};
+use calls::ADD_SEQUENCE;
+use calls::ADD_SNIPPET;
 use calls::Builders;
 use calls::Record;
 use calls::Stepped;
@@ -33,11 +35,6 @@ use snippet::SnippetBuilder;
 const SNIPPETS_KEPT: usize = 116;
 
 const SEQUENCES_KEPT: usize = 117;
-
-// The codes of the calls that add to the memory.
-const ADD_SNIPPET: u8 = 13;
-
-const ADD_SEQUENCE: u8 = 14;
 
 // The last place of a call that has room in an answer.
 const LAST_PLACE: usize = 16777215;

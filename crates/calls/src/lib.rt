@@ -22,6 +22,11 @@ use snippet::AddedPoint;
 use snippet::PwlPoint;
 use snippet::SnippetBuilder;
 
+// The codes of the two calls that add to a memory; those of the others are the arms of `apply`.
+pub const ADD_SNIPPET: u8 = 13;
+
+pub const ADD_SEQUENCE: u8 = 14;
+
 // The last code of a gain or a timebase.
 const LAST_CHOICE: u8 = 3;
 
@@ -134,8 +139,8 @@ impl Builders {
                 })
             }
             12 => self.add_frame(),
-            13 => self.no_call(),
-            14 => self.no_call(),
+            ADD_SNIPPET => self.no_call(),
+            ADD_SEQUENCE => self.no_call(),
             _ => self.no_call(),
         }
     }

@@ -22,7 +22,7 @@ pub record SameAnswers (l k : List ℕ) : Type 0 where
   pub point : (i j : ℕ) → packed 16 (pointAnswer (readImage l) i j) ≡ packed 16 (pointAnswer (readImage k) i j)
   pub frame : (i j : ℕ) → packed 56 (frameAnswer (readImage l) i j) ≡ packed 56 (frameAnswer (readImage k) i j)
 
--- what `lists` answers and leaves in a buffer that has room for all is equal
+-- what `lists` answers and leaves in a buffer of just its size is equal
 pub record SameLists (l k out : List ℕ) : Type 0 where
   pub full : length out ≡ listsSize
   pub counts : packed 16 (countsAnswer (readImage l)) ≡ packed 16 (countsAnswer (readImage k))

@@ -2,6 +2,8 @@
 // and its `items`. The functions exported for C do the same over items kept in bytes and over the image in place; each function here
 // answers in the form of the exported one with its name.
 // Proved: every function is safe and returns.
+use calls::ADD_SEQUENCE;
+use calls::ADD_SNIPPET;
 use calls::Builders;
 use calls::Record;
 use calls::Stepped;
@@ -18,11 +20,6 @@ use vectors_bytes::put;
 
 // How many bytes the record of a call has.
 const RECORD: usize = 4;
-
-// The codes of the calls that add to the memory.
-const ADD_SNIPPET: u8 = 13;
-
-const ADD_SEQUENCE: u8 = 14;
 
 // The words of no point and of no frame.
 const NO_POINT: u64 = 256;

@@ -121,14 +121,14 @@ pub const WORKS: [Work; 12] = [
         unit: "image",
         theirs: Some(their_images),
         ours: our_images,
-        goal: Goal::OfTheRust(1.2),
+        goal: Goal::OfTheRust(0.95),
     },
     Work {
         name: "images, strict",
         unit: "image",
         theirs: Some(their_strict_images),
         ours: our_strict_images,
-        goal: Goal::Free,
+        goal: Goal::OfTheRust(0.95),
     },
     Work {
         name: "answers",
