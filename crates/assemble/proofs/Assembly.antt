@@ -1,6 +1,6 @@
 -- What the code runs call by call answers and leaves what the calls, told apart by their builders, do: one call, then a list.
 -- Assumes nothing.
-use mathlib.Core.Path.{_≡_, refl, sym, ap, ap₂, _∙_, subst}
+use mathlib.Core.Path.{_≡_, refl, sym, ap, ap₂, _∙_}
 use mathlib.Core.Bool.{Bool, true, false, cond}
 use mathlib.Core.List.{List, [], _∷_, _++_}
 use Prim.Native.Nat.{ℕ, zero, suc, _<_}
@@ -18,12 +18,13 @@ use Rattle.sequence.specs.declared.SequenceBuilder.{SequenceBuilder}
 use Rattle.sequence.specs.Sequence.{newSequence, withFrame}
 use Rattle.calls.specs.declared.FieldCall.{FieldCall}
 use Rattle.calls.specs.declared.FieldCall.the-variants as Field
-use Rattle.calls.specs.Said.{BuilderCall, Call}
+use Rattle.calls.specs.Said.{Call}
 use Rattle.calls.specs.Said as Call
 use Rattle.calls.specs.declared.UnderWay.{UnderWay}
 use Rattle.calls.specs.declared.UnderWay.the-variants as UnderWay
 use Rattle.calls.specs.declared.Builders.{Builders}
-use Rattle.calls.specs.Calls.{chosen, callsByCode, callAt, callsIn, onFrame, beginsFrame, withField, sets, adds}
+use Rattle.calls.specs.Calls.{callsByCode, callsIn, onFrame, beginsFrame, withField, sets, adds}
+use Rattle.calls.proofs.Turns.{chosen-either}
 use Rattle.memory.specs.declared.WaveformMemoryBuilder.{WaveformMemoryBuilder}
 use Rattle.memory.specs.Memory.{newMemory}
 use Rattle.pattern.specs.Calls.{ran, answersTo, SnippetCall, ramp, step, point, snippetStep, addedPoint, snippetFrom, FrameCall, frameStep, Begin, new, silence, begunBy, FrameCalls, frameRan, frameFrom, answerOn, withMadeFrame, sequenceStep, sequenceFrom, MemoryCall, addSnippet, addSequence, memoryStep, addedItem, memoryFrom}
@@ -191,14 +192,8 @@ one-of P [] n d h e = e
 one-of P (x ∷ l) zero d h e = h .0
 one-of P (x ∷ l) (suc n) d h e = one-of P l n d (h .1) e
 
-chosen-fits : (k : FieldCall) (code : ℕ) → Fits (chosen k code)
-chosen-fits k code = go (ltb 3 code) where
-  go : (t : Bool) → Fits (cond t Call.Unknown (Call.Builder (Call.Set k)))
-  go true = tt
-  go false = tt
-
 codes-fit : (a b : ℕ) → a < 256 → All Fits (callsByCode a b)
-codes-fit a b h = (tt, (tt, (tt, (tt, (h, (tt, (tt, (chosen-fits (Field.Gain a) a, (chosen-fits (Field.Timebase a) a, (tt, (tt, (tt, (tt, (tt, (tt, tt)))))))))))))))
+codes-fit a b h = (tt, (tt, (tt, (tt, (h, (tt, (tt, (chosen-either Fits (Field.Gain a) a tt tt, (chosen-either Fits (Field.Timebase a) a tt tt, (tt, (tt, (tt, (tt, (tt, (tt, tt)))))))))))))))
 
 calls-fit : (l : List ℕ) → Bytes l → All Fits (callsIn l)
 unfolding callsIn

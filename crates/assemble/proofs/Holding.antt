@@ -14,10 +14,10 @@ use Rattle.laws.specs.Copied.{copied}
 use Rattle.errors.specs.Told.{Handed, Built, accepted, refused}
 use Rattle.snippet.specs.declared.Snippet.{Snippet}
 use Rattle.snippet.specs.declared.SnippetBuilder.{SnippetBuilder}
-use Rattle.snippet.specs.Snippet.{snippetBytes, builtSnippet}
+use Rattle.snippet.specs.Snippet.{snippetBytes}
 use Rattle.sequence.specs.declared.Sequence.{Sequence}
 use Rattle.sequence.specs.declared.SequenceBuilder.{SequenceBuilder}
-use Rattle.sequence.specs.Sequence.{sequenceBytes, builtSequence}
+use Rattle.sequence.specs.Sequence.{sequenceBytes}
 use Rattle.memory.specs.Image.{imageBytes}
 use Rattle.memory.specs.Memory.{newMemory, snippetItems, sequenceItems, noMemory, memoryOf, imageNumber, builtMemory}
 use Rattle.memory.specs.declared.WaveformMemoryBuilder.{WaveformMemoryBuilder}

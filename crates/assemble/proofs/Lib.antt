@@ -6,5 +6,6 @@ pub mod Keeping
 pub mod Lists
 pub mod Numbers
 pub mod Running
+pub mod Steps
 pub mod Strict
 pub mod UsedUp

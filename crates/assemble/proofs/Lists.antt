@@ -9,8 +9,6 @@ use native.Mathlib.Nat.{add-zero}
 use native.Mathlib.Omega.{arith}
 use lib.ListN.{length, take, drop, getD, set, length-append, length-take, length-drop, drop-of-length-le}
 use lib.Seq.{drop-cons, sets, take-all, take-at, drop-at, drop-drop, take-append-le, take-append-add}
-use borrow.Rule.Slice.PartMut.{midOf, postOf, putMid}
-use borrow.Rule.Slice.PartAt.{part-to-end}
 use Rattle.laws.specs.Copied.{copied, over}
 use Rattle.memory.specs.Image.{joined, endPointers}
 use Rattle.assemble.specs.Kept.{sumOf, ends}

@@ -3,7 +3,7 @@
 use mathlib.Core.Path.{_≡_, refl, sym, ap, ap₂, _∙_, subst}
 use mathlib.Core.Bool.{Bool, true, false, cond}
 use mathlib.Core.List.{List, [], _∷_, _++_}
-use Prim.Native.Nat.{ℕ, zero, suc, _+_, _*_, _≤_, _<_, min}
+use Prim.Native.Nat.{ℕ, zero, suc, _+_, _≤_, _<_, min}
 use native.Mathlib.Decide.{ℕ-discrete, decLe}
 use native.Mathlib.Omega.{arith}
 use borrow.Author.Tests.{lt-ltb, ltb-true, ltb-false}
@@ -22,12 +22,11 @@ use Rattle.sequence.specs.declared.SequenceBuilder.{SequenceBuilder}
 use Rattle.sequence.specs.Sequence.{builtSequence}
 use Rattle.calls.specs.Said.{Call}
 use Rattle.calls.specs.Said as Call
-use Rattle.calls.specs.declared.FieldCall.{FieldCall}
 use Rattle.calls.specs.declared.FieldCall.the-variants as Field
 use Rattle.calls.specs.declared.Record.{Record}
 use Rattle.calls.specs.declared.Builders.{Builders}
-use Rattle.calls.specs.Calls.{chosen, callsByCode, firstRecord, callOf, callsIn, calledBy}
-use Rattle.calls.proofs.Turns.{calls-next, calls-none}
+use Rattle.calls.specs.Calls.{callsByCode, firstRecord, callOf, callsIn, calledBy}
+use Rattle.calls.proofs.Turns.{calls-next, calls-none, chosen-either}
 use Rattle.memory.specs.declared.WaveformMemoryBuilder.{WaveformMemoryBuilder}
 use Rattle.pattern.specs.Calls.{withBuiltSnippet, withBuiltSequence}
 use Rattle.assemble.specs.Lists.{withPlace, firstRefused}
@@ -51,12 +50,6 @@ front-small [] ys n d h k = absurd (omega arith)
 front-small (x ∷ xs) ys zero d h k = h .0
 front-small (x ∷ xs) ys (suc n) d h k = front-small xs ys n d (h .1) (omega arith)
 
-chosen-small : (k : FieldCall) (code : ℕ) → Small (chosen k code)
-chosen-small k code = go (ltb 3 code) where
-  go : (t : Bool) → Small (cond t Call.Unknown (Call.Builder (Call.Set k)))
-  go true = tt
-  go false = tt
-
 -- none of 13 and 14, and not below
 beyond : (n : ℕ) → 13 ≤ n → ¬ (n ≡ 13) → ¬ (n ≡ 14) → Dec (15 ≤ n) → 15 ≤ n
 beyond n d h k (yes e) = e
@@ -70,7 +63,7 @@ small-code r h k = go (decLe 13 (r .code)) where
   go : Dec (13 ≤ r .code) → Small (callOf r)
   go (no d) =
       front-small (take 13 (callsByCode (r .a) (r .b))) (Call.AddSnippet ∷ Call.AddSequence ∷ []) (r .code) Call.Unknown
-      (tt, (tt, (tt, (tt, (tt, (tt, (tt, (chosen-small (Field.Gain (r .a)) (r .a), (chosen-small (Field.Timebase (r .a)) (r .a), (tt, (tt, (tt, (tt, tt)))))))))))))
+      (tt, (tt, (tt, (tt, (tt, (tt, (tt, (chosen-either Small (Field.Gain (r .a)) (r .a) tt tt, (chosen-either Small (Field.Timebase (r .a)) (r .a) tt tt, (tt, (tt, (tt, (tt, tt)))))))))))))
       (omega arith)
   go (yes d) = subst Small (sym (List·getD-eq-default (callsByCode (r .a) (r .b)) Call.Unknown (beyond (r .code) d h k (decLe 15 (r .code))))) tt
 

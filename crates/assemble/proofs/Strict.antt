@@ -1,9 +1,11 @@
 -- The form that stops at the first refusal. Assumes nothing.
 use mathlib.Core.Path.{_≡_, refl, sym, ap, _∙_}
+use mathlib.Core.Logic.{_⊎_, inl, inr}
 use mathlib.Core.Bool.{Bool, true, false, cond}
 use mathlib.Core.List.{List, [], _∷_, _++_}
-use Prim.Native.Nat.{ℕ, suc, _+_, _*_, _≤_, _<_, min}
-use native.Mathlib.Nat.{min-eq-left}
+use Prim.Native.Nat.{ℕ, suc, _+_, _*_, _≤_, _<_}
+use native.Mathlib.Nat.{min-eq-left, min-eq-right, lt-of-not-le}
+use native.Mathlib.Decide.{decLe}
 use native.Mathlib.Omega.{arith}
 use borrow.Author.Tests.{lt-ltb, le-ltb, ltb-true, ltb-false}
 use lib.Dec.{ltb}
@@ -69,13 +71,20 @@ module _ (calls : List ℕ) where
   only false e g = let h = ltb-false 0 f e in (none-only (answersOf calls) 0 (omega (arith, h)), g)
 
   at-first : (before : List ℕ) (n : ℕ) (rest : List ℕ) → answersOf calls ≡ before ++ (n ∷ rest) → AllAccepted before → 0 < n
-      → length before < lastPlace → strictly calls ≡ n + 256 * (length before + 1)
-  at-first before n rest e h k room =
-      let g : f ≡ withPlace n (length before) = ap (firstRefused 0) e ∙ first-at before n rest 0 h k ∙ ap (withPlace n) (let z : 0 + length before ≡ length before = omega arith in z) in
-      let z : 0 < withPlace n (length before) = omega arith in
-      ap (λ (u : Bool). cond u f (builtOf calls .number)) (lt-ltb 0 f (omega (arith, g, z)))
-      ∙ g
-      ∙ ap (λ (j : ℕ). n + 256 * j) (min-eq-left {n = length before + 1} {m = lastPlace} (omega (arith, room)))
+      → ((length before < lastPlace) × (strictly calls ≡ n + 256 * (length before + 1))) ⊎ ((lastPlace ≤ length before) × (strictly calls ≡ n + 256 * lastPlace))
+  at-first before n rest e h k = go (decLe lastPlace (length before)) where
+    g : f ≡ withPlace n (length before)
+    g = ap (firstRefused 0) e ∙ first-at before n rest 0 h k ∙ ap (withPlace n) (let z : 0 + length before ≡ length before = omega arith in z)
+
+    told : strictly calls ≡ withPlace n (length before)
+    told = let z : 0 < withPlace n (length before) = omega arith in ap (λ (u : Bool). cond u f (builtOf calls .number)) (lt-ltb 0 f (omega (arith, g, z))) ∙ g
+
+    go : Dec (lastPlace ≤ length before)
+        → ((length before < lastPlace) × (strictly calls ≡ n + 256 * (length before + 1))) ⊎ ((lastPlace ≤ length before) × (strictly calls ≡ n + 256 * lastPlace))
+    go (yes d) = inr (d, told ∙ ap (λ (j : ℕ). n + 256 * j) (min-eq-right {n = lastPlace} {m = length before + 1} (omega (arith, d))))
+    go (no d) =
+        let c = lt-of-not-le d in
+        inl (c, told ∙ ap (λ (j : ℕ). n + 256 * j) (min-eq-left {n = length before + 1} {m = lastPlace} (omega (arith, c))))
 
   made : strictly calls ≡ 0 → ImageOf (builtOf calls .item .«data») (contentFrom false (groupsOf calls .memory))
   made e = demand3 .laidOut (record { acceleration = false; calls = groupsOf calls .memory }) (only (ltb 0 f) refl e .1)

@@ -1,99 +1,36 @@
 -- What a call finds. Assumes nothing.
 use mathlib.Core.Path.{_≡_, refl, sym, ap, _∙_}
 use mathlib.Core.Logic.{_⊎_, inl, inr}
-use mathlib.Core.Bool.{Bool, true, false, cond}
+use mathlib.Core.Bool.{false}
 use mathlib.Core.List.{List, [], _∷_, _++_}
 use Prim.Native.Nat.{ℕ, _+_, _<_}
 use native.Mathlib.Omega.{arith}
 use borrow.Author.Tests.{lt-ltb}
-use lib.Dec.{ltb, leb}
-use lib.ListN.{length}
-use Rattle.errors.specs.Told.{Told, gives, refuses, Handed, accepted, refused}
+use Rattle.errors.specs.Told.{Told, gives, refuses, accepted, refused}
 use Rattle.snippet.specs.declared.SnippetBuilder.{SnippetBuilder}
-use Rattle.snippet.specs.Point as made
-use Rattle.snippet.specs.Snippet.{pointOf, newSnippet, withPoint, withMade, builtSnippet}
+use Rattle.snippet.specs.Snippet.{newSnippet, builtSnippet}
 use Rattle.frame.specs.declared.FrameBuilder.{FrameBuilder}
-use Rattle.frame.specs.Builder.{plainFrame, newFrame}
-use Rattle.frame.specs.Frame.{frameBytes, builtFrame}
-use Rattle.sequence.specs.declared.SequenceBuilder.{SequenceBuilder}
-use Rattle.sequence.specs.Sequence.{newSequence, withFrame, builtSequence}
-use Rattle.calls.specs.declared.FieldCall.{FieldCall}
+use Rattle.frame.specs.Builder.{newFrame}
+use Rattle.sequence.specs.Sequence.{newSequence, builtSequence}
 use Rattle.calls.specs.declared.FieldCall.the-variants as Field
 use Rattle.calls.specs.Said.{Call}
 use Rattle.calls.specs.Said as Call
 use Rattle.calls.specs.declared.UnderWay.{UnderWay}
 use Rattle.calls.specs.declared.UnderWay.the-variants as UnderWay
 use Rattle.calls.specs.declared.Builders.{Builders}
-use Rattle.memory.specs.declared.WaveformMemoryBuilder.{WaveformMemoryBuilder}
-use Rattle.memory.specs.Memory.{newMemory, withSnippet, withSequence}
-use Rattle.pattern.specs.Calls.{ran, SnippetCall, ramp, step, point, snippetStep, addedPoint, snippetFrom, FrameCall, gain, timebase, loopCount, frequencyHz, frameStep, Begin, new, silence, begunBy, FrameCalls, frameRan, frameFrom, answerOn, withMadeFrame, sequenceStep, sequenceFrom, MemoryCall, addSnippet, addSequence, withBuiltSnippet, withBuiltSequence, memoryStep, addedItem, memoryFrom}
+use Rattle.memory.specs.Memory.{newMemory}
+use Rattle.pattern.specs.Calls.{SnippetCall, ramp, step, point, snippetStep, addedPoint, snippetFrom, FrameCall, gain, frameStep, begunBy, FrameCalls, frameRan, frameFrom, answerOn, withMadeFrame, sequenceStep, sequenceFrom, MemoryCall, addSnippet, addSequence, withBuiltSnippet, withBuiltSequence, memoryStep, addedItem, memoryFrom}
 use Rattle.pattern.proofs.Runs.{ran-append}
 use Rattle.assemble.specs.Lists.{Groups, noFrame, noGroups, toSnippet, begunNumber, leftBy, fieldOf, grouped, underWay, buildersIn}
 use Rattle.assemble.specs.UsedUp.{NotBegun, Begins, Unchanged, UsedUp}
-use Rattle.assemble.proofs.Assembly.{Three, three}
-
--- ---- a refused call hands back what came in
-
-abbrev Keeps : {B : Type 0} → B → Handed B → Type 0
-Keeps b r = 0 < r .number → r .builder ≡ b
-
-keeps-refused : {B : Type 0} (b : B) (n : ℕ) → Keeps b (refused n b)
-keeps-refused b n h = refl
-
-keeps-accepted : {B : Type 0} (b x : B) → Keeps b (accepted x)
-keeps-accepted b x h = absurd (omega arith)
-
-keeps-either : {B : Type 0} (b : B) (t : Bool) (x y : Handed B) → Keeps b x → Keeps b y → Keeps b (cond t x y)
-keeps-either b true x y h k = h
-keeps-either b false x y h k = k
-
--- refused with n, or accepted
-keeps-one : {B : Type 0} (b : B) (t : Bool) (n : ℕ) (x : B) → Keeps b (cond t (refused n b) (accepted x))
-keeps-one b t n x = keeps-either b t (refused n b) (accepted x) (keeps-refused b n) (keeps-accepted b x)
-
-point-keeps : (b : SnippetBuilder) (x : ℕ) → Keeps b (withPoint b (pointOf x))
-point-keeps b x = keeps-one b (leb 16 (b .len)) 6 _
-
-made-keeps : (b : SnippetBuilder) (r : Bool) (t a : ℕ) → Keeps b (withMade b (made.point r t a))
-made-keeps b r t a = go (ltb t 1) (ltb 8 t) (ltb 15 a) where
-  go : (u v w : Bool) → Keeps b (withMade b (cond u (refuses 1) (cond v (refuses 1) (cond w (refuses 2) (gives (made.pointByte r t a))))))
-  go true v w = keeps-refused b 1
-  go false true w = keeps-refused b 1
-  go false false true = keeps-refused b 2
-  go false false false = point-keeps b (made.pointByte r t a)
-
-snippet-keeps : (b : SnippetBuilder) (k : SnippetCall) → Keeps b (snippetStep b k)
-snippet-keeps b (ramp t a) = made-keeps b true t a
-snippet-keeps b (step t a) = made-keeps b false t a
-snippet-keeps b (point x) = point-keeps b _
-
-frame-keeps : (f : FrameBuilder) (k : FrameCall) → Keeps f (frameStep f k)
-frame-keeps f (gain g) = keeps-accepted f _
-frame-keeps f (timebase t) = keeps-accepted f _
-frame-keeps f (loopCount k) = keeps-one f (ltb 15 k) 4 _
-frame-keeps f (frequencyHz h) = keeps-one f (ltb 511 h) 5 _
-
-sequence-keeps : (b : SequenceBuilder) (ks : List FrameCall) (t : Told FrameBuilder) → Keeps b (withMadeFrame b ks t)
-sequence-keeps b ks (gives f) = go (ltb 96 (b .len + length (frameBytes (builtFrame (frameRan f ks))))) (leb 32 (b .«frame_count»)) _ where
-  go : (t u : Bool) (x : SequenceBuilder) → Keeps b (cond t (refused 8 b) (cond u (refused 7 b) (accepted x)))
-  go true u x = keeps-refused b 8
-  go false true x = keeps-refused b 7
-  go false false x = keeps-accepted b x
-sequence-keeps b ks (refuses n) = keeps-refused b n
-
-memory-keeps : (m : WaveformMemoryBuilder) (k : MemoryCall) → Keeps m (memoryStep m k)
-memory-keeps m (addSnippet ks) =
-    let r = builtSnippet (snippetFrom ks) in
-    keeps-either m (ltb 0 (r .number)) (refused (r .number) m) (withSnippet m (r .item)) (keeps-refused m (r .number)) (keeps-one m (leb 15 (m .«num_snippets»)) 6 _)
-memory-keeps m (addSequence ms) =
-    let r = builtSequence (sequenceFrom ms) in
-    keeps-either m (ltb 0 (r .number)) (refused (r .number) m) (withSequence m (r .item)) (keeps-refused m (r .number)) (keeps-one m (leb 16 (m .«num_sequences»)) 7 _)
+use Rattle.assemble.proofs.Assembly.{three}
+use Rattle.assemble.proofs.Steps.{snippet-answers, frame-answers, sequence-answers, memory-answers}
 
 -- ---- the builders after a refused call
 
 -- a frame under construction, after a call on it that was refused
 frame-left : (t : Told FrameBuilder) (ks : List FrameCall) (k : FrameCall) → 0 < answerOn t ks k → underWay (ks ++ (k ∷ [])) t ≡ underWay ks t
-frame-left (gives f) ks k h = ap UnderWay.Begun (sym (ran-append frameStep (λ (j : FrameCall). j) f ks (k ∷ [])) ∙ frame-keeps (frameRan f ks) k h)
+frame-left (gives f) ks k h = ap UnderWay.Begun (sym (ran-append frameStep (λ (j : FrameCall). j) f ks (k ∷ [])) ∙ frame-answers (frameRan f ks) k .1 h)
 frame-left (refuses n) ks k h = refl
 
 -- an item that was refused stays
@@ -105,11 +42,11 @@ module _ (g : Groups) where
   b = buildersIn g
 
   memory-left : (k : MemoryCall) → 0 < memoryStep (memoryFrom false (g .memory)) k .number → memoryFrom false (g .memory ++ (k ∷ [])) ≡ memoryFrom false (g .memory)
-  memory-left k h = sym (ran-append memoryStep addedItem (newMemory false) (g .memory) (k ∷ [])) ∙ memory-keeps (memoryFrom false (g .memory)) k h
+  memory-left k h = sym (ran-append memoryStep addedItem (newMemory false) (g .memory) (k ∷ [])) ∙ memory-answers (memoryFrom false (g .memory)) k .1 h
 
   snippet-left : (k : SnippetCall) → 0 < toSnippet g k .number → Unchanged g (toSnippet g k .builder)
   snippet-left k h =
-      let e = sym (ran-append snippetStep addedPoint newSnippet (g .snippet) (k ∷ [])) ∙ snippet-keeps (b .snippet) k h in
+      let e = sym (ran-append snippetStep addedPoint newSnippet (g .snippet) (k ∷ [])) ∙ snippet-answers (b .snippet) k .1 h in
       record { builders = ap (λ (s : SnippetBuilder). record { snippet = s; frame = b .frame; sequence = b .sequence }) e; memory = refl }
 
   left : (k : Call) → ((n : ℕ) → ¬ (k ≡ Call.Builder (Call.FrameNew n))) → 0 < grouped g k .number → Unchanged g (grouped g k .builder)
@@ -124,7 +61,7 @@ module _ (g : Groups) where
       record { builders = ap (λ (f : UnderWay). record { snippet = b .snippet; frame = f; sequence = b .sequence }) e; memory = refl }
   left (Call.Builder Call.SequenceNew) d h = absurd (omega arith)
   left (Call.Builder Call.AddFrame) d h =
-      let e = sym (ran-append sequenceStep frameFrom newSequence (g .sequence) (g .frame ∷ [])) ∙ sequence-keeps (b .sequence) (g .frame .calls) (begunBy (g .frame .begin)) h in
+      let e = sym (ran-append sequenceStep frameFrom newSequence (g .sequence) (g .frame ∷ [])) ∙ sequence-answers (b .sequence) (g .frame .calls) (begunBy (g .frame .begin)) (three (g .frame .begin)) .1 h in
       let f = stays (grouped g (Call.Builder Call.AddFrame) .number) noFrame (g .frame) h in
       record { builders = λ i. record { snippet = b .snippet; frame = underWay (f i .calls) (begunBy (f i .begin)); sequence = e i }; memory = refl }
   left Call.AddSnippet d h =

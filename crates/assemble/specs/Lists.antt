@@ -10,7 +10,7 @@ use Rattle.frame.specs.declared.FrameBuilder.{FrameBuilder}
 use Rattle.frame.specs.Read.{gainAt, timebaseAt}
 use Rattle.calls.specs.declared.FieldCall.{FieldCall}
 use Rattle.calls.specs.declared.FieldCall.the-variants as Field
-use Rattle.calls.specs.Said.{BuilderCall, Call}
+use Rattle.calls.specs.Said.{Call}
 use Rattle.calls.specs.Said as Call
 use Rattle.calls.specs.declared.UnderWay.{UnderWay}
 use Rattle.calls.specs.declared.UnderWay.the-variants as UnderWay

@@ -3,8 +3,8 @@
 use Prim.Native.Nat.{ℕ, _+_, _*_, _<_, _≤_}
 use mathlib.Core.Path.{_≡_}
 use mathlib.Core.Bool.{false}
-use mathlib.Core.Logic.{_↔_}
-use mathlib.Core.List.{List, [], _∷_, _++_}
+use mathlib.Core.Logic.{_↔_, _⊎_}
+use mathlib.Core.List.{List, _∷_, _++_}
 use lib.ListN.{length}
 use Rattle.laws.specs.Copied.{copied}
 use Rattle.laws.specs.Bytes.{All}
@@ -21,7 +21,9 @@ pub record Strict (calls : List ℕ) : Type 0 where
   pub whole : (strictly calls ≡ 0) ↔ (AllAccepted (answersOf calls) × (builtOf calls .number ≡ 0))
   -- where a call is refused, the first that is: its number, and 256 times its place, counted from 1
   pub first : (before : List ℕ) (number : ℕ) (rest : List ℕ) → answersOf calls ≡ before ++ (number ∷ rest) → AllAccepted before → 0 < number
-      → length before < lastPlace → strictly calls ≡ number + 256 * (length before + 1)
+      → ((length before < lastPlace) × (strictly calls ≡ number + 256 * (length before + 1)))
+      -- a later place is told as the last that has room
+      ⊎ ((lastPlace ≤ length before) × (strictly calls ≡ number + 256 * lastPlace))
   -- number and place can be told apart in that sum
   pub numbers : All (λ n. n ≤ 14) (answersOf calls)
   -- where none is, what building answers (9, 10 or 8), with place 0

@@ -1,14 +1,18 @@
 -- The next call of a list of bytes. Assumes nothing.
 use mathlib.Core.Path.{_≡_, refl, sym, ap, _∙_}
+use mathlib.Core.Bool.{Bool, true, false, cond}
 use mathlib.Core.List.{List, [], _∷_}
+use lib.Dec.{ltb}
 use Prim.Native.Nat.{ℕ, zero, suc, _+_, _-_, _≤_, _<_, min}
 use native.Mathlib.Nat.{min-eq-left, min-eq-right, lt-of-not-le, le-of-eq}
 use native.Mathlib.Decide.{decLe}
 use native.Mathlib.Omega.{arith}
 use lib.ListN.{length, drop, getD, length-drop, drop-of-length-le}
 use lib.Seq.{drop-drop}
+use Rattle.calls.specs.declared.FieldCall.{FieldCall}
 use Rattle.calls.specs.Said.{Call}
-use Rattle.calls.specs.Calls.{noRecord, firstRecord, callOf, callsIn}
+use Rattle.calls.specs.Said as Call
+use Rattle.calls.specs.Calls.{chosen, noRecord, firstRecord, callOf, callsIn}
 
 -- a whole record
 pub whole-record : (l : List ℕ) (at : ℕ) → at + 4 ≤ length l
@@ -58,3 +62,10 @@ calls-next l at after h e =
 pub calls-none : (l : List ℕ) (at : ℕ) → length l ≤ at → callsIn (drop at l) ≡ []
 unfolding callsIn
 calls-none l at h = ap callsIn (drop-of-length-le l h)
+
+-- a choice of four says a call or none
+pub chosen-either : (P : Call → Type 0) (k : FieldCall) (code : ℕ) → P Call.Unknown → P (Call.Builder (Call.Set k)) → P (chosen k code)
+chosen-either P k code h w = go (ltb 3 code) where
+  go : (t : Bool) → P (cond t Call.Unknown (Call.Builder (Call.Set k)))
+  go true = h
+  go false = w

@@ -1,9 +1,9 @@
 -- Every packed answer has room, so one law tells them apart. Assumes nothing.
-use mathlib.Core.Path.{_≡_, refl, sym, ap, _∙_}
+use mathlib.Core.Path.{_≡_, refl}
 use mathlib.Core.Bool.{Bool, true, false, cond}
 use mathlib.Core.List.{List, _++_}
 use Prim.Native.Nat.{ℕ, _+_, _≤_, _<_, min}
-use native.Mathlib.Nat.{min-le-left, min-le-right, le-trans, le-of-eq}
+use native.Mathlib.Nat.{min-le-left, min-le-right}
 use native.Mathlib.Omega.{arith}
 use borrow.Author.Tests.{ltb-true, ltb-false}
 use lib.Dec.{ltb}
@@ -22,13 +22,12 @@ use Rattle.sequence.specs.declared.SequenceBuilder.{SequenceBuilder}
 use Rattle.sequence.specs.Sequence.{noSequence, sequenceBytes, builtSequence}
 use Rattle.calls.specs.declared.UnderWay.{UnderWay}
 use Rattle.calls.specs.declared.UnderWay.the-variants as UnderWay
-use Rattle.pattern.specs.Calls.{snippetFrom, sequenceFrom}
 use Rattle.pattern.proofs.Snippets.{snippet-holds}
 use Rattle.pattern.proofs.Sequences.{sequence-holds}
 use Rattle.assemble.specs.Lists.{groupsOf, buildersOf}
 use Rattle.assemble.proofs.Strict.{strict}
 use Rattle.readings.proofs.Telling.{readings-told}
-use Rattle.capi.specs.Items.{itemFrom, frameUnderWay, snippetItem, frameItem, sequenceItem, fullLength, copiedLength}
+use Rattle.capi.specs.Items.{itemFrom, frameUnderWay, fullLength, copiedLength}
 use Rattle.capi.specs.Telling.{Tells, Telling}
 
 tells : {A : Type 0} (bits : ℕ) (answer : A → Told ℕ) → ((x : A) → Room bits (answer x)) → Tells bits answer

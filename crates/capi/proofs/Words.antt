@@ -1,8 +1,8 @@
 -- An item where the build was refused with n, and where it was not.
 -- Assumes nothing.
-use mathlib.Core.Path.{_≡_, ap, _∙_}
+use mathlib.Core.Path.{_≡_}
 use mathlib.Core.List.{List}
-use Prim.Native.Nat.{ℕ, _*_, _<_, _≤_, min}
+use Prim.Native.Nat.{ℕ, _<_, _≤_, min}
 use lib.ListN.{length}
 use borrow.Author.Tests.{lt-ltb, le-ltb}
 use Rattle.laws.specs.Copied.{copied}

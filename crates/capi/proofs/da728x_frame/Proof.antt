@@ -6,11 +6,11 @@ use Prim.Native.Nat.{ℕ, _*_, min}
 use native.Mathlib.Omega.{arith}
 use denote.Ref.{now}
 use lib.ListN.{length, length-take}
-use Rattle.errors.specs.Told.{Told, gives, refuses}
+use Rattle.errors.specs.Told.{Told, gives}
 use Rattle.errors.specs.Packed.{packed}
 use Rattle.calls.specs.declared.Builders.{Builders}
 use Rattle.frame.specs.declared.Frame.{Frame}
-use Rattle.frame.specs.Frame.{frameBytes, builtFrame}
+use Rattle.frame.specs.Frame.{frameBytes}
 use Rattle.capi.specs.Items.{frameUnderWay, copiedLength, itemOut}
 use Rattle.capi.proofs.da728x_frame.Statement.{statement}
 use Rattle.capi.proofs.da728x_frame.Tie as tie

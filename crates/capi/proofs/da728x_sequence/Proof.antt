@@ -1,16 +1,16 @@
 -- By the builders that the calls leave, the sequence that they build, and what encoding answers. Assumes nothing.
 use borrow.Author.Needs.{needs}
-use mathlib.Core.Path.{_≡_, ap, sym, _∙_}
+use mathlib.Core.Path.{_≡_, ap, _∙_}
 use mathlib.Core.List.{List}
-use Prim.Native.Nat.{ℕ, _*_, min}
+use Prim.Native.Nat.{ℕ}
 use native.Mathlib.Omega.{arith}
 use denote.Ref.{now}
 use lib.ListN.{length, length-take}
-use Rattle.errors.specs.Told.{Told, gives, refuses}
+use Rattle.errors.specs.Told.{Told}
 use Rattle.errors.specs.Packed.{packed}
 use Rattle.calls.specs.declared.Builders.{Builders}
 use Rattle.sequence.specs.Sequence.{sequenceBytes, builtSequence, builtTold}
-use Rattle.capi.specs.Items.{itemFrom, fullLength, copiedLength, itemOut}
+use Rattle.capi.specs.Items.{itemFrom, copiedLength, itemOut}
 use Rattle.capi.proofs.Words.{refused-item, built-item}
 use Rattle.capi.proofs.da728x_sequence.Statement.{statement}
 use Rattle.capi.proofs.da728x_sequence.Tie as tie

@@ -1,18 +1,18 @@
 -- By the builders that the calls leave, the snippet that they build, and what encoding answers. Assumes nothing.
 use borrow.Author.Needs.{needs}
-use mathlib.Core.Path.{_≡_, ap, sym, _∙_}
+use mathlib.Core.Path.{_≡_, ap, _∙_}
 use mathlib.Core.List.{List}
-use Prim.Native.Nat.{ℕ, _*_, min}
+use Prim.Native.Nat.{ℕ}
 use native.Mathlib.Omega.{arith}
 use denote.Ref.{now}
-use lib.ListN.{length, length-take}
-use Rattle.errors.specs.Told.{Told, gives, refuses}
+use lib.ListN.{length}
+use Rattle.errors.specs.Told.{Told}
 use Rattle.errors.specs.Packed.{packed}
 use Rattle.calls.specs.declared.Builders.{Builders}
 use Rattle.laws.proofs.Lists.{length-of-map}
 use Rattle.snippet.proofs.Sizes.{snippet-length}
 use Rattle.snippet.specs.Snippet.{snippetBytes, builtSnippet, builtTold}
-use Rattle.capi.specs.Items.{itemFrom, fullLength, copiedLength, itemOut}
+use Rattle.capi.specs.Items.{itemFrom, fullLength, itemOut}
 use Rattle.capi.proofs.Words.{refused-item, built-item}
 use Rattle.capi.proofs.da728x_snippet.Statement.{statement}
 use Rattle.capi.proofs.da728x_snippet.Tie as tie

@@ -1,6 +1,5 @@
 -- By the law on lengths and bytes laid over zeros. Assumes nothing.
 use borrow.Author.Needs.{needs}
-use native.Mathlib.Omega.{arith}
 use denote.Ref.{now}
 use Rattle.assemble.proofs.Keeping.{laid-over}
 use Rattle.assemble.proofs.pool.laid.Statement.{statement}

@@ -3,7 +3,6 @@ use borrow.Author.Needs.{needs}
 use mathlib.Core.Path.{_∙_}
 use native.Mathlib.Omega.{arith}
 use denote.Ref.{now}
-use lib.ListN.{length}
 use Rattle.laws.proofs.Copies.{copied-over, placed-in}
 use Rattle.assemble.proofs.pool.put.Statement.{statement}
 use Rattle.assemble.proofs.pool.put.Tie as tie

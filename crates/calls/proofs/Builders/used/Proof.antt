@@ -1,7 +1,6 @@
 -- By the test of the number. Assumes nothing.
 use borrow.Author.Needs.{needs}
 use Rattle.errors.specs.Number.{answerNumber}
-use mathlib.Core.Path.{ap, _∙_}
 use borrow.Author.Tests.{lt-ltb, le-ltb}
 use Rattle.calls.proofs.Builders.used.Statement.{statement}
 use Rattle.calls.proofs.Builders.used.Tie as tie

@@ -1,6 +1,6 @@
 -- A record that is there, or a shorter one. Assumes nothing.
 use borrow.Author.Needs.{needs}
-use mathlib.Core.Path.{sym, _∙_}
+use mathlib.Core.Path.{sym}
 use native.Mathlib.Omega.{arith}
 use denote.Ref.{now}
 use Rattle.calls.proofs.Turns.{whole-record, short-record}
