@@ -9,10 +9,10 @@ use borrow.Author.Tests.{ltb-true, ltb-false}
 use Rattle.config.specs.declared.ActuatorConfig.{ActuatorConfig}
 use Rattle.config.specs.declared.DeviceConfig.{DeviceConfig}
 use Rattle.config.specs.declared.Trigger.{Trigger}
-use Rattle.config.specs.declared.Trigger.the-variants.{Absent, Given}
+use Rattle.config.specs.declared.Trigger.the-variants.{Given}
+use Rattle.config.specs.declared.TriggerConfig.{TriggerConfig}
 use Rattle.config.specs.declared.Variant.{Variant}
-use Rattle.checks.specs.Accepted.{To15, Accepted}
-use Rattle.checks.specs.Checks.{tracking, etwm, above15, outsideBand, Check, configureChecks, firstFailing, configureNumber}
+use Rattle.checks.specs.Checks.{tracking, etwm, sequenceAbove15, triggersAbove15, outsideBand, Check, configureChecks, firstFailing, configureNumber}
 use Rattle.checks.proofs.First.{failsAt}
 
 -- every check has a number above 0
@@ -47,29 +47,49 @@ band false hz e = between 25 1024 hz e
 band-tracking : (b : Bool) (hz : ℕ) → b ≡ true → cond b (ltb hz 50 || ltb 300 hz) (ltb hz 25 || ltb 1024 hz) ≡ false → (50 ≤ hz) × (hz ≤ 300)
 band-tracking b hz t e = between 50 300 hz (sym (ap (λ (c : Bool). cond c (ltb hz 50 || ltb 300 hz) (ltb hz 25 || ltb 1024 hz)) t) ∙ e)
 
-to15 : (t : Trigger) → above15 t ≡ false → To15 t
-to15 Absent e = tt
-to15 (Given t) e = ltb-false 15 (t .«sequence_id») e
+-- a trigger's number, where it is given
+to15 : (s : Trigger) → sequenceAbove15 s ≡ false → (t : TriggerConfig) → s ≡ Given t → t .«sequence_id» ≤ 15
+to15 s e t p = ltb-false 15 (t .«sequence_id») (sym (ap sequenceAbove15 p) ∙ e)
 
-none-of : (b x y z : Bool) → (b && (x || (y || z))) ≡ false → b ≡ true → (x ≡ false) × ((y ≡ false) × (z ≡ false))
-none-of b x y z e t =
-    let first = neither x (y || z) (sym (ap (λ (c : Bool). c && (x || (y || z))) t) ∙ e) in
-    (first .0, neither y z (first .1))
+module _ (v : Variant) (a : ActuatorConfig) (d : DeviceConfig) (e : configureNumber v a d ≡ 0) where
+  pass : (k : ℕ) → failsAt k (configureChecks v a d) ≡ false
+  pass k = passes k (configureChecks v a d) refl e
 
-pub accepted : (v : Variant) (a : ActuatorConfig) (d : DeviceConfig) → configureNumber v a d ≡ 0 → Accepted a d
-accepted v a d e =
-    let pass : (k : ℕ) → failsAt k (configureChecks v a d) ≡ false = λ k. passes k (configureChecks v a d) refl e in
-    let band-passes : outsideBand (d .«driving_mode») (a .«frequency_Hz») ≡ false = pass 7 in
-    let triggers = none-of (etwm (d .«operation_mode»)) (above15 (d .«gpi_trigger_0»)) (above15 (d .«gpi_trigger_1»)) (above15 (d .«gpi_trigger_2»)) (pass 11) in
-    record {
-      nominal = ltb-false 5990 (a .«nominal_max_mV») (pass 8);
-      absolute = ltb-false 5990 (a .«absolute_max_mV») (pass 9);
-      current = (ltb-false (a .«max_current_mA») 29 (pass 10), ltb-false 252 (a .«max_current_mA») (pass 5));
-      impedance = between 4000 49999 (a .«impedance_mOhm») (pass 6);
-      frequency = band (tracking (d .«driving_mode»)) (a .«frequency_Hz») band-passes;
-      frequency-tracking = λ t. band-tracking (tracking (d .«driving_mode»)) (a .«frequency_Hz») t band-passes;
-      rapid-stop = pass 12;
-      trigger-0 = λ t. to15 (d .«gpi_trigger_0») (triggers t .0);
-      trigger-1 = λ t. to15 (d .«gpi_trigger_1») (triggers t .1 .0);
-      trigger-2 = λ t. to15 (d .«gpi_trigger_2») (triggers t .1 .1);
-    }
+  band-passes : outsideBand (d .«driving_mode») (a .«frequency_Hz») ≡ false
+  band-passes = pass 7
+
+  pub nominal : a .«nominal_max_mV» ≤ 5990
+  nominal = ltb-false 5990 (a .«nominal_max_mV») (pass 8)
+
+  pub absolute : a .«absolute_max_mV» ≤ 5990
+  absolute = ltb-false 5990 (a .«absolute_max_mV») (pass 9)
+
+  pub current : (29 ≤ a .«max_current_mA») × (a .«max_current_mA» ≤ 252)
+  current = (ltb-false (a .«max_current_mA») 29 (pass 10), ltb-false 252 (a .«max_current_mA») (pass 5))
+
+  pub impedance : (4000 ≤ a .«impedance_mOhm») × (a .«impedance_mOhm» ≤ 49999)
+  impedance = between 4000 49999 (a .«impedance_mOhm») (pass 6)
+
+  pub frequency : (25 ≤ a .«frequency_Hz») × (a .«frequency_Hz» ≤ 1024)
+  frequency = band (tracking (d .«driving_mode»)) (a .«frequency_Hz») band-passes
+
+  pub frequency-tracking : tracking (d .«driving_mode») ≡ true → (50 ≤ a .«frequency_Hz») × (a .«frequency_Hz» ≤ 300)
+  frequency-tracking t = band-tracking (tracking (d .«driving_mode»)) (a .«frequency_Hz») t band-passes
+
+  pub rapid-stop : d .«rapid_stop» ≡ false
+  rapid-stop = pass 12
+
+  none-above : etwm (d .«operation_mode») ≡ true → triggersAbove15 d ≡ false
+  none-above t = sym (ap (λ (b : Bool). b && triggersAbove15 d) t) ∙ pass 11
+
+  others : etwm (d .«operation_mode») ≡ true → (sequenceAbove15 (d .«gpi_trigger_1») || sequenceAbove15 (d .«gpi_trigger_2»)) ≡ false
+  others h = neither (sequenceAbove15 (d .«gpi_trigger_0»)) _ (none-above h) .1
+
+  pub trigger-0 : etwm (d .«operation_mode») ≡ true → (t : TriggerConfig) → d .«gpi_trigger_0» ≡ Given t → t .«sequence_id» ≤ 15
+  trigger-0 h = to15 (d .«gpi_trigger_0») (neither (sequenceAbove15 (d .«gpi_trigger_0»)) _ (none-above h) .0)
+
+  pub trigger-1 : etwm (d .«operation_mode») ≡ true → (t : TriggerConfig) → d .«gpi_trigger_1» ≡ Given t → t .«sequence_id» ≤ 15
+  trigger-1 h = to15 (d .«gpi_trigger_1») (neither (sequenceAbove15 (d .«gpi_trigger_1»)) _ (others h) .0)
+
+  pub trigger-2 : etwm (d .«operation_mode») ≡ true → (t : TriggerConfig) → d .«gpi_trigger_2» ≡ Given t → t .«sequence_id» ≤ 15
+  trigger-2 h = to15 (d .«gpi_trigger_2») (neither (sequenceAbove15 (d .«gpi_trigger_1»)) _ (others h) .1)

@@ -7,7 +7,7 @@ use mathlib.Core.List.{List, [], _∷_}
 use lib.ListN.{drop}
 use Rattle.config.specs.declared.Trigger.{Trigger}
 use Rattle.config.specs.declared.Trigger.the-variants.{Absent, Given}
-use Rattle.checks.specs.Checks.{given, Check, firstFailing}
+use Rattle.checks.specs.Checks.{oneIfGiven, Check, firstFailing}
 
 -- whether check k fails, and its number
 abbrev pub failsAt : ℕ → List Check → Bool
@@ -37,6 +37,6 @@ stop n (suc k) [] p e = sym p
 stop n zero (c ∷ cs) p e = sym (head-is n true c cs p e)
 stop n (suc k) (c ∷ cs) p e = stop n k cs p e
 
-pub given-le : (t : Trigger) → given t ≤ 1
+pub given-le : (t : Trigger) → oneIfGiven t ≤ 1
 given-le Absent = omega arith
 given-le (Given t) = omega arith

@@ -34,18 +34,20 @@ isDA7281 DA7280 = false
 isDA7281 DA7281 = true
 isDA7281 DA7282 = false
 
--- how many triggers one place gives
-abbrev pub given : Trigger → ℕ
-given Absent = 0
-given (Given t) = 1
+abbrev pub oneIfGiven : Trigger → ℕ
+oneIfGiven Absent = 0
+oneIfGiven (Given t) = 1
 
 abbrev pub triggersGiven : DeviceConfig → ℕ
-triggersGiven d = given (d .«gpi_trigger_0») + given (d .«gpi_trigger_1») + given (d .«gpi_trigger_2»)
+triggersGiven d = oneIfGiven (d .«gpi_trigger_0») + oneIfGiven (d .«gpi_trigger_1») + oneIfGiven (d .«gpi_trigger_2»)
 
 -- "a given trigger's sequence number above 15"
-abbrev pub above15 : Trigger → Bool
-above15 Absent = false
-above15 (Given t) = ltb 15 (t .«sequence_id»)
+abbrev pub sequenceAbove15 : Trigger → Bool
+sequenceAbove15 Absent = false
+sequenceAbove15 (Given t) = ltb 15 (t .«sequence_id»)
+
+abbrev pub triggersAbove15 : DeviceConfig → Bool
+triggersAbove15 d = sequenceAbove15 (d .«gpi_trigger_0») || (sequenceAbove15 (d .«gpi_trigger_1») || sequenceAbove15 (d .«gpi_trigger_2»))
 
 -- "frequency outside 50..300 Hz when tracking, else 25..1024"
 abbrev pub outsideBand : DrivingMode → ℕ → Bool
@@ -74,9 +76,8 @@ configureChecks v a d =
     ∷ check (ltb 5990 (a .«nominal_max_mV»)) 11
     ∷ check (ltb 5990 (a .«absolute_max_mV»)) 11
     ∷ check (ltb (a .«max_current_mA») 29) 11
-    ∷ check (etwm (d .«operation_mode») && (above15 (d .«gpi_trigger_0») || (above15 (d .«gpi_trigger_1») || above15 (d .«gpi_trigger_2»)))) 11
-    ∷ check (d .«rapid_stop») 14
-    ∷ []
+    ∷ check (etwm (d .«operation_mode») && triggersAbove15 d) 11
+    ∷ check (d .«rapid_stop») 14 ∷ []
 
 -- the number of the first that fails, 0 if none does
 abbrev pub firstFailing : List Check → ℕ

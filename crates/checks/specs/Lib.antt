@@ -1,3 +1,2 @@
--- The definitions that the contracts of `checks` cite, and what accepted settings are.
-pub mod Accepted
+-- The definitions that the contracts of `checks` cite.
 pub mod Checks

@@ -1,7 +1,7 @@
 // The checks that `configure` makes before its first exchange (lib.rs; document 01, 'Settings to registers'), those that document 01 adds
 // among them. Nothing is left out.
-// Proved: the answer is the number of the first check of specs/Checks.antt that fails, in that order. proofs/Accepted.antt: what
-// holds of settings that pass them all.
+// Proved: the answer is the number of the first check of specs/Checks.antt that fails, in that order. What holds of settings that pass
+// them all is in plans/specs/Accepted.antt.
 ghost use mathlib.Core.Path.{_≡_};
 ghost use mathlib.Core.Bool.{not, _&&_, _||_};
 ghost use lib.Dec.{ltb, eqb};
@@ -165,12 +165,11 @@ fn triggers_given(device: DeviceConfig) -> u8
     let t0 = device.gpi_trigger_0;
     let t1 = device.gpi_trigger_1;
     let t2 = device.gpi_trigger_2;
-    given(t0) + given(t1) + given(t2)
+    one_if_given(t0) + one_if_given(t1) + one_if_given(t2)
 }
 
-// 1 for a trigger that is given, 0 for one that is not.
-fn given(trigger: Trigger) -> u8
-    ensures { λ r. ⌜ r ≡ spec.given trigger ⌝ }
+fn one_if_given(trigger: Trigger) -> u8
+    ensures { λ r. ⌜ r ≡ spec.oneIfGiven trigger ⌝ }
 {
     match trigger {
         Trigger::Absent => 0,
@@ -180,26 +179,26 @@ fn given(trigger: Trigger) -> u8
 
 // In ETWM mode, a given trigger's sequence number above 15.
 fn triggers_above_15(device: DeviceConfig) -> bool
-    ensures { λ r. ⌜ r ≡ (spec.etwm (device .«operation_mode») && (spec.above15 (device .«gpi_trigger_0») || (spec.above15 (device .«gpi_trigger_1») || spec.above15 (device .«gpi_trigger_2»)))) ⌝ }
+    ensures { λ r. ⌜ r ≡ (spec.etwm (device .«operation_mode») && spec.triggersAbove15 device) ⌝ }
 {
     let mode = device.operation_mode;
     if is_etwm(mode) {
         let t0 = device.gpi_trigger_0;
         let t1 = device.gpi_trigger_1;
         let t2 = device.gpi_trigger_2;
-        if is_above_15(t0) {
+        if sequence_above_15(t0) {
             return true;
         }
-        if is_above_15(t1) {
+        if sequence_above_15(t1) {
             return true;
         }
-        return is_above_15(t2);
+        return sequence_above_15(t2);
     }
     false
 }
 
-fn is_above_15(trigger: Trigger) -> bool
-    ensures { λ r. ⌜ r ≡ spec.above15 trigger ⌝ }
+fn sequence_above_15(trigger: Trigger) -> bool
+    ensures { λ r. ⌜ r ≡ spec.sequenceAbove15 trigger ⌝ }
 {
     match trigger {
         Trigger::Absent => false,

@@ -1,4 +1,3 @@
--- The definitions that the contracts of `convert` cite, and what is whole.
+-- The definitions that the contracts of `convert` cite.
 pub mod Convert
 pub mod Trim
-pub mod Whole

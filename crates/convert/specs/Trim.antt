@@ -15,47 +15,39 @@ capCode uH = cond (leb uH 17) 3 (cond (leb uH 27) 2 (cond (leb uH 40) 1 0))
 abbrev pub column : ℕ → ℕ
 column uH = min 9 ((uH - 13) / 25)
 
--- a row of the table: its codes, one for each column, up to this many whole ohms
-pub record Row : Type 0 where
-  pub upTo : ℕ
-  pub codes : List ℕ
-
-abbrev row : ℕ → List ℕ → Row
-row ohms codes = record { upTo = ohms; codes = codes }
+-- a row of the table: up to this many whole ohms, and its codes, one for each column
+pub data TrimRow : Type 0 where
+  upTo : ℕ → List ℕ → TrimRow
 
 -- "rows as in `configure`'s `match`"
-abbrev pub rows : List Row
-rows =
-    row 5 (2 ∷ 2 ∷ 3 ∷ 3 ∷ 3 ∷ 3 ∷ 3 ∷ 3 ∷ 3 ∷ 3 ∷ [])
-    ∷ row 7 (1 ∷ 2 ∷ 2 ∷ 3 ∷ 3 ∷ 3 ∷ 3 ∷ 3 ∷ 3 ∷ 3 ∷ [])
-    ∷ row 9 (1 ∷ 2 ∷ 2 ∷ 2 ∷ 3 ∷ 3 ∷ 3 ∷ 3 ∷ 3 ∷ 3 ∷ [])
-    ∷ row 11 (0 ∷ 1 ∷ 2 ∷ 2 ∷ 2 ∷ 3 ∷ 3 ∷ 3 ∷ 3 ∷ 3 ∷ [])
-    ∷ row 13 (0 ∷ 1 ∷ 2 ∷ 2 ∷ 2 ∷ 2 ∷ 3 ∷ 3 ∷ 3 ∷ 3 ∷ [])
-    ∷ row 15 (0 ∷ 1 ∷ 1 ∷ 2 ∷ 2 ∷ 2 ∷ 2 ∷ 3 ∷ 3 ∷ 3 ∷ [])
-    ∷ row 17 (0 ∷ 1 ∷ 1 ∷ 2 ∷ 2 ∷ 2 ∷ 2 ∷ 2 ∷ 3 ∷ 3 ∷ [])
-    ∷ row 19 (0 ∷ 0 ∷ 1 ∷ 1 ∷ 2 ∷ 2 ∷ 2 ∷ 2 ∷ 2 ∷ 3 ∷ [])
-    ∷ row 21 (0 ∷ 1 ∷ 1 ∷ 2 ∷ 2 ∷ 2 ∷ 3 ∷ 3 ∷ 3 ∷ 3 ∷ [])
-    ∷ row 23 (0 ∷ 1 ∷ 1 ∷ 2 ∷ 2 ∷ 2 ∷ 2 ∷ 3 ∷ 3 ∷ 3 ∷ [])
-    ∷ row 25 (0 ∷ 1 ∷ 1 ∷ 2 ∷ 2 ∷ 2 ∷ 2 ∷ 3 ∷ 3 ∷ 3 ∷ [])
-    ∷ row 27 (0 ∷ 1 ∷ 1 ∷ 2 ∷ 2 ∷ 2 ∷ 2 ∷ 2 ∷ 3 ∷ 3 ∷ [])
-    ∷ row 31 (0 ∷ 1 ∷ 2 ∷ 2 ∷ 2 ∷ 3 ∷ 3 ∷ 3 ∷ 3 ∷ 3 ∷ [])
-    ∷ row 33 (0 ∷ 1 ∷ 2 ∷ 2 ∷ 2 ∷ 2 ∷ 3 ∷ 3 ∷ 3 ∷ 3 ∷ [])
-    ∷ row 35 (0 ∷ 1 ∷ 1 ∷ 2 ∷ 2 ∷ 2 ∷ 3 ∷ 3 ∷ 3 ∷ 3 ∷ [])
-    ∷ row 41 (0 ∷ 1 ∷ 1 ∷ 2 ∷ 2 ∷ 2 ∷ 2 ∷ 3 ∷ 3 ∷ 3 ∷ [])
-    ∷ row 45 (0 ∷ 1 ∷ 2 ∷ 2 ∷ 3 ∷ 3 ∷ 3 ∷ 3 ∷ 3 ∷ 3 ∷ [])
-    ∷ []
+abbrev pub trimRows : List TrimRow
+trimRows =
+    upTo 5 (2 ∷ 2 ∷ 3 ∷ 3 ∷ 3 ∷ 3 ∷ 3 ∷ 3 ∷ 3 ∷ 3 ∷ [])
+    ∷ upTo 7 (1 ∷ 2 ∷ 2 ∷ 3 ∷ 3 ∷ 3 ∷ 3 ∷ 3 ∷ 3 ∷ 3 ∷ [])
+    ∷ upTo 9 (1 ∷ 2 ∷ 2 ∷ 2 ∷ 3 ∷ 3 ∷ 3 ∷ 3 ∷ 3 ∷ 3 ∷ [])
+    ∷ upTo 11 (0 ∷ 1 ∷ 2 ∷ 2 ∷ 2 ∷ 3 ∷ 3 ∷ 3 ∷ 3 ∷ 3 ∷ [])
+    ∷ upTo 13 (0 ∷ 1 ∷ 2 ∷ 2 ∷ 2 ∷ 2 ∷ 3 ∷ 3 ∷ 3 ∷ 3 ∷ [])
+    ∷ upTo 15 (0 ∷ 1 ∷ 1 ∷ 2 ∷ 2 ∷ 2 ∷ 2 ∷ 3 ∷ 3 ∷ 3 ∷ [])
+    ∷ upTo 17 (0 ∷ 1 ∷ 1 ∷ 2 ∷ 2 ∷ 2 ∷ 2 ∷ 2 ∷ 3 ∷ 3 ∷ [])
+    ∷ upTo 19 (0 ∷ 0 ∷ 1 ∷ 1 ∷ 2 ∷ 2 ∷ 2 ∷ 2 ∷ 2 ∷ 3 ∷ [])
+    ∷ upTo 21 (0 ∷ 1 ∷ 1 ∷ 2 ∷ 2 ∷ 2 ∷ 3 ∷ 3 ∷ 3 ∷ 3 ∷ [])
+    ∷ upTo 23 (0 ∷ 1 ∷ 1 ∷ 2 ∷ 2 ∷ 2 ∷ 2 ∷ 3 ∷ 3 ∷ 3 ∷ [])
+    ∷ upTo 25 (0 ∷ 1 ∷ 1 ∷ 2 ∷ 2 ∷ 2 ∷ 2 ∷ 3 ∷ 3 ∷ 3 ∷ [])
+    ∷ upTo 27 (0 ∷ 1 ∷ 1 ∷ 2 ∷ 2 ∷ 2 ∷ 2 ∷ 2 ∷ 3 ∷ 3 ∷ [])
+    ∷ upTo 31 (0 ∷ 1 ∷ 2 ∷ 2 ∷ 2 ∷ 3 ∷ 3 ∷ 3 ∷ 3 ∷ 3 ∷ [])
+    ∷ upTo 33 (0 ∷ 1 ∷ 2 ∷ 2 ∷ 2 ∷ 2 ∷ 3 ∷ 3 ∷ 3 ∷ 3 ∷ [])
+    ∷ upTo 35 (0 ∷ 1 ∷ 1 ∷ 2 ∷ 2 ∷ 2 ∷ 3 ∷ 3 ∷ 3 ∷ 3 ∷ [])
+    ∷ upTo 41 (0 ∷ 1 ∷ 1 ∷ 2 ∷ 2 ∷ 2 ∷ 2 ∷ 3 ∷ 3 ∷ 3 ∷ [])
+    ∷ upTo 45 (0 ∷ 1 ∷ 2 ∷ 2 ∷ 3 ∷ 3 ∷ 3 ∷ 3 ∷ 3 ∷ 3 ∷ []) ∷ []
 
 -- "last row from 46 ohms"
-abbrev pub lastRow : List ℕ
-lastRow = 0 ∷ 1 ∷ 2 ∷ 2 ∷ 2 ∷ 3 ∷ 3 ∷ 3 ∷ 3 ∷ 3 ∷ []
-
-abbrev pub rowAt : ℕ → List Row → List ℕ
-rowAt ohms [] = lastRow
-rowAt ohms (r ∷ rs) = cond (leb ohms (r .upTo)) (r .codes) (rowAt ohms rs)
+abbrev pub rowAt : ℕ → List TrimRow → List ℕ
+rowAt ohms [] = 0 ∷ 1 ∷ 2 ∷ 2 ∷ 2 ∷ 3 ∷ 3 ∷ 3 ∷ 3 ∷ 3 ∷ []
+rowAt ohms (upTo n codes ∷ rs) = cond (leb ohms n) codes (rowAt ohms rs)
 
 -- "The resistance code follows whole ohms, mOhm / 1000, and column"
 abbrev pub resistanceCode : ℕ → ℕ → ℕ
-resistanceCode mOhm uH = getD (rowAt (mOhm / 1000) rows) (column uH) 0
+resistanceCode mOhm uH = getD (rowAt (mOhm / 1000) trimRows) (column uH) 0
 
 -- both codes in their fields
 abbrev pub trim4Byte : ℕ → ℕ → ℕ

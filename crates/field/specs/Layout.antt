@@ -1,5 +1,5 @@
 -- A register as the list of its parts. Document 01, "Settings to registers": "A register's fields fill from bit 0 up in the
--- written order". `startOf` sums the widths that are written before a name, and `each` goes from part to part.
+-- written order". `startOf` sums the widths that are written before a name, and `byField` goes from part to part.
 use Prim.Native.Nat.{ℕ, _+_}
 use Prim.Native.String.{String}
 use mathlib.Core.Bool.{Bool, true, false, cond, _||_}
@@ -44,19 +44,19 @@ among m [] = false
 among m (n ∷ ns) = eqt m n || among m ns
 
 -- `f start width` of each part that is not named in `out`, in the written order, the first part at bit `s`
-abbrev pub eachFrom : (ℕ → ℕ → ℕ) → List String → ℕ → List Part → List ℕ
-eachFrom f out s [] = []
-eachFrom f out s (part m w ∷ ps) = cond (among m out) [] (f s w ∷ []) ++ eachFrom f out (s + w) ps
+abbrev pub byFieldFrom : (ℕ → ℕ → ℕ) → List String → ℕ → List Part → List ℕ
+byFieldFrom f out s [] = []
+byFieldFrom f out s (part m w ∷ ps) = cond (among m out) [] (f s w ∷ []) ++ byFieldFrom f out (s + w) ps
 
 -- the same over a list of registers
-abbrev pub each : (ℕ → ℕ → ℕ) → List String → List (List Part) → List ℕ
-each f out [] = []
-each f out (ps ∷ pss) = eachFrom f out 0 ps ++ each f out pss
+abbrev pub byField : (ℕ → ℕ → ℕ) → List String → List (List Part) → List ℕ
+byField f out [] = []
+byField f out (ps ∷ pss) = byFieldFrom f out 0 ps ++ byField f out pss
 
 -- what each field reads when its register holds `b`
 abbrev pub readings : List (List Part) → ℕ → List ℕ
-readings pss b = each (getOf b) ("__" ∷ []) pss
+readings pss b = byField (getOf b) ("__" ∷ []) pss
 
 -- what each field's register holds once the field is replaced by `v` in `b`; read-only fields are left out
 abbrev pub replacements : List String → List (List Part) → ℕ → ℕ → List ℕ
-replacements readOnly pss b v = each (λ s w. withOf b s w v) ("__" ∷ readOnly) pss
+replacements readOnly pss b v = byField (λ s w. withOf b s w v) ("__" ∷ readOnly) pss

@@ -1,10 +1,13 @@
 -- How many steps `configure` has: at least 14 and at most 25, whatever the settings. Assumes nothing.
 use Prim.Native.Nat.{ℕ, _≤_}
+use Prim.Native.String.{String}
 use native.Mathlib.Omega.{arith}
 use mathlib.Core.Path.{_≡_, refl}
 use mathlib.Core.Bool.{Bool, true, false, cond}
-use mathlib.Core.List.{[]}
+use mathlib.Core.List.{List, []}
 use lib.ListN.{length, length-append}
+use Rattle.field.specs.Layout.{Part}
+use Rattle.registers_trigger.specs.Table.{gpi-0-ctl, gpi-1-ctl, gpi-2-ctl}
 use Rattle.config.specs.declared.ActuatorConfig.{ActuatorConfig}
 use Rattle.config.specs.declared.DeviceConfig.{DeviceConfig}
 use Rattle.config.specs.declared.Pid.{Pid}
@@ -14,7 +17,7 @@ use Rattle.config.specs.declared.Trigger.the-variants as trigger
 use Rattle.config.specs.declared.DrivingMode.{DrivingMode}
 use Rattle.config.specs.declared.DrivingMode.the-variants.{«FREQUENCY_TRACK», WIDEBAND, «CUSTOM_WAVEFORM»}
 use Rattle.checks.specs.Checks.{etwm}
-use Rattle.plans.specs.Configure.{featureSteps, limitSteps, calibrationSteps, pidSteps, frequencySteps, rapidStopSteps, phaseSteps, customSteps, drivingSteps, triggerStep0, triggerStep1, triggerStep2, givenSteps, triggerSteps, configureSteps}
+use Rattle.plans.specs.Configure.{featureSteps, limitSteps, calibrationSteps, pidSteps, frequencySteps, rapidStopSteps, phaseSteps, customSteps, drivingSteps, gpiSteps, givenSteps, triggerSteps, configureSteps}
 
 -- ---- parts of a fixed number
 
@@ -51,24 +54,14 @@ driving «FREQUENCY_TRACK» = omega arith
 driving WIDEBAND = omega arith
 driving «CUSTOM_WAVEFORM» = omega arith
 
-first : (t : Trigger) → length (triggerStep0 t) ≤ 1
-unfolding triggerStep0
-first trigger.Absent = omega arith
-first (trigger.Given t) = omega arith
-
-second : (t : Trigger) → length (triggerStep1 t) ≤ 1
-unfolding triggerStep1
-second trigger.Absent = omega arith
-second (trigger.Given t) = omega arith
-
-third : (t : Trigger) → length (triggerStep2 t) ≤ 1
-unfolding triggerStep2
-third trigger.Absent = omega arith
-third (trigger.Given t) = omega arith
+gpi : (parts : List Part) (digit : String) (t : Trigger) → length (gpiSteps parts digit t) ≤ 1
+unfolding gpiSteps
+gpi parts digit trigger.Absent = omega arith
+gpi parts digit (trigger.Given t) = omega arith
 
 given : (s t u : Trigger) → length (givenSteps s t u) ≤ 3
 unfolding givenSteps
-given s t u = simp length-append (omega (arith, first s, second t, third u))
+given s t u = simp length-append (omega (arith, gpi gpi-0-ctl "0" s, gpi gpi-1-ctl "1" t, gpi gpi-2-ctl "2" u))
 
 pub triggers : (d : DeviceConfig) → length (triggerSteps d) ≤ 3
 unfolding triggerSteps

@@ -1,4 +1,4 @@
+pub mod Accepted
 pub mod Lengths
 pub mod Names
 pub mod Steps
-pub mod Untruncated

@@ -24,8 +24,8 @@ use Rattle.config.specs.declared.TriggerMode.the-variants.{SingleSequence}
 use Rattle.config.specs.declared.TriggerPolarity.the-variants.{Both}
 use Rattle.exchange.specs.declared.Step.{Step}
 use Rattle.exchange.specs.declared.Step.the-variants.{Write, Read, Update, Match, Chunk, Store}
-use Rattle.plans.specs.Fields.{FieldValue, given, withFields, fresh}
-use Rattle.plans.specs.Configure.{featureSteps, limitSteps, frequencySteps, rapidStopSteps, phaseSteps, customSteps, gpi0, gpi1, gpi2, triggerStep0, triggerStep1, triggerStep2}
+use Rattle.plans.specs.Fields.{FieldValue, put, withFields, fresh}
+use Rattle.plans.specs.Configure.{featureSteps, limitSteps, frequencySteps, rapidStopSteps, phaseSteps, customSteps, gpiByte, gpiSteps}
 
 -- ---- what is checked
 
@@ -42,7 +42,7 @@ row parts fields xs i = record { parts = parts; fields = fields; writes = getD x
 -- whether every name is in the table
 abbrev named : List Part → List FieldValue → Bool
 named parts [] = true
-named parts (g ∷ gs) = ltb 0 (widthOf parts (g .name)) && named parts gs
+named parts (put name value ∷ gs) = ltb 0 (widthOf parts name) && named parts gs
 
 -- whether a step writes these fields: a fresh byte, or the byte read last with them, be that 0 or 255
 abbrev makes : List Part → List FieldValue → Step → Bool
@@ -93,27 +93,27 @@ device accelerates =
 rows : List Row
 rows =
     row top-cfg1 (
-    given "ACTUATOR_TYPE" 1
-    ∷ given "BEMF_SENSE_EN" 1
-    ∷ given "FREQ_TRACK_EN" 1
-    ∷ given "ACCELERATION_EN" 1
-    ∷ given "RAPID_STOP_EN" 1
-    ∷ given "AMP_PID_EN" 0
-    ∷ given "EMBEDDED_MODE" 1
+    put "ACTUATOR_TYPE" 1
+    ∷ put "BEMF_SENSE_EN" 1
+    ∷ put "FREQ_TRACK_EN" 1
+    ∷ put "ACCELERATION_EN" 1
+    ∷ put "RAPID_STOP_EN" 1
+    ∷ put "AMP_PID_EN" 0
+    ∷ put "EMBEDDED_MODE" 1
     ∷ []) (featureSteps actuator (device true)) 0
-    ∷ row top-cfg2 (given "MEM_DATA_SIGNED" 1 ∷ []) (featureSteps actuator (device false)) 2
-    ∷ row top-cfg5 (given "V2I_FACTOR_OFFSET_EN" 1 ∷ []) (featureSteps actuator (device true)) 3
-    ∷ row actuator3 (given "IMAX" 23 ∷ []) (limitSteps actuator) 2
-    ∷ row frq-lra-per-l (given "LRA_PER_L" 8 ∷ []) (frequencySteps 150) 1
-    ∷ row top-int-cfg8 (given "RAPID_STOP_LIM" 7 ∷ []) rapidStopSteps 1
-    ∷ row frq-phase-l (given "DELAY_SHIFT_L" 0 ∷ given "DELAY_FREEZE" 1 ∷ []) phaseSteps 1
-    ∷ row seq-ctl1 (given "WAVEGEN_MODE" 1 ∷ []) customSteps 0
-    ∷ row top-cfg4 (given "V2I_FACTOR_FREEZE" 1 ∷ []) customSteps 1
-    ∷ row gpi-0-ctl (given "GPI0_POLARITY" 2 ∷ given "GPI0_MODE" 1 ∷ given "GPI0_SEQUENCE_ID" 15 ∷ []) (triggerStep0 gpi) 0
-    ∷ row gpi-1-ctl (given "GPI1_POLARITY" 2 ∷ given "GPI1_MODE" 1 ∷ given "GPI1_SEQUENCE_ID" 15 ∷ []) (triggerStep1 gpi) 0
-    ∷ row gpi-2-ctl (given "GPI2_POLARITY" 2 ∷ given "GPI2_MODE" 1 ∷ given "GPI2_SEQUENCE_ID" 15 ∷ []) (triggerStep2 gpi) 0
+    ∷ row top-cfg2 (put "MEM_DATA_SIGNED" 1 ∷ []) (featureSteps actuator (device false)) 2
+    ∷ row top-cfg5 (put "V2I_FACTOR_OFFSET_EN" 1 ∷ []) (featureSteps actuator (device true)) 3
+    ∷ row actuator3 (put "IMAX" 23 ∷ []) (limitSteps actuator) 2
+    ∷ row frq-lra-per-l (put "LRA_PER_L" 8 ∷ []) (frequencySteps 150) 1
+    ∷ row top-int-cfg8 (put "RAPID_STOP_LIM" 7 ∷ []) rapidStopSteps 1
+    ∷ row frq-phase-l (put "DELAY_SHIFT_L" 0 ∷ put "DELAY_FREEZE" 1 ∷ []) phaseSteps 1
+    ∷ row seq-ctl1 (put "WAVEGEN_MODE" 1 ∷ []) customSteps 0
+    ∷ row top-cfg4 (put "V2I_FACTOR_FREEZE" 1 ∷ []) customSteps 1
+    ∷ row gpi-0-ctl (put "GPI0_POLARITY" 2 ∷ put "GPI0_MODE" 1 ∷ put "GPI0_SEQUENCE_ID" 15 ∷ []) (gpiSteps gpi-0-ctl "0" gpi) 0
+    ∷ row gpi-1-ctl (put "GPI1_POLARITY" 2 ∷ put "GPI1_MODE" 1 ∷ put "GPI1_SEQUENCE_ID" 15 ∷ []) (gpiSteps gpi-1-ctl "1" gpi) 0
+    ∷ row gpi-2-ctl (put "GPI2_POLARITY" 2 ∷ put "GPI2_MODE" 1 ∷ put "GPI2_SEQUENCE_ID" 15 ∷ []) (gpiSteps gpi-2-ctl "2" gpi) 0
     ∷ []
 
 names : allNamed rows ≡ true
-unfolding rows withOf featureSteps limitSteps frequencySteps rapidStopSteps phaseSteps customSteps gpi0 gpi1 gpi2 triggerStep0 triggerStep1 triggerStep2
+unfolding rows withOf featureSteps limitSteps frequencySteps rapidStopSteps phaseSteps customSteps gpiByte gpiSteps
 names = refl

@@ -1,4 +1,4 @@
--- The definitions that the contracts of `plans` cite, and what is untruncated.
+-- The definitions that the contracts of `plans` cite, and what holds of accepted settings.
 pub mod Fields
 pub mod Configure
-pub mod Untruncated
+pub mod Accepted

@@ -1,13 +1,14 @@
 // The steps of `configure` (lib.rs; document 01, 'Settings to registers' and 'Exchanges'), pushed to a session that was begun.
 // Each function pushes one part of the Rust's body, in its order; the register types are those of registers.rs.
 // Proved: what is pushed is specs/Configure.antt's list, 14 to 25 steps (proofs/Lengths.antt); of accepted settings no value is cut by
-// its register (proofs/Untruncated.antt). Left out: the steps of rapid stop, which the Rust does not have and `checks` refuses.
+// its register (proofs/Accepted.antt). Left out: the steps of rapid stop, which the Rust does not have and `checks` refuses.
 ghost use mathlib.Core.Path.{_≡_};
 ghost use Rattle.exchange.specs.State.{pushed, pushedAll};
 ghost use Rattle.exchange.specs.declared.Step.the-variants.{Write, Read, Update};
 ghost use Rattle.config.specs.declared.DrivingMode.the-variants.{«CUSTOM_WAVEFORM»};
 ghost use Rattle.config.specs.declared.Pid.the-variants.{Given};
-ghost use Rattle.plans.specs.Configure.{accelerates, stopsRapidly, topCfg1, featureSteps, limitSteps, calibrationSteps, pidSteps, frequencySteps, rapidStopSteps, phaseSteps, customSteps, drivingSteps, gpi0, gpi1, gpi2, triggerStep0, triggerStep1, triggerStep2, givenSteps, triggerSteps, configureSteps};
+ghost use Rattle.registers_trigger.specs.Table.{gpi-0-ctl, gpi-1-ctl, gpi-2-ctl};
+ghost use Rattle.plans.specs.Configure.{accelerates, stopsRapidly, topCfg1, featureSteps, limitSteps, calibrationSteps, pidSteps, frequencySteps, rapidStopSteps, phaseSteps, customSteps, drivingSteps, gpiByte, gpiSteps, givenSteps, triggerSteps, configureSteps};
 use config::ActuatorConfig;
 use config::DeviceConfig;
 use config::DrivingMode;
@@ -19,8 +20,10 @@ use registers::Register;
 use registers_actuator::ACTUATOR3;
 use registers_actuator::FRQ_LRA_PER_L;
 use registers_actuator::TOP_CFG1;
+use registers_actuator::TOP_CFG2;
 use registers_actuator::TOP_CFG4;
 use registers_control::SEQ_CTL1;
+use registers_control::TOP_INT_CFG8;
 use registers_trigger::FRQ_PHASE_L;
 use registers_trigger::GPI_0_CTL;
 use registers_trigger::GPI_1_CTL;
@@ -65,7 +68,13 @@ fn features(session: &mut [u8], a: ActuatorConfig, d: DeviceConfig)
     let accelerates = accelerates(d);
     let top_cfg5 = TOP_CFG5::new().with_V2I_FACTOR_OFFSET_EN(accelerates);
     write(session, Register::TOP_CFG1, top_cfg1);
-    update(session, Register::TOP_CFG2, 4, 1, !accelerates as u8);
+    update(
+        session,
+        Register::TOP_CFG2,
+        TOP_CFG2::MEM_DATA_SIGNED_SHIFT,
+        TOP_CFG2::MEM_DATA_SIGNED_WIDTH,
+        !accelerates as u8,
+    );
     write(session, Register::TOP_CFG5, top_cfg5.bits());
 }
 
@@ -170,7 +179,13 @@ fn pid_words(session: &mut [u8], kp: u16, ki: u16)
 fn rapid_stop(session: &mut [u8])
     ensures { λ _. ⌜ now (session .exit) ≡ pushedAll (now (session .entry)) rapidStopSteps ⌝ }
 {
-    update(session, Register::TOP_INT_CFG8, 4, 4, 7);
+    update(
+        session,
+        Register::TOP_INT_CFG8,
+        TOP_INT_CFG8::RAPID_STOP_LIM_SHIFT,
+        TOP_INT_CFG8::RAPID_STOP_LIM_WIDTH,
+        7,
+    );
 }
 
 fn driving(session: &mut [u8], driving_mode: DrivingMode)
@@ -227,11 +242,11 @@ fn triggers(session: &mut [u8], d: DeviceConfig)
     let gpi_trigger_1 = d.gpi_trigger_1;
     let gpi_trigger_2 = d.gpi_trigger_2;
     if checks::is_etwm(operation_mode) {
-        given(session, gpi_trigger_0, gpi_trigger_1, gpi_trigger_2);
+        gpis(session, gpi_trigger_0, gpi_trigger_1, gpi_trigger_2);
     }
 }
 
-fn given(session: &mut [u8], first: Trigger, second: Trigger, third: Trigger)
+fn gpis(session: &mut [u8], first: Trigger, second: Trigger, third: Trigger)
     ensures { λ _. ⌜ now (session .exit) ≡ pushedAll (now (session .entry)) (givenSteps first second third) ⌝ }
 {
     trigger_0(session, first);
@@ -240,7 +255,7 @@ fn given(session: &mut [u8], first: Trigger, second: Trigger, third: Trigger)
 }
 
 fn trigger_0(session: &mut [u8], trigger: Trigger)
-    ensures { λ _. ⌜ now (session .exit) ≡ pushedAll (now (session .entry)) (triggerStep0 trigger) ⌝ }
+    ensures { λ _. ⌜ now (session .exit) ≡ pushedAll (now (session .entry)) (gpiSteps gpi-0-ctl "0" trigger) ⌝ }
 {
     match trigger {
         Trigger::Absent => {}
@@ -250,7 +265,7 @@ fn trigger_0(session: &mut [u8], trigger: Trigger)
 
 // The mode bit is always set, whatever the trigger's mode.
 fn gpi_0(t: TriggerConfig) -> u8
-    ensures { λ r. ⌜ r ≡ gpi0 t ⌝ }
+    ensures { λ r. ⌜ r ≡ gpiByte gpi-0-ctl "0" t ⌝ }
 {
     let polarity = t.polarity;
     let gpi = GPI_0_CTL::new()
@@ -261,7 +276,7 @@ fn gpi_0(t: TriggerConfig) -> u8
 }
 
 fn trigger_1(session: &mut [u8], trigger: Trigger)
-    ensures { λ _. ⌜ now (session .exit) ≡ pushedAll (now (session .entry)) (triggerStep1 trigger) ⌝ }
+    ensures { λ _. ⌜ now (session .exit) ≡ pushedAll (now (session .entry)) (gpiSteps gpi-1-ctl "1" trigger) ⌝ }
 {
     match trigger {
         Trigger::Absent => {}
@@ -271,7 +286,7 @@ fn trigger_1(session: &mut [u8], trigger: Trigger)
 
 // The mode bit is always set, whatever the trigger's mode.
 fn gpi_1(t: TriggerConfig) -> u8
-    ensures { λ r. ⌜ r ≡ gpi1 t ⌝ }
+    ensures { λ r. ⌜ r ≡ gpiByte gpi-1-ctl "1" t ⌝ }
 {
     let polarity = t.polarity;
     let gpi = GPI_1_CTL::new()
@@ -282,7 +297,7 @@ fn gpi_1(t: TriggerConfig) -> u8
 }
 
 fn trigger_2(session: &mut [u8], trigger: Trigger)
-    ensures { λ _. ⌜ now (session .exit) ≡ pushedAll (now (session .entry)) (triggerStep2 trigger) ⌝ }
+    ensures { λ _. ⌜ now (session .exit) ≡ pushedAll (now (session .entry)) (gpiSteps gpi-2-ctl "2" trigger) ⌝ }
 {
     match trigger {
         Trigger::Absent => {}
@@ -292,7 +307,7 @@ fn trigger_2(session: &mut [u8], trigger: Trigger)
 
 // The mode bit is always set, whatever the trigger's mode.
 fn gpi_2(t: TriggerConfig) -> u8
-    ensures { λ r. ⌜ r ≡ gpi2 t ⌝ }
+    ensures { λ r. ⌜ r ≡ gpiByte gpi-2-ctl "2" t ⌝ }
 {
     let polarity = t.polarity;
     let gpi = GPI_2_CTL::new()

@@ -1,9 +1,11 @@
 // The register addresses of the DA728x: `Register` of registers.rs, document 01, "Settings to registers". Each address is a
 // constant of the type, and only this crate makes a `Register`.
 //
-// Proved: `address` is the register's address, and `all` lists every constant's, which is specs/Addresses.antt. Nothing is left out.
+// Proved: `address` is the register's address, and `all` lists the addresses of specs/Addresses.antt. The four private functions at the
+// end, which nothing calls, are proved only if each constant has the address that the table lists under its name. Nothing is left out.
 ghost use mathlib.Core.Path.{_≡_};
-ghost use Rattle.registers.specs.Addresses.{addresses};
+ghost use mathlib.Core.Bool.{true};
+ghost use Rattle.registers.specs.Addresses.{registers, addresses, lists};
 
 // A register, by its address.
 pub struct Register(u8);
@@ -150,3 +152,64 @@ impl Register {
         ]
     }
 }
+
+// ---- each constant beside its name
+
+fn interrupts_named() {
+    named(b"CHIP_REV", Register::CHIP_REV);
+    named(b"IRQ_EVENT1", Register::IRQ_EVENT1);
+    named(b"IRQ_EVENT_WARNING_DIAG", Register::IRQ_EVENT_WARNING_DIAG);
+    named(b"IRQ_EVENT_SEQ_DIAG", Register::IRQ_EVENT_SEQ_DIAG);
+    named(b"IRQ_STATUS1", Register::IRQ_STATUS1);
+    named(b"IRQ_MASK1", Register::IRQ_MASK1);
+}
+
+fn actuator_named() {
+    named(b"FRQ_LRA_PER_H", Register::FRQ_LRA_PER_H);
+    named(b"FRQ_LRA_PER_L", Register::FRQ_LRA_PER_L);
+    named(b"ACTUATOR1", Register::ACTUATOR1);
+    named(b"ACTUATOR2", Register::ACTUATOR2);
+    named(b"ACTUATOR3", Register::ACTUATOR3);
+    named(b"CALIB_V2I_H", Register::CALIB_V2I_H);
+    named(b"CALIB_V2I_L", Register::CALIB_V2I_L);
+    named(b"TOP_CFG1", Register::TOP_CFG1);
+    named(b"TOP_CFG2", Register::TOP_CFG2);
+    named(b"TOP_CFG4", Register::TOP_CFG4);
+}
+
+fn control_named() {
+    named(b"TOP_INT_CFG1", Register::TOP_INT_CFG1);
+    named(b"TOP_INT_CFG6_H", Register::TOP_INT_CFG6_H);
+    named(b"TOP_INT_CFG6_L", Register::TOP_INT_CFG6_L);
+    named(b"TOP_INT_CFG7_H", Register::TOP_INT_CFG7_H);
+    named(b"TOP_INT_CFG7_L", Register::TOP_INT_CFG7_L);
+    named(b"TOP_INT_CFG8", Register::TOP_INT_CFG8);
+    named(b"TOP_CTL1", Register::TOP_CTL1);
+    named(b"TOP_CTL2", Register::TOP_CTL2);
+    named(b"SEQ_CTL1", Register::SEQ_CTL1);
+    named(b"SWG_C1", Register::SWG_C1);
+    named(b"SWG_C2", Register::SWG_C2);
+    named(b"SWG_C3", Register::SWG_C3);
+}
+
+fn trigger_named() {
+    named(b"SEQ_CTL2", Register::SEQ_CTL2);
+    named(b"GPI_0_CTL", Register::GPI_0_CTL);
+    named(b"GPI_1_CTL", Register::GPI_1_CTL);
+    named(b"GPI_2_CTL", Register::GPI_2_CTL);
+    named(b"MEM_CTL1", Register::MEM_CTL1);
+    named(b"MEM_CTL2", Register::MEM_CTL2);
+    named(b"POLARITY", Register::POLARITY);
+    named(b"FRQ_PHASE_H", Register::FRQ_PHASE_H);
+    named(b"FRQ_PHASE_L", Register::FRQ_PHASE_L);
+    named(b"TRIM4", Register::TRIM4);
+    named(b"TOP_CFG5", Register::TOP_CFG5);
+    named(b"IRQ_MASK2", Register::IRQ_MASK2);
+    named(b"SNP_MEM_0", Register::SNP_MEM_0);
+    named(b"SNP_MEM_99", Register::SNP_MEM_99);
+}
+
+// The table lists the register's address under this name.
+fn named(name: &[u8], register: Register)
+    requires { ⌜ lists registers (now name) (register .0) ≡ true ⌝ }
+{}

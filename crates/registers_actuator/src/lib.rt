@@ -370,6 +370,11 @@ impl TOP_CFG1 {
 pub struct TOP_CFG2(u8);
 
 impl TOP_CFG2 {
+    // For updates of the byte that the chip holds: where the field starts, and how many bits it has.
+    pub const MEM_DATA_SIGNED_SHIFT: u8 = 4;
+
+    pub const MEM_DATA_SIGNED_WIDTH: u8 = 1;
+
     pub fn new() -> Self
         ensures { λ r. ⌜ r .0 ≡ 0 ⌝ }
     {
@@ -403,13 +408,13 @@ impl TOP_CFG2 {
     pub fn MEM_DATA_SIGNED(self) -> bool
         ensures { λ r. ⌜ r ≡ isAt top-cfg2 "MEM_DATA_SIGNED" (self .0) ⌝ }
     {
-        flag(self.0, 4)
+        flag(self.0, TOP_CFG2::MEM_DATA_SIGNED_SHIFT)
     }
 
     pub fn with_MEM_DATA_SIGNED(self, on: bool) -> Self
         ensures { λ r. ⌜ r .0 ≡ withAt top-cfg2 "MEM_DATA_SIGNED" (self .0) (codeOf on) ⌝ }
     {
-        TOP_CFG2(with_flag(self.0, 4, on))
+        TOP_CFG2(with_flag(self.0, TOP_CFG2::MEM_DATA_SIGNED_SHIFT, on))
     }
 }
 

@@ -204,6 +204,11 @@ impl TOP_INT_CFG7_L {
 pub struct TOP_INT_CFG8(u8);
 
 impl TOP_INT_CFG8 {
+    // For updates of the byte that the chip holds: where the field starts, and how many bits it has.
+    pub const RAPID_STOP_LIM_SHIFT: u8 = 4;
+
+    pub const RAPID_STOP_LIM_WIDTH: u8 = 4;
+
     pub fn new() -> Self
         ensures { λ r. ⌜ r .0 ≡ 0 ⌝ }
     {
@@ -237,13 +242,22 @@ impl TOP_INT_CFG8 {
     pub fn RAPID_STOP_LIM(self) -> u8
         ensures { λ r. ⌜ r ≡ getAt top-int-cfg8 "RAPID_STOP_LIM" (self .0) ⌝ }
     {
-        get(self.0, 4, 4)
+        get(
+            self.0,
+            TOP_INT_CFG8::RAPID_STOP_LIM_SHIFT,
+            TOP_INT_CFG8::RAPID_STOP_LIM_WIDTH,
+        )
     }
 
     pub fn with_RAPID_STOP_LIM(self, value: u8) -> Self
         ensures { λ r. ⌜ r .0 ≡ withAt top-int-cfg8 "RAPID_STOP_LIM" (self .0) value ⌝ }
     {
-        TOP_INT_CFG8(with(self.0, 4, 4, value))
+        TOP_INT_CFG8(with(
+            self.0,
+            TOP_INT_CFG8::RAPID_STOP_LIM_SHIFT,
+            TOP_INT_CFG8::RAPID_STOP_LIM_WIDTH,
+            value,
+        ))
     }
 }
 
@@ -251,6 +265,15 @@ impl TOP_INT_CFG8 {
 pub struct TOP_CTL1(u8);
 
 impl TOP_CTL1 {
+    // For updates of the byte that the chip holds: where the field starts, and how many bits it has.
+    pub const OPERATION_MODE_SHIFT: u8 = 0;
+
+    pub const OPERATION_MODE_WIDTH: u8 = 3;
+
+    pub const SEQ_START_SHIFT: u8 = 4;
+
+    pub const SEQ_START_WIDTH: u8 = 1;
+
     pub fn new() -> Self
         ensures { λ r. ⌜ r .0 ≡ 0 ⌝ }
     {
@@ -272,13 +295,22 @@ impl TOP_CTL1 {
     pub fn OPERATION_MODE(self) -> u8
         ensures { λ r. ⌜ r ≡ getAt top-ctl1 "OPERATION_MODE" (self .0) ⌝ }
     {
-        get(self.0, 0, 3)
+        get(
+            self.0,
+            TOP_CTL1::OPERATION_MODE_SHIFT,
+            TOP_CTL1::OPERATION_MODE_WIDTH,
+        )
     }
 
     pub fn with_OPERATION_MODE(self, value: u8) -> Self
         ensures { λ r. ⌜ r .0 ≡ withAt top-ctl1 "OPERATION_MODE" (self .0) value ⌝ }
     {
-        TOP_CTL1(with(self.0, 0, 3, value))
+        TOP_CTL1(with(
+            self.0,
+            TOP_CTL1::OPERATION_MODE_SHIFT,
+            TOP_CTL1::OPERATION_MODE_WIDTH,
+            value,
+        ))
     }
 
     pub fn STANDBY_EN(self) -> bool
@@ -296,13 +328,13 @@ impl TOP_CTL1 {
     pub fn SEQ_START(self) -> bool
         ensures { λ r. ⌜ r ≡ isAt top-ctl1 "SEQ_START" (self .0) ⌝ }
     {
-        flag(self.0, 4)
+        flag(self.0, TOP_CTL1::SEQ_START_SHIFT)
     }
 
     pub fn with_SEQ_START(self, on: bool) -> Self
         ensures { λ r. ⌜ r .0 ≡ withAt top-ctl1 "SEQ_START" (self .0) (codeOf on) ⌝ }
     {
-        TOP_CTL1(with_flag(self.0, 4, on))
+        TOP_CTL1(with_flag(self.0, TOP_CTL1::SEQ_START_SHIFT, on))
     }
 }
 
@@ -345,6 +377,11 @@ impl TOP_CTL2 {
 pub struct SEQ_CTL1(u8);
 
 impl SEQ_CTL1 {
+    // For updates of the byte that the chip holds: where the field starts, and how many bits it has.
+    pub const FREQ_WAVEFORM_TIMEBASE_SHIFT: u8 = 2;
+
+    pub const FREQ_WAVEFORM_TIMEBASE_WIDTH: u8 = 1;
+
     pub fn new() -> Self
         ensures { λ r. ⌜ r .0 ≡ 0 ⌝ }
     {
@@ -390,13 +427,22 @@ impl SEQ_CTL1 {
     pub fn FREQ_WAVEFORM_TIMEBASE(self) -> u8
         ensures { λ r. ⌜ r ≡ getAt seq-ctl1 "FREQ_WAVEFORM_TIMEBASE" (self .0) ⌝ }
     {
-        get(self.0, 2, 1)
+        get(
+            self.0,
+            SEQ_CTL1::FREQ_WAVEFORM_TIMEBASE_SHIFT,
+            SEQ_CTL1::FREQ_WAVEFORM_TIMEBASE_WIDTH,
+        )
     }
 
     pub fn with_FREQ_WAVEFORM_TIMEBASE(self, value: u8) -> Self
         ensures { λ r. ⌜ r .0 ≡ withAt seq-ctl1 "FREQ_WAVEFORM_TIMEBASE" (self .0) value ⌝ }
     {
-        SEQ_CTL1(with(self.0, 2, 1, value))
+        SEQ_CTL1(with(
+            self.0,
+            SEQ_CTL1::FREQ_WAVEFORM_TIMEBASE_SHIFT,
+            SEQ_CTL1::FREQ_WAVEFORM_TIMEBASE_WIDTH,
+            value,
+        ))
     }
 }
 

@@ -5,7 +5,7 @@ use mathlib.Core.Path.{_≡_, _∙_, sym, ap}
 use mathlib.Core.List.{List}
 use lib.ListN.{getD}
 use borrow.Author.Needs.{needs}
-use Rattle.convert.specs.Trim.{rows, column, resistanceCode}
+use Rattle.convert.specs.Trim.{trimRows, column, resistanceCode}
 use Rattle.convert.proofs.Rows.{Above, Within, codesAt, pick}
 use Rattle.convert.proofs.res_trim.Statement.{statement}
 use Rattle.convert.proofs.res_trim.Tie as tie
@@ -14,11 +14,11 @@ abbrev ohms : tie.After-column → ℕ
 ohms c = c .before .args .mOhm / 1000
 
 -- the entry of row k, where the resistance is in its range
-entry : (k : ℕ) (c : tie.After-column) → Above rows k (ohms c) → Within rows k (ohms c)
-    → getD (codesAt rows k) (c .column .result) 0 ≡ resistanceCode (c .before .args .mOhm) (c .before .args .uH)
+entry : (k : ℕ) (c : tie.After-column) → Above trimRows k (ohms c) → Within trimRows k (ohms c)
+    → getD (codesAt trimRows k) (c .column .result) 0 ≡ resistanceCode (c .before .args .mOhm) (c .before .args .uH)
 entry k c h w =
-    ap (λ (i : ℕ). getD (codesAt rows k) i 0) (c .column .ensures)
-    ∙ sym (ap (λ (l : List ℕ). getD l (column (c .before .args .uH)) 0) (pick rows k (ohms c) h w))
+    ap (λ (i : ℕ). getD (codesAt trimRows k) i 0) (c .column .ensures)
+    ∙ sym (ap (λ (l : List ℕ). getD l (column (c .before .args .uH)) 0) (pick trimRows k (ohms c) h w))
 
 pub res-trim-spec : {M : Type 1} → statement M
 res-trim-spec =

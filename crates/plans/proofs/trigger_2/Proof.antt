@@ -1,21 +1,22 @@
 -- Each case pushes its own steps. Assumes nothing.
+use Rattle.registers_trigger.specs.Table.{gpi-2-ctl}
 use Rattle.exchange.specs.State.{pushedAll}
 use Rattle.config.specs.declared.Trigger.{Trigger}
 use denote.Ref.{now}
 use mathlib.Core.Path.{refl, sym, ap, _∙_}
 use Rattle.plans.proofs.Steps.{wrote}
-use Rattle.plans.specs.Configure.{triggerStep2}
+use Rattle.plans.specs.Configure.{gpiSteps}
 use borrow.Author.Needs.{needs}
 use Rattle.plans.proofs.trigger_2.Statement.{statement}
 use Rattle.plans.proofs.trigger_2.Tie as tie
 
 returns : tie.Need-returns
-unfolding triggerStep2
-returns c = ap (λ (t : Trigger). pushedAll (now (c .before .before .before .args .session)) (triggerStep2 t)) (sym (c .enum-told .given .1))
+unfolding gpiSteps
+returns c = ap (λ (t : Trigger). pushedAll (now (c .before .before .before .args .session)) (gpiSteps gpi-2-ctl "2" t)) (sym (c .enum-told .given .1))
 
 returns-2 : tie.Need-returns-2
-unfolding triggerStep2
-returns-2 c = wrote _ (c .before .before .write .ensures) refl (c .before .before .before .gpi-2 .ensures) ∙ ap (λ (t : Trigger). pushedAll (now (c .before .before .before .before .before .before .before .before .before .args .session)) (triggerStep2 t)) (sym (c .before .before .before .before .before .before .trigger .given .1))
+unfolding gpiSteps
+returns-2 c = wrote _ (c .before .before .write .ensures) refl (c .before .before .before .gpi-2 .ensures) ∙ ap (λ (t : Trigger). pushedAll (now (c .before .before .before .before .before .before .before .before .before .args .session)) (gpiSteps gpi-2-ctl "2" t)) (sym (c .before .before .before .before .before .before .trigger .given .1))
 
 pub trigger-2-spec : {M : Type 1} → statement M
 trigger-2-spec =

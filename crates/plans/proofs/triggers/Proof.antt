@@ -5,15 +5,13 @@ use mathlib.Core.List.{[]}
 use mathlib.Core.Bool.{Bool, cond}
 use denote.Ref.{now}
 use mathlib.Core.Path.{sym, ap, _∙_}
-use mathlib.Core.Path.{sym, _∙_}
-use Rattle.plans.specs.Configure.{triggerSteps}
 use borrow.Author.Needs.{needs}
 use Rattle.plans.proofs.triggers.Statement.{statement}
 use Rattle.plans.proofs.triggers.Tie as tie
 
 returns : tie.Need-returns
 unfolding triggerSteps
-returns c = let a = c .before .before .before .before .before .before .before .args in c .before .before .given .ensures ∙ ap (λ (b : Bool). pushedAll (now (a .session)) (cond b (givenSteps (a .d .«gpi_trigger_0») (a .d .«gpi_trigger_1») (a .d .«gpi_trigger_2»)) [])) (sym (c .before .before .before .before .if1 .taken) ∙ c .before .before .before .before .before .is-etwm .ensures)
+returns c = let a = c .before .before .before .before .before .before .before .args in c .before .before .gpis .ensures ∙ ap (λ (b : Bool). pushedAll (now (a .session)) (cond b (givenSteps (a .d .«gpi_trigger_0») (a .d .«gpi_trigger_1») (a .d .«gpi_trigger_2»)) [])) (sym (c .before .before .before .before .if1 .taken) ∙ c .before .before .before .before .before .is-etwm .ensures)
 
 returns-2 : tie.Need-returns-2
 unfolding triggerSteps
