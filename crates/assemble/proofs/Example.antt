@@ -7,4 +7,4 @@ use Rattle.assemble.specs.Example.{Example}
 
 pub example : Example
 unfolding groupsOf answersOf callsIn builtMemory
-example = record { oneBuilt = refl; allBuilt = refl; anewBuilt = refl; noStaleFrame = refl; oneFrame = refl; refusals = refl; firstTold = refl }
+example = record { oneBuilt = refl; allBuilt = refl; silenceBuilt = refl; noStaleFrame = refl; oneFrame = refl; refusals = refl; firstTold = refl }

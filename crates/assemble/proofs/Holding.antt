@@ -24,7 +24,7 @@ use Rattle.memory.specs.declared.WaveformMemoryBuilder.{WaveformMemoryBuilder}
 use Rattle.assemble.specs.Kept as pool
 use Rattle.assemble.specs.Kept.{kept, Pushed, PushedUnless, addedNumber, KeptBoth}
 use Rattle.assemble.proofs.Keeping.{count}
-use Rattle.pattern.specs.Calls.{withBuiltSnippet, withBuiltSequence}
+use Rattle.pattern.proofs.Items.{withBuiltSnippet, withBuiltSequence}
 use Rattle.assemble.specs.Holding.{Keeps, KeepsSnippets, KeepsSequences, KeepsMemory, StepsSnippets, StepsSequences}
 use Rattle.assemble.specs.Lists.{imageOut}
 

@@ -6,12 +6,12 @@ use native.Mathlib.Omega.{arith}
 use Rattle.laws.specs.Bytes.{All}
 use Rattle.errors.specs.Told.{Told, gives, refuses}
 use Rattle.frame.specs.declared.FrameBuilder.{FrameBuilder}
-use Rattle.frame.specs.Builder.{newFrame}
 use Rattle.calls.specs.Said.{Call}
 use Rattle.calls.specs.Said as Call
-use Rattle.calls.specs.Calls.{callsIn}
-use Rattle.pattern.specs.Calls.{answersTo, ramp, step, point, snippetFrom, FrameCall, new, begunBy, frameRan, answerOn, sequenceFrom, addSnippet, addSequence, memoryFrom}
-use Rattle.assemble.specs.Lists.{Groups, noGroups, begunNumber, fieldOf, grouped, answersOf}
+use Rattle.calls.specs.Calls.{callsIn, begunNumber}
+use Rattle.pattern.specs.Calls.{answersTo, snippetFrom, FrameCall, begunBy, sequenceFrom, addSnippet, addSequence, memoryFrom}
+use Rattle.pattern.proofs.Items.{frameRan, answerOn}
+use Rattle.assemble.specs.Lists.{Groups, noGroups, grouped, answersOf}
 use Rattle.assemble.proofs.Assembly.{Three, three}
 use Rattle.assemble.proofs.Steps.{snippet-answers, frame-answers, sequence-answers, memory-answers}
 
@@ -26,19 +26,16 @@ called-number (refuses n) ks k h = omega arith
 
 call-number : (g : Groups) (k : Call) → grouped g k .number ≤ 14
 call-number g (Call.Builder Call.SnippetNew) = omega arith
-call-number g (Call.Builder (Call.Ramp t a)) = snippet-answers (snippetFrom (g .snippet)) (ramp t a) .0
-call-number g (Call.Builder (Call.Step t a)) = snippet-answers (snippetFrom (g .snippet)) (step t a) .0
-call-number g (Call.Builder (Call.Point b)) = snippet-answers (snippetFrom (g .snippet)) (point b) .0
-call-number g (Call.Builder (Call.FrameNew n)) = begun-number (newFrame n) (three (new n))
-call-number g (Call.Builder Call.Silence) = omega arith
-call-number g (Call.Builder (Call.Set k)) = called-number (begunBy (g .frame .begin)) (g .frame .calls) (fieldOf k) (three (g .frame .begin))
+call-number g (Call.Builder (Call.OnSnippet k)) = snippet-answers (snippetFrom (g .snippet)) k .0
+call-number g (Call.Builder (Call.BeginFrame b)) = begun-number (begunBy b) (three b)
+call-number g (Call.Builder (Call.OnFrame k)) = called-number (begunBy (g .frame .begin)) (g .frame .calls) k (three (g .frame .begin))
 call-number g (Call.Builder Call.SequenceNew) = omega arith
 call-number g (Call.Builder Call.AddFrame) = sequence-answers (sequenceFrom (g .sequence)) (g .frame .calls) (begunBy (g .frame .begin)) (three (g .frame .begin)) .0
 call-number g Call.AddSnippet = memory-answers (memoryFrom false (g .memory)) (addSnippet (g .snippet)) .0
 call-number g Call.AddSequence = memory-answers (memoryFrom false (g .memory)) (addSequence (g .sequence)) .0
 call-number g Call.Unknown = omega arith
 
-all-numbers : (ks : List Call) (g : Groups) → All (λ n. n ≤ 14) (answersTo grouped (λ (k : Call). k) g ks)
+all-numbers : (ks : List Call) (g : Groups) → All (λ n. n ≤ 14) (answersTo grouped g ks)
 all-numbers [] g = tt
 all-numbers (k ∷ ks) g = (call-number g k, all-numbers ks (grouped g k .builder))
 

@@ -22,13 +22,14 @@ use Rattle.sequence.specs.declared.SequenceBuilder.{SequenceBuilder}
 use Rattle.sequence.specs.Sequence.{builtSequence}
 use Rattle.calls.specs.Said.{Call}
 use Rattle.calls.specs.Said as Call
-use Rattle.calls.specs.declared.FieldCall.the-variants as Field
+use Rattle.frame.specs.Read.{gainAt, timebaseAt}
+use Rattle.pattern.specs.Calls.{gain, timebase}
 use Rattle.calls.specs.declared.Record.{Record}
 use Rattle.calls.specs.declared.Builders.{Builders}
 use Rattle.calls.specs.Calls.{callsByCode, firstRecord, callOf, callsIn, calledBy}
 use Rattle.calls.proofs.Turns.{calls-next, calls-none, chosen-either}
 use Rattle.memory.specs.declared.WaveformMemoryBuilder.{WaveformMemoryBuilder}
-use Rattle.pattern.specs.Calls.{withBuiltSnippet, withBuiltSequence}
+use Rattle.pattern.proofs.Items.{withBuiltSnippet, withBuiltSequence}
 use Rattle.assemble.specs.Lists.{withPlace, firstRefused}
 use Rattle.assemble.specs.Flat.{State, state, lessSnippet, lessSequence, flatCalled}
 use Rattle.assemble.proofs.Flat.{nothingYet, flatAfter, flatAnswers}
@@ -63,7 +64,7 @@ small-code r h k = go (decLe 13 (r .code)) where
   go : Dec (13 ≤ r .code) → Small (callOf r)
   go (no d) =
       front-small (take 13 (callsByCode (r .a) (r .b))) (Call.AddSnippet ∷ Call.AddSequence ∷ []) (r .code) Call.Unknown
-      (tt, (tt, (tt, (tt, (tt, (tt, (tt, (chosen-either Small (Field.Gain (r .a)) (r .a) tt tt, (chosen-either Small (Field.Timebase (r .a)) (r .a) tt tt, (tt, (tt, (tt, (tt, tt)))))))))))))
+      (tt, (tt, (tt, (tt, (tt, (tt, (tt, (chosen-either Small (gain (gainAt (r .a))) (r .a) tt tt, (chosen-either Small (timebase (timebaseAt (r .a))) (r .a) tt tt, (tt, (tt, (tt, (tt, tt)))))))))))))
       (omega arith)
   go (yes d) = subst Small (sym (List·getD-eq-default (callsByCode (r .a) (r .b)) Call.Unknown (beyond (r .code) d h k (decLe 15 (r .code))))) tt
 

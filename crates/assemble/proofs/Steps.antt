@@ -16,7 +16,8 @@ use Rattle.sequence.specs.declared.SequenceBuilder.{SequenceBuilder}
 use Rattle.sequence.specs.Sequence.{builtSequence}
 use Rattle.memory.specs.declared.WaveformMemoryBuilder.{WaveformMemoryBuilder}
 use Rattle.memory.specs.Memory.{withSnippet, withSequence}
-use Rattle.pattern.specs.Calls.{SnippetCall, ramp, step, point, snippetStep, snippetFrom, FrameCall, gain, timebase, loopCount, frequencyHz, frameStep, frameRan, withMadeFrame, sequenceFrom, MemoryCall, addSnippet, addSequence, memoryStep}
+use Rattle.pattern.specs.Calls.{SnippetCall, ramp, step, point, snippetStep, snippetFrom, FrameCall, gain, timebase, loopCount, frequencyHz, frameStep, sequenceFrom, MemoryCall, addSnippet, addSequence, memoryStep}
+use Rattle.pattern.proofs.Items.{frameRan, withMadeFrame}
 use Rattle.assemble.proofs.Assembly.{Three}
 
 abbrev pub Answers : {B : Type 0} → B → Handed B → Type 0

@@ -1,36 +1,36 @@
 -- What a call finds. Assumes nothing.
 use mathlib.Core.Path.{_≡_, refl, sym, ap, _∙_}
-use mathlib.Core.Logic.{_⊎_, inl, inr}
 use mathlib.Core.Bool.{false}
 use mathlib.Core.List.{List, [], _∷_, _++_}
 use Prim.Native.Nat.{ℕ, _+_, _<_}
 use native.Mathlib.Omega.{arith}
 use borrow.Author.Tests.{lt-ltb}
-use Rattle.errors.specs.Told.{Told, gives, refuses, accepted, refused}
+use Rattle.errors.specs.Told.{Told, gives, refuses}
 use Rattle.snippet.specs.declared.SnippetBuilder.{SnippetBuilder}
 use Rattle.snippet.specs.Snippet.{newSnippet, builtSnippet}
 use Rattle.frame.specs.declared.FrameBuilder.{FrameBuilder}
-use Rattle.frame.specs.Builder.{newFrame}
 use Rattle.sequence.specs.Sequence.{newSequence, builtSequence}
-use Rattle.calls.specs.declared.FieldCall.the-variants as Field
+use Rattle.frame.specs.declared.Gain.the-variants.{Full}
 use Rattle.calls.specs.Said.{Call}
 use Rattle.calls.specs.Said as Call
 use Rattle.calls.specs.declared.UnderWay.{UnderWay}
 use Rattle.calls.specs.declared.UnderWay.the-variants as UnderWay
 use Rattle.calls.specs.declared.Builders.{Builders}
+use Rattle.calls.specs.Calls.{begunNumber}
 use Rattle.memory.specs.Memory.{newMemory}
-use Rattle.pattern.specs.Calls.{SnippetCall, ramp, step, point, snippetStep, addedPoint, snippetFrom, FrameCall, gain, frameStep, begunBy, FrameCalls, frameRan, frameFrom, answerOn, withMadeFrame, sequenceStep, sequenceFrom, MemoryCall, addSnippet, addSequence, withBuiltSnippet, withBuiltSequence, memoryStep, addedItem, memoryFrom}
+use Rattle.pattern.specs.Calls.{SnippetCall, snippetStep, snippetFrom, FrameCall, gain, frameStep, Begin, begunBy, FrameCalls, sequenceStep, sequenceFrom, MemoryCall, addSnippet, addSequence, memoryStep, memoryFrom}
+use Rattle.pattern.proofs.Items.{frameRan, answerOn, withMadeFrame, withBuiltSnippet, withBuiltSequence}
 use Rattle.pattern.proofs.Runs.{ran-append}
-use Rattle.assemble.specs.Lists.{Groups, noFrame, noGroups, toSnippet, begunNumber, leftBy, fieldOf, grouped, underWay, buildersIn}
-use Rattle.assemble.specs.UsedUp.{NotBegun, Begins, Unchanged, UsedUp}
-use Rattle.assemble.proofs.Assembly.{three}
+use Rattle.assemble.specs.Lists.{Groups, noFrame, noGroups, leftBy, grouped, buildersIn}
+use Rattle.assemble.specs.UsedUp.{NotBegun, Unchanged, UsedUp}
+use Rattle.assemble.proofs.Assembly.{underWay, three}
 use Rattle.assemble.proofs.Steps.{snippet-answers, frame-answers, sequence-answers, memory-answers}
 
 -- ---- the builders after a refused call
 
 -- a frame under construction, after a call on it that was refused
 frame-left : (t : Told FrameBuilder) (ks : List FrameCall) (k : FrameCall) → 0 < answerOn t ks k → underWay (ks ++ (k ∷ [])) t ≡ underWay ks t
-frame-left (gives f) ks k h = ap UnderWay.Begun (sym (ran-append frameStep (λ (j : FrameCall). j) f ks (k ∷ [])) ∙ frame-answers (frameRan f ks) k .1 h)
+frame-left (gives f) ks k h = ap UnderWay.Begun (sym (ran-append frameStep f ks (k ∷ [])) ∙ frame-answers (frameRan f ks) k .1 h)
 frame-left (refuses n) ks k h = refl
 
 -- an item that was refused stays
@@ -42,26 +42,20 @@ module _ (g : Groups) where
   b = buildersIn g
 
   memory-left : (k : MemoryCall) → 0 < memoryStep (memoryFrom false (g .memory)) k .number → memoryFrom false (g .memory ++ (k ∷ [])) ≡ memoryFrom false (g .memory)
-  memory-left k h = sym (ran-append memoryStep addedItem (newMemory false) (g .memory) (k ∷ [])) ∙ memory-answers (memoryFrom false (g .memory)) k .1 h
+  memory-left k h = sym (ran-append memoryStep (newMemory false) (g .memory) (k ∷ [])) ∙ memory-answers (memoryFrom false (g .memory)) k .1 h
 
-  snippet-left : (k : SnippetCall) → 0 < toSnippet g k .number → Unchanged g (toSnippet g k .builder)
-  snippet-left k h =
-      let e = sym (ran-append snippetStep addedPoint newSnippet (g .snippet) (k ∷ [])) ∙ snippet-answers (b .snippet) k .1 h in
-      record { builders = ap (λ (s : SnippetBuilder). record { snippet = s; frame = b .frame; sequence = b .sequence }) e; memory = refl }
-
-  left : (k : Call) → ((n : ℕ) → ¬ (k ≡ Call.Builder (Call.FrameNew n))) → 0 < grouped g k .number → Unchanged g (grouped g k .builder)
+  left : (k : Call) → ((b : Begin) → ¬ (k ≡ Call.Builder (Call.BeginFrame b))) → 0 < grouped g k .number → Unchanged g (grouped g k .builder)
   left (Call.Builder Call.SnippetNew) d h = absurd (omega arith)
-  left (Call.Builder (Call.Ramp t a)) d h = snippet-left (ramp t a) h
-  left (Call.Builder (Call.Step t a)) d h = snippet-left (step t a) h
-  left (Call.Builder (Call.Point x)) d h = snippet-left (point x) h
-  left (Call.Builder (Call.FrameNew n)) d h = absurd (d n refl)
-  left (Call.Builder Call.Silence) d h = absurd (omega arith)
-  left (Call.Builder (Call.Set k)) d h =
-      let e = frame-left (begunBy (g .frame .begin)) (g .frame .calls) (fieldOf k) h in
+  left (Call.Builder (Call.OnSnippet k)) d h =
+      let e = sym (ran-append snippetStep newSnippet (g .snippet) (k ∷ [])) ∙ snippet-answers (b .snippet) k .1 h in
+      record { builders = ap (λ (s : SnippetBuilder). record { snippet = s; frame = b .frame; sequence = b .sequence }) e; memory = refl }
+  left (Call.Builder (Call.BeginFrame k)) d h = absurd (d k refl)
+  left (Call.Builder (Call.OnFrame k)) d h =
+      let e = frame-left (begunBy (g .frame .begin)) (g .frame .calls) k h in
       record { builders = ap (λ (f : UnderWay). record { snippet = b .snippet; frame = f; sequence = b .sequence }) e; memory = refl }
   left (Call.Builder Call.SequenceNew) d h = absurd (omega arith)
   left (Call.Builder Call.AddFrame) d h =
-      let e = sym (ran-append sequenceStep frameFrom newSequence (g .sequence) (g .frame ∷ [])) ∙ sequence-answers (b .sequence) (g .frame .calls) (begunBy (g .frame .begin)) (three (g .frame .begin)) .1 h in
+      let e = sym (ran-append sequenceStep newSequence (g .sequence) (g .frame ∷ [])) ∙ sequence-answers (b .sequence) (g .frame .calls) (begunBy (g .frame .begin)) (three (g .frame .begin)) .1 h in
       let f = stays (grouped g (Call.Builder Call.AddFrame) .number) noFrame (g .frame) h in
       record { builders = λ i. record { snippet = b .snippet; frame = underWay (f i .calls) (begunBy (f i .begin)); sequence = e i }; memory = refl }
   left Call.AddSnippet d h =
@@ -79,45 +73,41 @@ none-begun g n e =
     let h = three (g .frame .begin) in
     let k : n ≡ 3 = rw e at h in
     record {
-      fields = λ j. ap (λ (t : Told FrameBuilder). answerOn t (g .frame .calls) (fieldOf j)) e ∙ k;
+      fields = λ j. ap (λ (t : Told FrameBuilder). answerOn t (g .frame .calls) j) e ∙ k;
       adding = ap (λ (t : Told FrameBuilder). withMadeFrame (sequenceFrom (g .sequence)) (g .frame .calls) t .number) e ∙ k;
     }
 
-refused-new : (g : Groups) (n : ℕ) → 0 < begunNumber (newFrame n) → NotBegun (grouped g (Call.Builder (Call.FrameNew n)) .builder)
-refused-new g n h = go (newFrame n) refl h where
-  go : (t : Told FrameBuilder) → newFrame n ≡ t → 0 < begunNumber t → NotBegun (grouped g (Call.Builder (Call.FrameNew n)) .builder)
+refused-new : (g : Groups) (b : Begin) → 0 < begunNumber (begunBy b) → NotBegun (grouped g (Call.Builder (Call.BeginFrame b)) .builder)
+refused-new g b h = go (begunBy b) refl h where
+  go : (t : Told FrameBuilder) → begunBy b ≡ t → 0 < begunNumber t → NotBegun (grouped g (Call.Builder (Call.BeginFrame b)) .builder)
   go (gives f) e k = absurd (omega arith)
-  go (refuses m) e k = none-begun (grouped g (Call.Builder (Call.FrameNew n)) .builder) m e
+  go (refuses m) e k = none-begun (grouped g (Call.Builder (Call.BeginFrame b)) .builder) m e
 
 -- a frame that answers 3 to a call that sets its gain is not begun
 abbrev Refused : Told FrameBuilder → Type 0
 Refused (gives f) = ⊥
 Refused (refuses n) = Unit
 
-not-begun : (t : Told FrameBuilder) (ks : List FrameCall) → answerOn t ks (fieldOf (Field.Gain 0)) ≡ 3 → Refused t
+not-begun : (t : Told FrameBuilder) (ks : List FrameCall) → answerOn t ks (gain Full) ≡ 3 → Refused t
 not-begun (gives f) ks e = let z : _≡_ {A = ℕ} 0 3 = e in absurd (omega arith)
 not-begun (refuses n) ks e = tt
 
 still : (g h : Groups) → NotBegun g → h .frame .begin ≡ g .frame .begin → NotBegun h
-still g h w e = go (begunBy (g .frame .begin)) refl (not-begun (begunBy (g .frame .begin)) (g .frame .calls) (w .fields (Field.Gain 0))) where
+still g h w e = go (begunBy (g .frame .begin)) refl (not-begun (begunBy (g .frame .begin)) (g .frame .calls) (w .fields (gain Full))) where
   go : (t : Told FrameBuilder) → begunBy (g .frame .begin) ≡ t → Refused t → NotBegun h
   go (gives f) d r = absurd r
   go (refuses n) d r = none-begun h n (ap begunBy e ∙ d)
 
-stays-none : (g : Groups) (k : Call) → NotBegun g → Begins k ⊎ NotBegun (grouped g k .builder)
-stays-none g (Call.Builder Call.SnippetNew) w = inr (still g _ w refl)
-stays-none g (Call.Builder (Call.Ramp t a)) w = inr (still g _ w refl)
-stays-none g (Call.Builder (Call.Step t a)) w = inr (still g _ w refl)
-stays-none g (Call.Builder (Call.Point b)) w = inr (still g _ w refl)
-stays-none g (Call.Builder (Call.FrameNew n)) w = inl tt
-stays-none g (Call.Builder Call.Silence) w = inl tt
-stays-none g (Call.Builder (Call.Set k)) w = inr (still g _ w refl)
-stays-none g (Call.Builder Call.SequenceNew) w = inr (still g _ w refl)
-stays-none g (Call.Builder Call.AddFrame) w =
-    inr (still g _ w (ap (λ (n : ℕ). leftBy n noFrame (g .frame) .begin) (w .adding)))
-stays-none g Call.AddSnippet w = inr (still g _ w refl)
-stays-none g Call.AddSequence w = inr (still g _ w refl)
-stays-none g Call.Unknown w = inr (still g _ w refl)
+stays-none : (g : Groups) (k : Call) → NotBegun g → ((b : Begin) → ¬ (k ≡ Call.Builder (Call.BeginFrame b))) → NotBegun (grouped g k .builder)
+stays-none g (Call.Builder Call.SnippetNew) w d = still g _ w refl
+stays-none g (Call.Builder (Call.OnSnippet k)) w d = still g _ w refl
+stays-none g (Call.Builder (Call.BeginFrame b)) w d = absurd (d b refl)
+stays-none g (Call.Builder (Call.OnFrame k)) w d = still g _ w refl
+stays-none g (Call.Builder Call.SequenceNew) w d = still g _ w refl
+stays-none g (Call.Builder Call.AddFrame) w d = still g _ w (ap (λ (n : ℕ). leftBy n noFrame (g .frame) .begin) (w .adding))
+stays-none g Call.AddSnippet w d = still g _ w refl
+stays-none g Call.AddSequence w d = still g _ w refl
+stays-none g Call.Unknown w d = still g _ w refl
 
 -- what was accepted is used up
 used : {A : Type 0} (n : ℕ) (fresh item : A) → n ≡ 0 → leftBy n fresh item ≡ fresh

@@ -7,9 +7,10 @@ use Rattle.sequence.specs.Sequence.{newSequence, builtSequence}
 use Rattle.calls.specs.Said.{Call}
 use Rattle.calls.specs.Said as Call
 use Rattle.calls.specs.declared.Builders.{Builders}
-use Rattle.calls.specs.Calls.{noCall, called}
+use Rattle.calls.specs.Calls.{called}
 use Rattle.memory.specs.declared.WaveformMemoryBuilder.{WaveformMemoryBuilder}
-use Rattle.pattern.specs.Calls.{withBuiltSnippet, withBuiltSequence}
+use Rattle.memory.specs.Memory.{withSnippet, withSequence}
+use Rattle.pattern.specs.Calls.{withBuilt}
 use Rattle.assemble.specs.Lists.{leftBy}
 
 -- the builders of all four kinds
@@ -35,7 +36,7 @@ abbrev pub flatCalled : State → Call → Handed State
 flatCalled s (Call.Builder k) =
     record { number = called (s .builders) k .number; builder = state (called (s .builders) k .builder) (s .memory) }
 flatCalled s Call.AddSnippet =
-    onMemory (lessSnippet (s .builders)) (withBuiltSnippet (s .memory) (builtSnippet (s .builders .snippet)))
+    onMemory (lessSnippet (s .builders)) (withBuilt withSnippet (s .memory) (builtSnippet (s .builders .snippet)))
 flatCalled s Call.AddSequence =
-    onMemory (lessSequence (s .builders)) (withBuiltSequence (s .memory) (builtSequence (s .builders .sequence)))
-flatCalled s Call.Unknown = refused noCall s
+    onMemory (lessSequence (s .builders)) (withBuilt withSequence (s .memory) (builtSequence (s .builders .sequence)))
+flatCalled s Call.Unknown = refused 14 s

@@ -5,20 +5,15 @@ use mathlib.Core.Bool.{false, cond}
 use mathlib.Core.List.{List, [], _∷_, _++_}
 use lib.Dec.{ltb}
 use Rattle.laws.specs.Copied.{copied}
-use Rattle.errors.specs.Told.{Told, gives, refuses, Handed, refused, Built}
-use Rattle.frame.specs.declared.FrameBuilder.{FrameBuilder}
-use Rattle.frame.specs.Read.{gainAt, timebaseAt}
-use Rattle.calls.specs.declared.FieldCall.{FieldCall}
-use Rattle.calls.specs.declared.FieldCall.the-variants as Field
+use Rattle.errors.specs.Told.{onTold, Handed, handed, Built}
 use Rattle.calls.specs.Said.{Call}
 use Rattle.calls.specs.Said as Call
-use Rattle.calls.specs.declared.UnderWay.{UnderWay}
 use Rattle.calls.specs.declared.UnderWay.the-variants as UnderWay
 use Rattle.calls.specs.declared.Builders.{Builders}
-use Rattle.calls.specs.Calls.{callsIn, noCall}
+use Rattle.calls.specs.Calls.{callsIn, builders, begunNumber}
 use Rattle.memory.specs.declared.WaveformMemory.{WaveformMemory}
 use Rattle.memory.specs.declared.WaveformMemoryBuilder.{WaveformMemoryBuilder}
-use Rattle.pattern.specs.Calls.{ran, answersTo, SnippetCall, ramp, step, point, snippetStep, snippetFrom, FrameCall, gain, timebase, loopCount, frequencyHz, Begin, new, silence, begunBy, FrameCalls, frameRan, frameCalled, sequenceStep, sequenceFrom, MemoryCall, addSnippet, addSequence, memoryStep, memoryFrom, builtFrom}
+use Rattle.pattern.specs.Calls.{ran, answersTo, SnippetCall, snippetStep, snippetFrom, frameStep, new, begunBy, FrameCalls, frameCalled, sequenceStep, sequenceFrom, MemoryCall, addSnippet, addSequence, memoryStep, memoryFrom, builtFrom}
 
 -- the calls that the snippet, the frame and the sequence under construction got since they were begun, and those that the memory got
 pub record Groups : Type 0 where
@@ -27,109 +22,66 @@ pub record Groups : Type 0 where
   pub sequence : List FrameCalls
   pub memory : List MemoryCall
 
+abbrev pub groups : List SnippetCall → FrameCalls → List FrameCalls → List MemoryCall → Groups
+groups s f q m = record { snippet = s; frame = f; sequence = q; memory = m }
+
 -- a frame that was not begun counts as `new` of number 0, which is refused with 3
 abbrev pub noFrame : FrameCalls
 noFrame = record { begin = new 0; calls = [] }
 
 abbrev pub noGroups : Groups
-noGroups = record { snippet = []; frame = noFrame; sequence = []; memory = [] }
+noGroups = groups [] noFrame [] []
 
--- ---- one call: its number is what its builder answers, and it joins that builder's calls, refused or not
+-- ---- one call
 
-abbrev pub toSnippet : Groups → SnippetCall → Handed Groups
-toSnippet g k =
-    record {
-      number = snippetStep (snippetFrom (g .snippet)) k .number;
-      builder = record { snippet = g .snippet ++ (k ∷ []); frame = g .frame; sequence = g .sequence; memory = g .memory };
-    }
+-- its number is what its builder answers; what says no call is refused with 14, NotSupported
+abbrev pub numberIn : Groups → Call → ℕ
+numberIn g (Call.Builder Call.SnippetNew) = 0
+numberIn g (Call.Builder (Call.OnSnippet k)) = snippetStep (snippetFrom (g .snippet)) k .number
+numberIn g (Call.Builder (Call.BeginFrame b)) = begunNumber (begunBy b)
+numberIn g (Call.Builder (Call.OnFrame k)) = frameCalled (g .frame) k
+numberIn g (Call.Builder Call.SequenceNew) = 0
+numberIn g (Call.Builder Call.AddFrame) = sequenceStep (sequenceFrom (g .sequence)) (g .frame) .number
+numberIn g Call.AddSnippet = memoryStep (memoryFrom false (g .memory)) (addSnippet (g .snippet)) .number
+numberIn g Call.AddSequence = memoryStep (memoryFrom false (g .memory)) (addSequence (g .sequence)) .number
+numberIn g Call.Unknown = 14
 
-abbrev pub withBegun : Groups → FrameCalls → Groups
-withBegun g m = record { snippet = g .snippet; frame = m; sequence = g .sequence; memory = g .memory }
-
-abbrev pub begunNumber : Told FrameBuilder → ℕ
-begunNumber (gives f) = 0
-begunNumber (refuses n) = n
-
--- accepted or not, the frame before is gone
-abbrev pub toBegin : Groups → Begin → Handed Groups
-toBegin g b = record { number = begunNumber (begunBy b); builder = withBegun g (record { begin = b; calls = [] }) }
-
-abbrev pub toFrame : Groups → FrameCall → Handed Groups
-toFrame g k =
-    record { number = frameCalled (g .frame) k; builder = withBegun g (record { begin = g .frame .begin; calls = g .frame .calls ++ (k ∷ []) }) }
-
--- what is added goes to the builder above; an accepted one is used up, a refused one stays
+-- what is added to another builder: with number n, an accepted one is used up, a refused one stays
 module _ {A : Type 0} (n : ℕ) (fresh : A) where
   abbrev pub leftBy : A → A
   leftBy item = cond (ltb 0 n) item fresh
 
-abbrev pub toSequence : Groups → Handed Groups
-toSequence g =
-    let n = sequenceStep (sequenceFrom (g .sequence)) (g .frame) .number in
-    record {
-      number = n;
-      builder = record { snippet = g .snippet; frame = leftBy n noFrame (g .frame); sequence = g .sequence ++ (g .frame ∷ []); memory = g .memory };
-    }
-
-abbrev pub snippetToMemory : Groups → Handed Groups
-snippetToMemory g =
-    let k = addSnippet (g .snippet) in
-    let n = memoryStep (memoryFrom false (g .memory)) k .number in
-    record {
-      number = n;
-      builder = record { snippet = leftBy n [] (g .snippet); frame = g .frame; sequence = g .sequence; memory = g .memory ++ (k ∷ []) };
-    }
-
-abbrev pub sequenceToMemory : Groups → Handed Groups
-sequenceToMemory g =
-    let k = addSequence (g .sequence) in
-    let n = memoryStep (memoryFrom false (g .memory)) k .number in
-    record {
-      number = n;
-      builder = record { snippet = g .snippet; frame = g .frame; sequence = leftBy n [] (g .sequence); memory = g .memory ++ (k ∷ []) };
-    }
-
-abbrev pub fieldOf : FieldCall → FrameCall
-fieldOf (Field.Gain c) = gain (gainAt c)
-fieldOf (Field.Timebase c) = timebase (timebaseAt c)
-fieldOf (Field.LoopCount k) = loopCount k
-fieldOf (Field.FrequencyHz f) = frequencyHz f
+-- with number n it joins its builder's calls, refused or not; `new`, refused or not, leaves nothing of what was begun before
+abbrev pub joining : ℕ → Groups → Call → Groups
+joining n g (Call.Builder Call.SnippetNew) = groups [] (g .frame) (g .sequence) (g .memory)
+joining n g (Call.Builder (Call.OnSnippet k)) = groups (g .snippet ++ (k ∷ [])) (g .frame) (g .sequence) (g .memory)
+joining n g (Call.Builder (Call.BeginFrame b)) = groups (g .snippet) (record { begin = b; calls = [] }) (g .sequence) (g .memory)
+joining n g (Call.Builder (Call.OnFrame k)) =
+    groups (g .snippet) (record { begin = g .frame .begin; calls = g .frame .calls ++ (k ∷ []) }) (g .sequence) (g .memory)
+joining n g (Call.Builder Call.SequenceNew) = groups (g .snippet) (g .frame) [] (g .memory)
+joining n g (Call.Builder Call.AddFrame) = groups (g .snippet) (leftBy n noFrame (g .frame)) (g .sequence ++ (g .frame ∷ [])) (g .memory)
+joining n g Call.AddSnippet = groups (leftBy n [] (g .snippet)) (g .frame) (g .sequence) (g .memory ++ (addSnippet (g .snippet) ∷ []))
+joining n g Call.AddSequence = groups (g .snippet) (g .frame) (leftBy n [] (g .sequence)) (g .memory ++ (addSequence (g .sequence) ∷ []))
+joining n g Call.Unknown = g
 
 abbrev pub grouped : Groups → Call → Handed Groups
-grouped g (Call.Builder Call.SnippetNew) = record { number = 0; builder = record { snippet = []; frame = g .frame; sequence = g .sequence; memory = g .memory } }
-grouped g (Call.Builder (Call.Ramp t a)) = toSnippet g (ramp t a)
-grouped g (Call.Builder (Call.Step t a)) = toSnippet g (step t a)
-grouped g (Call.Builder (Call.Point b)) = toSnippet g (point b)
-grouped g (Call.Builder (Call.FrameNew n)) = toBegin g (new n)
-grouped g (Call.Builder Call.Silence) = toBegin g silence
-grouped g (Call.Builder (Call.Set k)) = toFrame g (fieldOf k)
-grouped g (Call.Builder Call.SequenceNew) = record { number = 0; builder = record { snippet = g .snippet; frame = g .frame; sequence = []; memory = g .memory } }
-grouped g (Call.Builder Call.AddFrame) = toSequence g
-grouped g Call.AddSnippet = snippetToMemory g
-grouped g Call.AddSequence = sequenceToMemory g
-grouped g Call.Unknown = refused noCall g
+grouped g k = handed (numberIn g k) (joining (numberIn g k) g k)
 
 -- ---- a list of calls as bytes
 
 unfoldable pub groupsOf : List ℕ → Groups
-groupsOf bytes = ran grouped (λ (k : Call). k) noGroups (callsIn bytes)
+groupsOf bytes = ran grouped noGroups (callsIn bytes)
 
 -- the answer to each call
 unfoldable pub answersOf : List ℕ → List ℕ
-answersOf bytes = answersTo grouped (λ (k : Call). k) noGroups (callsIn bytes)
+answersOf bytes = answersTo grouped noGroups (callsIn bytes)
 
 -- the snippet, the frame and the sequence under construction after the calls
-abbrev pub underWay : List FrameCall → Told FrameBuilder → UnderWay
-underWay ks (gives f) = UnderWay.Begun (frameRan f ks)
-underWay ks (refuses n) = UnderWay.NotBegun
-
 abbrev pub buildersIn : Groups → Builders
 buildersIn g =
-    record {
-      snippet = snippetFrom (g .snippet);
-      frame = underWay (g .frame .calls) (begunBy (g .frame .begin));
-      sequence = sequenceFrom (g .sequence);
-    }
+    builders (snippetFrom (g .snippet))
+    (onTold (begunBy (g .frame .begin)) (λ f. UnderWay.Begun (ran frameStep f (g .frame .calls))) (λ n. UnderWay.NotBegun))
+    (sequenceFrom (g .sequence))
 
 abbrev pub buildersOf : List ℕ → Builders
 buildersOf bytes = buildersIn (groupsOf bytes)

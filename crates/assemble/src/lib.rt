@@ -12,10 +12,11 @@ ghost use Prim.Native.Nat.{min, _+_, _≤_, _<_};
 ghost use lib.Dec.{ltb};
 ghost use lib.ListN.{length, replicate, set};
 ghost use Rattle.laws.specs.Copied.{copied};
-ghost use Rattle.snippet.specs.Snippet as snippet;
-ghost use Rattle.sequence.specs.Sequence as sequence;
-ghost use Rattle.calls.specs.Calls.{callsIn, callOf, steppedTold};
-ghost use Rattle.pattern.specs.Calls.{memoryFrom, withBuiltSnippet, withBuiltSequence};
+ghost use Rattle.errors.specs.Number.{answerNumber};
+ghost use Rattle.errors.specs.Told.{handed, built};
+ghost use Rattle.memory.specs.Memory.{withSnippet, withSequence};
+ghost use Rattle.calls.specs.Calls.{callsIn, callOf};
+ghost use Rattle.pattern.specs.Calls.{memoryFrom, withBuilt};
 ghost use Rattle.assemble.specs.Lists.{groupsOf, answersOf, buildersOf, builtOf, imageOut, lastPlace, withPlace, firstRefused, strictly, strictOut};
 ghost use Rattle.assemble.specs.Flat.{lessSnippet, lessSequence};
 ghost use Rattle.assemble.specs.Kept.{roomFor, PushedUnless, addedNumber};
@@ -132,7 +133,7 @@ fn run(calls: &[u8], answers: &mut [u8], snippets: &mut [u8], sequences: &mut [u
 // Makes the call that a record says, on the builders or on the items kept.
 fn step(b: Builders, record: Record, snippets: &mut [u8], sequences: &mut [u8]) -> Stepped
     requires { ⌜ (length (now snippets) ≡ roomFor 15) × (length (now sequences) ≡ roomFor 16) ⌝ }
-    ensures { λ r. ⌜ StepsMemory b (callOf «record») (now (snippets .entry)) (now (sequences .entry)) (steppedTold r)
+    ensures { λ r. ⌜ StepsMemory b (callOf «record») (now (snippets .entry)) (now (sequences .entry)) (handed (r .number) (r .builders))
         (now (snippets .exit)) (now (sequences .exit)) ⌝ }
 {
     let code = record.code;
@@ -153,7 +154,7 @@ fn step(b: Builders, record: Record, snippets: &mut [u8], sequences: &mut [u8]) 
 
 // A snippet that was accepted is used up.
 fn less_snippet(b: Builders, number: u8) -> Stepped
-    ensures { λ r. ⌜ steppedTold r ≡ record { number = number; builder = lessSnippet b number } ⌝ }
+    ensures { λ r. ⌜ handed (r .number) (r .builders) ≡ handed number (lessSnippet b number) ⌝ }
 {
     if 0 < number {
         return Stepped {
@@ -177,7 +178,7 @@ fn less_snippet(b: Builders, number: u8) -> Stepped
 
 // A sequence that was accepted is used up.
 fn less_sequence(b: Builders, number: u8) -> Stepped
-    ensures { λ r. ⌜ steppedTold r ≡ record { number = number; builder = lessSequence b number } ⌝ }
+    ensures { λ r. ⌜ handed (r .number) (r .builders) ≡ handed number (lessSequence b number) ⌝ }
 {
     if 0 < number {
         return Stepped {
@@ -202,7 +203,8 @@ fn less_sequence(b: Builders, number: u8) -> Stepped
 // Puts a snippet behind the others, if it was built.
 fn add_snippet(list: &mut [u8], r: BuiltSnippet) -> u8
     requires { ⌜ length (now list) ≡ roomFor 15 ⌝ }
-    ensures { λ x. ⌜ StepsSnippets (λ m. withBuiltSnippet m (snippet.builtTold r)) (now (list .entry)) x (now (list .exit)) ⌝ }
+    ensures { λ x. ⌜ StepsSnippets (λ m. withBuilt withSnippet m (built (answerNumber (r .answer)) (r .snippet) (r .builder)))
+        (now (list .entry)) x (now (list .exit)) ⌝ }
 {
     let a = r.answer;
     let s = r.snippet;
@@ -220,7 +222,8 @@ fn add_snippet(list: &mut [u8], r: BuiltSnippet) -> u8
 // Puts a sequence behind the others, if it was built.
 fn add_sequence(list: &mut [u8], r: BuiltSequence) -> u8
     requires { ⌜ length (now list) ≡ roomFor 16 ⌝ }
-    ensures { λ x. ⌜ StepsSequences (λ m. withBuiltSequence m (sequence.builtTold r)) (now (list .entry)) x (now (list .exit)) ⌝ }
+    ensures { λ x. ⌜ StepsSequences (λ m. withBuilt withSequence m (built (answerNumber (r .answer)) (r .sequence) (r .builder)))
+        (now (list .entry)) x (now (list .exit)) ⌝ }
 {
     let a = r.answer;
     let s = r.sequence;

@@ -3,41 +3,29 @@ use mathlib.Core.Path.{_≡_, refl, sym, ap, _∙_}
 use mathlib.Core.Bool.{Bool, true, false, cond}
 use mathlib.Core.List.{List, [], _∷_}
 use lib.Dec.{ltb}
-use Prim.Native.Nat.{ℕ, zero, suc, _+_, _-_, _≤_, _<_, min}
-use native.Mathlib.Nat.{min-eq-left, min-eq-right, lt-of-not-le, le-of-eq}
+use Prim.Native.Nat.{ℕ, _+_, _-_, _≤_, _<_, min}
+use native.Mathlib.Nat.{min-eq-left, min-eq-right, lt-of-not-le, le-of-eq, add-zero}
 use native.Mathlib.Decide.{decLe}
 use native.Mathlib.Omega.{arith}
 use lib.ListN.{length, drop, getD, length-drop, drop-of-length-le}
-use lib.Seq.{drop-drop}
-use Rattle.calls.specs.declared.FieldCall.{FieldCall}
+use lib.Seq.{drop-drop, getD-drop}
+use borrow.Author.Tests.{lt-ltb, le-ltb}
+use Rattle.pattern.specs.Calls.{FrameCall}
 use Rattle.calls.specs.Said.{Call}
 use Rattle.calls.specs.Said as Call
-use Rattle.calls.specs.Calls.{chosen, noRecord, firstRecord, callOf, callsIn}
+use Rattle.calls.specs.Calls.{chosen, recordOf, firstRecord, callOf, callsIn}
 
 -- a whole record
 pub whole-record : (l : List ℕ) (at : ℕ) → at + 4 ≤ length l
-    → firstRecord (drop at l) ≡ record { code = getD l at 0; a = getD l (at + 1) 0; b = getD l (at + 2) 0 }
+    → firstRecord (drop at l) ≡ recordOf (getD l at 0) (getD l (at + 1) 0) (getD l (at + 2) 0)
 whole-record l at h =
-    let a : at + 1 ≡ suc at = omega arith in
-    let b : at + 2 ≡ suc (suc at) = omega arith in
-    rw (a, b) (go l at h) where
-      go : (l : List ℕ) (at : ℕ) → at + 4 ≤ length l → firstRecord (drop at l) ≡ record { code = getD l at 0; a = getD l (suc at) 0; b = getD l (suc (suc at)) 0 }
-      go [] at h = absurd (omega arith)
-      go (k ∷ []) zero h = absurd (omega arith)
-      go (k ∷ a ∷ []) zero h = absurd (omega arith)
-      go (k ∷ a ∷ b ∷ []) zero h = absurd (omega arith)
-      go (k ∷ a ∷ b ∷ c ∷ r) zero h = refl
-      go (k ∷ r) (suc at) h = go r at (omega arith)
+    let n = length-drop at l in
+    simp (le-ltb (length (drop at l)) 4 (omega arith))
+    (λ i. recordOf ((getD-drop at l 0 0 ∙ ap (λ (n : ℕ). getD l n 0) (add-zero at)) i) (getD-drop at l 1 0 i) (getD-drop at l 2 0 i))
 
 -- a shorter one
-pub short-record : (l : List ℕ) (at : ℕ) → length l - at < 4 → firstRecord (drop at l) ≡ noRecord
-short-record [] zero h = refl
-short-record [] (suc at) h = refl
-short-record (k ∷ []) zero h = refl
-short-record (k ∷ a ∷ []) zero h = refl
-short-record (k ∷ a ∷ b ∷ []) zero h = refl
-short-record (k ∷ a ∷ b ∷ c ∷ r) zero h = absurd (omega arith)
-short-record (k ∷ r) (suc at) h = short-record r at (omega arith)
+pub short-record : (l : List ℕ) (at : ℕ) → length l - at < 4 → firstRecord (drop at l) ≡ recordOf 0 0 0
+short-record l at h = let n = length-drop at l in simp (lt-ltb (length (drop at l)) 4 (omega arith))
 
 -- the first call and the calls behind it
 next : (l : List ℕ) → 0 < length l → callsIn l ≡ callOf (firstRecord l) ∷ callsIn (drop 4 l)
@@ -46,7 +34,7 @@ next [] h = absurd (omega arith)
 next (k ∷ []) h = refl
 next (k ∷ a ∷ []) h = refl
 next (k ∷ a ∷ b ∷ []) h = refl
-next (k ∷ a ∷ b ∷ c ∷ r) h = refl
+next (k ∷ a ∷ b ∷ c ∷ r) h = simp (le-ltb (length (k ∷ a ∷ b ∷ c ∷ r)) 4 (omega arith))
 
 -- the call at an index and the calls behind it
 pub calls-next : (l : List ℕ) (at after : ℕ) → at < length l → after ≡ min (at + 4) (length l) → callsIn (drop at l) ≡ callOf (firstRecord (drop at l)) ∷ callsIn (drop after l)
@@ -64,8 +52,8 @@ unfolding callsIn
 calls-none l at h = ap callsIn (drop-of-length-le l h)
 
 -- a choice of four says a call or none
-pub chosen-either : (P : Call → Type 0) (k : FieldCall) (code : ℕ) → P Call.Unknown → P (Call.Builder (Call.Set k)) → P (chosen k code)
+pub chosen-either : (P : Call → Type 0) (k : FrameCall) (code : ℕ) → P Call.Unknown → P (Call.Builder (Call.OnFrame k)) → P (chosen k code)
 chosen-either P k code h w = go (ltb 3 code) where
-  go : (t : Bool) → P (cond t Call.Unknown (Call.Builder (Call.Set k)))
+  go : (t : Bool) → P (cond t Call.Unknown (Call.Builder (Call.OnFrame k)))
   go true = h
   go false = w

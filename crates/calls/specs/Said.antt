@@ -1,16 +1,12 @@
 -- The builder calls that a record of a list can say.
-use Prim.Native.Nat.{ℕ}
-use Rattle.calls.specs.declared.FieldCall.{FieldCall}
+use Rattle.pattern.specs.Calls.{SnippetCall, FrameCall, Begin}
 
 -- on the snippet, the frame or the sequence under construction
 pub data BuilderCall : Type 0 where
   SnippetNew : BuilderCall
-  Ramp : ℕ → ℕ → BuilderCall
-  Step : ℕ → ℕ → BuilderCall
-  Point : ℕ → BuilderCall
-  FrameNew : ℕ → BuilderCall
-  Silence : BuilderCall
-  Set : FieldCall → BuilderCall
+  OnSnippet : SnippetCall → BuilderCall
+  BeginFrame : Begin → BuilderCall
+  OnFrame : FrameCall → BuilderCall
   SequenceNew : BuilderCall
   AddFrame : BuilderCall
 

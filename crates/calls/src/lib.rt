@@ -6,11 +6,12 @@
 ghost use mathlib.Core.Path.{_≡_};
 ghost use Prim.Native.Nat.{_+_, _*_};
 ghost use lib.ListN.{drop};
-ghost use Rattle.errors.specs.Told.{accepted, refused};
-ghost use Rattle.snippet.specs.Snippet as snippet;
-ghost use Rattle.frame.specs.Builder as frame;
-ghost use Rattle.sequence.specs.Sequence as sequence;
-ghost use Rattle.calls.specs.Calls.{chosen, firstRecord, callOf, noCall, calledBy, started, onSnippet, onFrame, onSequence, beginsFrame, withField, sets, uses, adds, steppedTold};
+ghost use Rattle.errors.specs.Number.{answerNumber};
+ghost use Rattle.errors.specs.Told.{handed, accepted, refused};
+ghost use Rattle.frame.specs.Builder.{newTold};
+ghost use Rattle.pattern.specs.Calls.{frameStep};
+ghost use Rattle.calls.specs.Said as Call;
+ghost use Rattle.calls.specs.Calls.{chosen, firstRecord, callOf, called, calledBy, builders, started, underWay, begunNumber, uses, fieldOf};
 use errors::Answer;
 use errors::Error;
 use frame::FrameBuilder;
@@ -107,7 +108,7 @@ impl Builders {
 
     // Makes the call that a record says; one on a memory is none here.
     pub fn apply(self, r: Record) -> Stepped
-        ensures { λ x. ⌜ steppedTold x ≡ calledBy self (callOf r) ⌝ }
+        ensures { λ x. ⌜ handed (x .number) (x .builders) ≡ calledBy self (callOf r) ⌝ }
     {
         let s = self.snippet;
         let a = r.a;
@@ -147,7 +148,7 @@ impl Builders {
 
     // The builders as they are, where a record says no call.
     fn no_call(self) -> Stepped
-        ensures { λ x. ⌜ steppedTold x ≡ refused noCall self ⌝ }
+        ensures { λ x. ⌜ handed (x .number) (x .builders) ≡ refused 14 self ⌝ }
     {
         Stepped {
             number: Error::NotSupported.number(),
@@ -157,7 +158,7 @@ impl Builders {
 
     // A choice of four by its code; a code above the last says no call.
     fn choose(self, call: FieldCall, code: u8) -> Stepped
-        ensures { λ x. ⌜ steppedTold x ≡ calledBy self (chosen call code) ⌝ }
+        ensures { λ x. ⌜ handed (x .number) (x .builders) ≡ calledBy self (chosen (fieldOf call) code) ⌝ }
     {
         if LAST_CHOICE < code {
             return self.no_call();
@@ -166,7 +167,8 @@ impl Builders {
     }
 
     fn with_snippet(self, r: AddedPoint) -> Stepped
-        ensures { λ x. ⌜ steppedTold x ≡ onSnippet self (snippet.addedTold r) ⌝ }
+        ensures { λ x. ⌜ handed (x .number) (x .builders)
+            ≡ handed (answerNumber (r .answer)) (builders (r .builder) (self .frame) (self .sequence)) ⌝ }
     {
         let a = r.answer;
         let s = r.builder;
@@ -184,7 +186,7 @@ impl Builders {
     }
 
     fn with_frame(self, number: u8, f: UnderWay) -> Stepped
-        ensures { λ x. ⌜ steppedTold x ≡ onFrame self number f ⌝ }
+        ensures { λ x. ⌜ handed (x .number) (x .builders) ≡ handed number (builders (self .snippet) f (self .sequence)) ⌝ }
     {
         let s = self.snippet;
         let q = self.sequence;
@@ -200,7 +202,8 @@ impl Builders {
     }
 
     fn with_sequence(self, r: AddedFrame) -> Stepped
-        ensures { λ x. ⌜ steppedTold x ≡ onSequence self (sequence.addedTold r) ⌝ }
+        ensures { λ x. ⌜ handed (x .number) (x .builders)
+            ≡ handed (answerNumber (r .answer)) (builders (self .snippet) (self .frame) (r .builder)) ⌝ }
     {
         let a = r.answer;
         let q = r.builder;
@@ -218,7 +221,8 @@ impl Builders {
     }
 
     fn begin(self, r: NewFrame) -> Stepped
-        ensures { λ x. ⌜ steppedTold x ≡ beginsFrame self (frame.newTold r) ⌝ }
+        ensures { λ x. ⌜ handed (x .number) (x .builders)
+            ≡ handed (begunNumber (newTold r)) (builders (self .snippet) (underWay (newTold r)) (self .sequence)) ⌝ }
     {
         match r {
             NewFrame::Builder(f) => self.with_frame(0, UnderWay::Begun(f)),
@@ -228,7 +232,7 @@ impl Builders {
 
     // The builders as they are, where no frame is begun.
     fn not_begun(self) -> Stepped
-        ensures { λ x. ⌜ steppedTold x ≡ refused 3 self ⌝ }
+        ensures { λ x. ⌜ handed (x .number) (x .builders) ≡ refused 3 self ⌝ }
     {
         Stepped {
             number: Error::InvalidSnippetId.number(),
@@ -237,7 +241,7 @@ impl Builders {
     }
 
     fn set(self, call: FieldCall) -> Stepped
-        ensures { λ x. ⌜ steppedTold x ≡ sets self call (self .frame) ⌝ }
+        ensures { λ x. ⌜ handed (x .number) (x .builders) ≡ called self (Call.OnFrame (fieldOf call)) ⌝ }
     {
         let f = self.frame;
         match f {
@@ -253,7 +257,7 @@ impl Builders {
 
     // Adds the frame to the sequence.
     fn add_frame(self) -> Stepped
-        ensures { λ x. ⌜ steppedTold x ≡ adds self (self .frame) ⌝ }
+        ensures { λ x. ⌜ handed (x .number) (x .builders) ≡ called self Call.AddFrame ⌝ }
     {
         let f = self.frame;
         let q = self.sequence;
@@ -265,7 +269,7 @@ impl Builders {
 
     // A frame that was accepted is used up.
     fn used(self, r: AddedFrame) -> Stepped
-        ensures { λ x. ⌜ steppedTold x ≡ uses self (sequence.addedTold r) ⌝ }
+        ensures { λ x. ⌜ handed (x .number) (x .builders) ≡ uses self (handed (answerNumber (r .answer)) (r .builder)) ⌝ }
     {
         let a = r.answer;
         let n = a.number();
@@ -287,7 +291,7 @@ impl Builders {
 }
 
 fn with_field(f: FrameBuilder, call: FieldCall) -> SetFrame
-    ensures { λ r. ⌜ frame.setTold r ≡ withField f call ⌝ }
+    ensures { λ r. ⌜ handed (answerNumber (r .answer)) (r .builder) ≡ frameStep f (fieldOf call) ⌝ }
 {
     match call {
         FieldCall::Gain(g) => done(f.gain(frame::Gain::from_code(g))),
@@ -298,7 +302,7 @@ fn with_field(f: FrameBuilder, call: FieldCall) -> SetFrame
 }
 
 fn done(f: FrameBuilder) -> SetFrame
-    ensures { λ r. ⌜ frame.setTold r ≡ accepted f ⌝ }
+    ensures { λ r. ⌜ handed (answerNumber (r .answer)) (r .builder) ≡ accepted f ⌝ }
 {
     SetFrame {
         answer: Answer::Done,

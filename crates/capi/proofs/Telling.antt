@@ -27,7 +27,8 @@ use Rattle.pattern.proofs.Sequences.{sequence-holds}
 use Rattle.assemble.specs.Lists.{groupsOf, buildersOf}
 use Rattle.assemble.proofs.Strict.{strict}
 use Rattle.readings.proofs.Telling.{readings-told}
-use Rattle.capi.specs.Items.{itemFrom, frameUnderWay, fullLength, copiedLength}
+use Rattle.capi.specs.Items.{fullLength, copiedLength}
+use Rattle.capi.proofs.Words.{itemFrom, frameUnderWay}
 use Rattle.capi.specs.Telling.{Tells, Telling}
 
 tells : {A : Type 0} (bits : ℕ) (answer : A → Told ℕ) → ((x : A) → Room bits (answer x)) → Tells bits answer
@@ -92,9 +93,9 @@ telling =
       frames = tells 16 _ (λ x. frame-room (x .0) (buildersOf (x .1) .frame));
       sequences =
           tells 16 _ (λ x. copied-room sequenceBytes (builtSequence (buildersOf (x .1) .sequence)) (sequence-few (buildersOf (x .1) .sequence) (sequence-holds (groupsOf (x .1) .sequence) .long)) (x .0));
-      counts = tells 16 _ (λ x. readings-told .answers (x .0) (x .1) .counts);
-      imagePoints = λ i j. tells 16 _ (λ x. readings-told .answers (x .0) (x .1) .point i j);
-      imageFrames = λ i j. tells 56 _ (λ x. readings-told .answers (x .0) (x .1) .frame i j);
+      counts = tells 16 _ (λ x. readings-told .counts (x .0) (x .1));
+      imagePoints = λ i j. tells 16 _ (λ x. readings-told .point (x .0) (x .1) i j);
+      imageFrames = λ i j. tells 56 _ (λ x. readings-told .frame (x .0) (x .1) i j);
       images = readings-told;
       strict = strict;
     }

@@ -12,7 +12,8 @@ use Rattle.laws.specs.Bytes.{All, Bytes}
 use Rattle.frame.specs.declared.FrameBuilder.{FrameBuilder}
 use Rattle.frame.proofs.Canon.{canon}
 use Rattle.memory.specs.Image.{joined, endPointers, imageSize, imageBytes}
-use Rattle.content.specs.Content.{Point, Content, pointBytes, framesBytes, imageOf, SnippetAdmitted, SequenceAdmitted, Admitted, Same}
+use Rattle.content.specs.Content.{Point, Content, pointBytes, framesBytes, imageOf, Admitted, Same}
+use Rattle.content.proofs.Admits.{SnippetAdmitted, SequenceAdmitted}
 use Rattle.content.specs.ReadImage.{andThen, every, readSnippet, readSequence, Items, readItems, contentIn, readImage}
 use Rattle.content.proofs.Codec.{Codec, every-codec, refuses, same, write-canon, good-canon, then-some, some-inj, map-id, all-append, all-left, all-right, all-map}
 use Rattle.content.proofs.Points.{snippet-codec, snippet-long}
@@ -75,13 +76,13 @@ items-good c a =
     let ns = length-map (c .snippets) pointBytes in
     let nq = length-map (c .sequences) framesBytes in
     record {
-      someSnippets = omega (arith, a .someSnippets);
-      fewSnippets = omega (arith, a .fewSnippets);
-      someSequences = omega (arith, a .someSequences);
-      fewSequences = omega (arith, a .fewSequences);
+      someSnippets = omega (arith, a .snippets .nonempty);
+      fewSnippets = omega (arith, a .snippets .few);
+      someSequences = omega (arith, a .sequences .nonempty);
+      fewSequences = omega (arith, a .sequences .few);
       full = all-append NotEmpty (map pointBytes (c .snippets)) (map framesBytes (c .sequences))
-          (all-map NotEmpty pointBytes snippet-long (c .snippets) (a .snippet))
-          (all-map NotEmpty framesBytes sequence-long (c .sequences) (a .sequence));
+          (all-map NotEmpty pointBytes snippet-long (c .snippets) (a .snippets .each))
+          (all-map NotEmpty framesBytes sequence-long (c .sequences) (a .sequences .each));
       fits = a .fits;
     }
 
@@ -96,12 +97,8 @@ whole l r s q g w gs gq =
     let ns = length-map s pointBytes in
     let nq = length-map q framesBytes in (
       record {
-        someSnippets = omega (arith, h .someSnippets);
-        fewSnippets = omega (arith, h .fewSnippets);
-        snippet = gs .0;
-        someSequences = omega (arith, h .someSequences);
-        fewSequences = omega (arith, h .fewSequences);
-        sequence = gq .0;
+        snippets = record { nonempty = omega (arith, h .someSnippets); few = omega (arith, h .fewSnippets); each = gs .0 };
+        sequences = record { nonempty = omega (arith, h .someSequences); few = omega (arith, h .fewSequences); each = gq .0 };
         fits = h .fits;
       },
       ap written (sym p) ∙ w,
@@ -124,8 +121,8 @@ unfolding readImage imageOf canonical
 image-complete c a =
     rw (
       items-complete (itemsOf c) (items-good c a),
-      snippets-codec .complete (c .snippets) (a .snippet),
-      sequences-codec .complete (c .sequences) (a .sequence),
+      snippets-codec .complete (c .snippets) (a .snippets .each),
+      sequences-codec .complete (c .sequences) (a .sequences .each),
       map-id (c .snippets),
     )
 
@@ -133,7 +130,7 @@ pub image-bytes : (c : Content) → Admitted c → Bytes (imageOf c)
 unfolding imageOf
 image-bytes c a =
     outer-bytes (itemsOf c) (items-good c a)
-    (all-append Bytes (map pointBytes (c .snippets)) (map framesBytes (c .sequences)) (snippets-codec .fit (c .snippets) (a .snippet)) (sequences-codec .fit (c .sequences) (a .sequence)))
+    (all-append Bytes (map pointBytes (c .snippets)) (map framesBytes (c .sequences)) (snippets-codec .fit (c .snippets) (a .snippets .each)) (sequences-codec .fit (c .sequences) (a .sequences .each)))
 
 pub image-codec : Codec Bytes readImage imageOf Admitted canonical
 image-codec = record { sound = image-sound; complete = image-complete; fit = image-bytes }

@@ -1,3 +1,4 @@
+pub mod Admits
 pub mod Codec
 pub mod Images
 pub mod Items

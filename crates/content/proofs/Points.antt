@@ -12,8 +12,9 @@ use lib.ListN.{length, length-map}
 use Rattle.laws.specs.Bytes.{All, Bytes}
 use Rattle.snippet.specs.Point.{pointByte, PointAdmitted}
 use Rattle.snippet.proofs.Points.{ramp-back, timebases-back, amplitude-back, byte-back, byte-admitted}
-use Rattle.content.specs.Content.{Point, byteOf, pointBytes, SnippetAdmitted}
-use Rattle.content.specs.ReadImage.{pointIn, pointsIn, readSnippet}
+use Rattle.content.specs.Content.{Point, byteOf, pointBytes}
+use Rattle.content.specs.ReadImage.{pointIn, readSnippet}
+use Rattle.content.proofs.Admits.{SnippetAdmitted, pointsIn}
 use Rattle.content.proofs.Codec.{Codec, cond-some, cond-on, some-inj, cons-eq}
 
 -- a point that the builders admit

@@ -18,7 +18,8 @@ use Rattle.frame.proofs.Canon.{canon}
 use Rattle.frame.proofs.Reading.{first-small, Starts, complete}
 use Rattle.frame.proofs.Written.{sound}
 use Rattle.frame.proofs.Frames.{frame-bytes}
-use Rattle.content.specs.Content.{framesBytes, SequenceAdmitted}
+use Rattle.content.specs.Content.{framesBytes}
+use Rattle.content.proofs.Admits.{SequenceAdmitted}
 use Rattle.content.specs.ReadImage.{andThen, readFrames, readSequence}
 use Rattle.content.proofs.Codec.{Codec, cond-some, cond-on, some-inj, none-some, then-some, all-append, all-right}
 

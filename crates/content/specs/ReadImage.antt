@@ -2,7 +2,7 @@
 -- document 01, 'The hundred bytes'. proofs/Images.antt: it is the one whose image the bytes are, if there is one.
 use Prim.Native.Nat.{ℕ, zero, suc, _+_, _-_}
 use mathlib.Core.Bool.{Bool, true, cond, _&&_}
-use mathlib.Core.List.{List, [], _∷_}
+use mathlib.Core.List.{List, [], _∷_, map}
 use mathlib.Core.Option.{Option, none, some}
 use lib.Dec.{ltb, leb, eqb}
 use lib.ListN.{length, take, drop}
@@ -11,10 +11,14 @@ use Rattle.frame.specs.declared.FrameBuilder.{FrameBuilder}
 use Rattle.frame.specs.Read.{readFrame}
 use Rattle.content.specs.Content.{Point, Content}
 
+-- what is said where there is none, and where there is one
+abbrev pub onOption {ℓ} : {A : Type 0} {B : Type ℓ} → Option A → B → (A → B) → B
+onOption none absent given = absent
+onOption (some a) absent given = given a
+
 -- what follows where the first is there
 abbrev pub andThen : {A B : Type 0} → Option A → (A → Option B) → Option B
-andThen none f = none
-andThen (some a) f = f a
+andThen o f = onOption o none f
 
 -- each of a list, if every one is there
 abbrev pub every : {A B : Type 0} → (A → Option B) → List A → Option (List B)
@@ -26,13 +30,9 @@ every f (x ∷ xs) = andThen (f x) (λ y. andThen (every f xs) (λ ys. some (y �
 abbrev pub pointIn : ℕ → Point
 pointIn b = record { ramp = rampIn b; timebases = timebasesIn b; amplitude = amplitudeIn b }
 
-abbrev pub pointsIn : List ℕ → List Point
-pointsIn [] = []
-pointsIn (b ∷ bs) = pointIn b ∷ pointsIn bs
-
 -- 1 to 16 points, each a byte
 unfoldable pub readSnippet : List ℕ → Option (List Point)
-readSnippet bs = cond (leb 1 (length bs) && leb (length bs) 16) (some (pointsIn bs)) none
+readSnippet bs = cond (leb 1 (length bs) && leb (length bs) 16) (some (map pointIn bs)) none
 
 -- at most k frames, up to the end of the bytes
 abbrev pub readFrames : ℕ → List ℕ → Option (List FrameBuilder)

@@ -14,7 +14,8 @@ use Rattle.frame.specs.declared.Frequency.{Frequency}
 use Rattle.frame.specs.declared.Frequency.the-variants as Frequency
 use Rattle.frame.specs.declared.FrameBuilder.{FrameBuilder}
 use Rattle.frame.specs.Agreement.{Agree, FrameAdmitted}
-use Rattle.frame.specs.Frame.{bytesOf, hasSecond, secondByte, thirdByte, loops, frequencyBits}
+use Rattle.frame.specs.Frame.{bytesOf, hasSecond, secondByte}
+use Rattle.frame.proofs.Parts.{loops, frequencyBits, thirdByte}
 use Rattle.frame.specs.Read.{Parsed, readFrame}
 use Rattle.frame.proofs.Canon.{canon, canon-agree, agree-canon}
 use Rattle.frame.proofs.Reading.{first-small, complete}

@@ -18,11 +18,12 @@ use Rattle.frame.specs.declared.LoopCount.the-variants as LoopCount
 use Rattle.frame.specs.declared.Frequency.{Frequency}
 use Rattle.frame.specs.declared.Frequency.the-variants as Frequency
 use Rattle.frame.specs.declared.FrameBuilder.{FrameBuilder}
-use Rattle.frame.specs.Agreement.{FrameAdmitted, LoopAdmitted, FrequencyAdmitted, absentIsZero}
+use Rattle.frame.specs.Agreement.{FrameAdmitted}
 use Rattle.frame.specs.Builder.{frameWith}
-use Rattle.frame.specs.Frame.{gainCode, timebaseCode, firstByte, secondByte, thirdByte, loopGiven, loops, bytesOf}
+use Rattle.frame.specs.Frame.{gainCode, timebaseCode, firstByte, secondByte, bytesOf}
 use Rattle.frame.specs.Read.{gainAt, timebaseAt, fieldsIn, oneByte, twoBytes, threeBytes, Parsed, parsed, readThird, readSecond, readAfter, readFrame}
-use Rattle.frame.proofs.Canon.{written, canon}
+use Rattle.frame.proofs.Canon.{canon}
+use Rattle.frame.proofs.Parts.{loops, loopGiven, thirdByte, LoopAdmitted, FrequencyAdmitted, absentIsZero, written}
 
 -- ---- codes, both ways
 

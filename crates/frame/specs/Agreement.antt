@@ -1,28 +1,19 @@
 -- When two frames agree, in the words of demand 3, and which frames the builders admit (document 01, 'The hundred bytes'); a frame is
 -- told by its builder's fields. Admitted frames agree exactly when their bytes are the same: proofs/Frames.antt.
-use Prim.Native.Nat.{ℕ, _≤_}
+use Prim.Native.Nat.{_≤_}
 use mathlib.Core.Path.{_≡_}
-use mathlib.Core.Bool.{Bool, true, false}
+use mathlib.Core.Bool.{true, cond}
 use lib.Dec.{leb}
 use Rattle.frame.specs.declared.LoopCount.{LoopCount}
 use Rattle.frame.specs.declared.LoopCount.the-variants as LoopCount
-use Rattle.frame.specs.declared.Frequency.{Frequency}
-use Rattle.frame.specs.declared.Frequency.the-variants as Frequency
 use Rattle.frame.specs.declared.FrameBuilder.{FrameBuilder}
+use Rattle.frame.specs.Frame.{onLoop, onFrequency}
 
--- "if the snippet number is 8 or more or a frequency is given"
-abbrev pub absentIsZero : ℕ → Frequency → Bool
-absentIsZero n Frequency.Absent = leb 8 n
-absentIsZero n (Frequency.Given f) = true
-
--- "an absent loop count equals 0" in that case
-abbrev pub LoopsAgree : Bool → LoopCount → LoopCount → Type 0
-LoopsAgree zero? LoopCount.Absent LoopCount.Absent = Unit
-LoopsAgree zero? (LoopCount.Given j) (LoopCount.Given k) = j ≡ k
-LoopsAgree true LoopCount.Absent (LoopCount.Given k) = 0 ≡ k
-LoopsAgree true (LoopCount.Given j) LoopCount.Absent = j ≡ 0
-LoopsAgree false LoopCount.Absent (LoopCount.Given k) = ⊥
-LoopsAgree false (LoopCount.Given j) LoopCount.Absent = ⊥
+-- "an absent loop count equals 0 if the snippet number is 8 or more or a frequency is given"
+abbrev pub loopMeant : FrameBuilder → LoopCount
+loopMeant f =
+    onLoop (f .«loop_count») (cond (onFrequency (f .frequency) (leb 8 (f .«snippet_id»)) (λ _. true)) (LoopCount.Given 0) LoopCount.Absent)
+    LoopCount.Given
 
 -- "Frames agree when gain, timebase, snippet number, frequency (or its absence) and loop count agree"
 pub record Agree (a b : FrameBuilder) : Type 0 where
@@ -30,20 +21,10 @@ pub record Agree (a b : FrameBuilder) : Type 0 where
   pub timebases : a .timebase ≡ b .timebase
   pub numbers : a .«snippet_id» ≡ b .«snippet_id»
   pub frequencies : a .frequency ≡ b .frequency
-  pub loopCounts : LoopsAgree (absentIsZero (a .«snippet_id») (a .frequency)) (a .«loop_count») (b .«loop_count»)
-
--- a loop count 0..15 or absent
-abbrev pub LoopAdmitted : LoopCount → Type 0
-LoopAdmitted LoopCount.Absent = Unit
-LoopAdmitted (LoopCount.Given k) = k ≤ 15
-
--- a frequency 0..511 or absent
-abbrev pub FrequencyAdmitted : Frequency → Type 0
-FrequencyAdmitted Frequency.Absent = Unit
-FrequencyAdmitted (Frequency.Given f) = f ≤ 511
+  pub loopCounts : loopMeant a ≡ loopMeant b
 
 -- "number 0 (silence) to 15, loop count 0..15 or absent, frequency 0..511 or absent"; gain and timebase codes are 0..3 by their types
 pub record FrameAdmitted (b : FrameBuilder) : Type 0 where
   pub numberFits : b .«snippet_id» ≤ 15
-  pub loopFits : LoopAdmitted (b .«loop_count»)
-  pub frequencyFits : FrequencyAdmitted (b .frequency)
+  pub loopFits : onLoop (b .«loop_count») Unit (λ k. k ≤ 15)
+  pub frequencyFits : onFrequency (b .frequency) Unit (λ f. f ≤ 511)

@@ -3,7 +3,7 @@
 use Prim.Native.Nat.{ℕ}
 use mathlib.Core.Bool.{cond}
 use lib.Dec.{ltb}
-use Rattle.errors.specs.Number.{errorNumber, answerNumber}
+use Rattle.errors.specs.Number.{errorNumber}
 use Rattle.errors.specs.Told.{Told, gives, refuses, Handed, accepted, refused}
 use Rattle.frame.specs.declared.Gain.{Gain}
 use Rattle.frame.specs.declared.Gain.the-variants.{Full}
@@ -16,7 +16,6 @@ use Rattle.frame.specs.declared.Frequency.the-variants as Frequency
 use Rattle.frame.specs.declared.FrameBuilder.{FrameBuilder}
 use Rattle.frame.specs.declared.NewFrame.{NewFrame}
 use Rattle.frame.specs.declared.NewFrame.the-variants as NewFrame
-use Rattle.frame.specs.declared.SetFrame.{SetFrame}
 
 -- a frame of its five fields
 abbrev pub frameWith : ℕ → Gain → Timebase → LoopCount → Frequency → FrameBuilder
@@ -58,7 +57,3 @@ abbrev pub withFrequency : FrameBuilder → ℕ → Handed FrameBuilder
 withFrequency b f =
     cond (ltb 511 f) (refused 5 b)
     (accepted (frameWith (b .«snippet_id») (b .gain) (b .timebase) (b .«loop_count») (Frequency.Given f)))
-
--- what setting a field answers, in these terms
-abbrev pub setTold : SetFrame → Handed FrameBuilder
-setTold r = record { number = answerNumber (r .answer); builder = r .builder }

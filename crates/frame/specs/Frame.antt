@@ -33,20 +33,14 @@ timebaseCode «Ms21_76» = 1
 timebaseCode «Ms43_52» = 2
 timebaseCode «Ms87_04» = 3
 
--- a loop count, 0 if absent
-abbrev pub loops : LoopCount → ℕ
-loops LoopCount.Absent = 0
-loops (LoopCount.Given k) = k % 16
+-- what is said of a loop count, one where it is absent and one where it is given; the same of a frequency
+abbrev pub onLoop {ℓ} : {A : Type ℓ} → LoopCount → A → (ℕ → A) → A
+onLoop LoopCount.Absent absent given = absent
+onLoop (LoopCount.Given k) absent given = given k
 
--- whether a loop count was given
-abbrev pub loopGiven : LoopCount → Bool
-loopGiven LoopCount.Absent = false
-loopGiven (LoopCount.Given k) = true
-
--- whether a frequency was given
-abbrev pub frequencyGiven : Frequency → Bool
-frequencyGiven Frequency.Absent = false
-frequencyGiven (Frequency.Given f) = true
+abbrev pub onFrequency {ℓ} : {A : Type ℓ} → Frequency → A → (ℕ → A) → A
+onFrequency Frequency.Absent absent given = absent
+onFrequency (Frequency.Given f) absent given = given f
 
 -- ---- the bytes
 
@@ -54,27 +48,18 @@ frequencyGiven (Frequency.Given f) = true
 abbrev pub firstByte : FrameBuilder → ℕ
 firstByte b = gainCode (b .gain) * 32 + timebaseCode (b .timebase) * 8 + b .«snippet_id» % 8
 
--- frequency-present in bit 2, frequency bit 8 in bit 1
-abbrev pub frequencyBits : Frequency → ℕ
-frequencyBits Frequency.Absent = 0
-frequencyBits (Frequency.Given f) = 4 + f / 256 % 2 * 2
-
--- bit 7 set, loop count in bits 6..3, frequency bits in 2..1, snippet number bit 3 in bit 0
+-- bit 7 set, loop count (0 if absent) in bits 6..3, frequency-present in 2, frequency bit 8 in 1, snippet number bit 3 in 0
 abbrev pub secondByte : FrameBuilder → ℕ
-secondByte b = 128 + loops (b .«loop_count») * 8 + frequencyBits (b .frequency) + b .«snippet_id» / 8 % 2
-
--- the low eight bits of a frequency
-abbrev pub thirdByte : Frequency → List ℕ
-thirdByte Frequency.Absent = []
-thirdByte (Frequency.Given f) = f % 256 ∷ []
+secondByte b =
+    128 + onLoop (b .«loop_count») 0 (λ k. k % 16) * 8 + onFrequency (b .frequency) 0 (λ f. 4 + f / 256 % 2 * 2) + b .«snippet_id» / 8 % 2
 
 -- a second byte follows if the number is 8 or more, or a loop count or a frequency was given
 abbrev pub hasSecond : FrameBuilder → Bool
-hasSecond b = frequencyGiven (b .frequency) || loopGiven (b .«loop_count») || leb 8 (b .«snippet_id» % 16)
+hasSecond b = onFrequency (b .frequency) false (λ _. true) || onLoop (b .«loop_count») false (λ _. true) || leb 8 (b .«snippet_id» % 16)
 
--- one to three bytes
+-- one to three bytes: the third is the low eight bits of a frequency
 abbrev pub bytesOf : FrameBuilder → List ℕ
-bytesOf b = firstByte b ∷ cond (hasSecond b) (secondByte b ∷ thirdByte (b .frequency)) []
+bytesOf b = firstByte b ∷ cond (hasSecond b) (secondByte b ∷ onFrequency (b .frequency) [] (λ f. f % 256 ∷ [])) []
 
 -- ---- a built frame
 

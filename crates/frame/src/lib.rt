@@ -11,11 +11,13 @@ ghost use mathlib.Core.Path.{_≡_};
 ghost use Prim.Native.Nat.{min, _%_, _+_, _^_, _≤_, _<_};
 ghost use lib.ListN.{length, drop};
 ghost use Rattle.laws.specs.Copied.{copied};
+ghost use Rattle.errors.specs.Number.{answerNumber};
+ghost use Rattle.errors.specs.Told.{handed};
 ghost use Rattle.frame.specs.Builder.{frameWith, plainFrame, silentFrame, newFrame, newTold};
-ghost use Rattle.frame.specs.Builder.{withGain, withTimebase, withLoopCount, withFrequency, setTold};
+ghost use Rattle.frame.specs.Builder.{withGain, withTimebase, withLoopCount, withFrequency};
 ghost use Rattle.frame.specs.Read.{gainAt, timebaseAt, fieldsIn, oneByte, twoBytes, threeBytes, secondAt, firstFrame, readTold};
-ghost use Rattle.frame.specs.Frame.{gainCode, timebaseCode, loops, frameBytes, builtFrame};
-ghost use Rattle.frame.specs.Word.{loopByte, frequencyWord, frameWord};
+ghost use Rattle.frame.specs.Frame.{gainCode, timebaseCode, onLoop, onFrequency, frameBytes, builtFrame};
+ghost use Rattle.frame.specs.Word.{frameWord};
 use errors::Answer;
 use errors::Error;
 
@@ -195,7 +197,7 @@ impl FrameBuilder {
 
     // Sets the loop count, or InvalidLoopCount for one above 15.
     pub fn loop_count(self, count: u8) -> SetFrame
-        ensures { λ r. ⌜ setTold r ≡ withLoopCount self count ⌝ }
+        ensures { λ r. ⌜ handed (answerNumber (r .answer)) (r .builder) ≡ withLoopCount self count ⌝ }
     {
         if 15 < count {
             return SetFrame {
@@ -215,7 +217,7 @@ impl FrameBuilder {
 
     // Sets the frequency, or InvalidFrequency for one above 511.
     pub fn frequency_hz(self, freq_hz: u16) -> SetFrame
-        ensures { λ r. ⌜ setTold r ≡ withFrequency self «freq_hz» ⌝ }
+        ensures { λ r. ⌜ handed (answerNumber (r .answer)) (r .builder) ≡ withFrequency self «freq_hz» ⌝ }
     {
         if 511 < freq_hz {
             return SetFrame {
@@ -313,7 +315,7 @@ impl FrameBuilder {
 
 // A loop count, 0 if absent; only its low four bits count.
 fn loop_code(c: LoopCount) -> u8
-    ensures { λ r. ⌜ r % 16 ≡ loops c ⌝ }
+    ensures { λ r. ⌜ r % 16 ≡ onLoop c 0 (λ k. k % 16) ⌝ }
 {
     match c {
         LoopCount::Absent => 0,
@@ -345,7 +347,7 @@ impl FrameBuilder {
 
 // A loop count, 255 if absent.
 fn loop_byte(k: LoopCount) -> u8
-    ensures { λ r. ⌜ r ≡ loopByte k ⌝ }
+    ensures { λ r. ⌜ r ≡ onLoop k 255 (λ n. n) ⌝ }
 {
     match k {
         LoopCount::Absent => 255,
@@ -355,7 +357,7 @@ fn loop_byte(k: LoopCount) -> u8
 
 // A frequency, 65535 if absent.
 fn frequency_word(f: Frequency) -> u16
-    ensures { λ r. ⌜ r ≡ frequencyWord f ⌝ }
+    ensures { λ r. ⌜ r ≡ onFrequency f 65535 (λ n. n) ⌝ }
 {
     match f {
         Frequency::Absent => 65535,

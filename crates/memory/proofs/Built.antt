@@ -15,7 +15,7 @@ use Rattle.sequence.specs.Sequence.{sequenceBytes}
 use Rattle.memory.specs.declared.WaveformMemory.{WaveformMemory}
 use Rattle.memory.specs.declared.WaveformMemoryBuilder.{WaveformMemoryBuilder}
 use Rattle.memory.specs.Image.{joined, imageSize, imageBytes}
-use Rattle.memory.specs.Memory.{snippetItems, sequenceItems, noMemory, memoryOf, imageNumber, answered, builtMemory}
+use Rattle.memory.specs.Memory.{snippetItems, sequenceItems, noMemory, memoryOf, imageNumber, builtMemory}
 use Rattle.memory.proofs.Turns.{took}
 use Rattle.memory.proofs.Images.{image-size}
 
@@ -27,6 +27,9 @@ sequencesIn b q = map sequenceBytes (take q (b .sequences))
 
 abbrev answer : ℕ → WaveformMemory → WaveformMemoryBuilder → Built WaveformMemory WaveformMemoryBuilder
 answer n m b = record { number = n; item = m; builder = b }
+
+abbrev answered : ℕ → List (List ℕ) → List (List ℕ) → WaveformMemoryBuilder → Built WaveformMemory WaveformMemoryBuilder
+answered n snippets sequences b = answer n (cond (ltb 0 n) noMemory (memoryOf snippets sequences)) b
 
 -- s and q are how many the builder shows
 pub record Counts (b : WaveformMemoryBuilder) (s q : ℕ) : Type 0 where

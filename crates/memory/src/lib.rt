@@ -7,11 +7,13 @@ ghost use mathlib.Core.List.{map};
 ghost use Prim.Native.Nat.{_+_, _*_, _≤_, _<_, min};
 ghost use lib.Dec.{ltb};
 ghost use lib.ListN.{length, take};
+ghost use Rattle.errors.specs.Number.{answerNumber};
+ghost use Rattle.errors.specs.Told.{handed, built};
 ghost use Rattle.snippet.specs.Snippet.{snippetBytes};
 ghost use Rattle.sequence.specs.Sequence.{sequenceBytes};
 ghost use Rattle.memory.specs.Image.{joined, imageBytes};
 ghost use Rattle.memory.specs.Laid.{withLaid, laid, HasRoom, ImageFits};
-ghost use Rattle.memory.specs.Memory.{snippetItems, sequenceItems, newMemory, withSnippet, withSequence, addedTold, builtMemory, builtTold, noMemory, loaded, loadedTold};
+ghost use Rattle.memory.specs.Memory.{snippetItems, sequenceItems, newMemory, withSnippet, withSequence, builtMemory, noMemory, loaded};
 ghost use Rattle.memory.specs.Timebase.{timebaseBit, memoryTimebaseAt};
 use errors::Answer;
 use errors::Error;
@@ -74,7 +76,7 @@ impl WaveformMemory {
         num_snippets: u8,
         num_sequences: u8,
     ) -> LoadedMemory
-        ensures { λ r. ⌜ loadedTold r ≡ loaded «data» len «num_snippets» «num_sequences» ⌝ }
+        ensures { λ r. ⌜ handed (answerNumber (r .answer)) (r .memory) ≡ loaded «data» len «num_snippets» «num_sequences» ⌝ }
     {
         if MAX_MEMORY_SIZE < len as usize {
             let none = no_memory();
@@ -175,7 +177,7 @@ impl WaveformMemoryBuilder {
 
     // Appends a snippet, or TooManySnippets for a 16th.
     pub fn add_snippet(self, snippet: Snippet) -> AddedItem
-        ensures { λ r. ⌜ addedTold r ≡ withSnippet self snippet ⌝ }
+        ensures { λ r. ⌜ handed (answerNumber (r .answer)) (r .builder) ≡ withSnippet self snippet ⌝ }
     {
         let n = self.num_snippets as usize;
         if MAX_SNIPPETS <= n {
@@ -202,7 +204,7 @@ impl WaveformMemoryBuilder {
 
     // Appends a sequence, or TooManySequences for a 17th.
     pub fn add_sequence(self, sequence: Sequence) -> AddedItem
-        ensures { λ r. ⌜ addedTold r ≡ withSequence self sequence ⌝ }
+        ensures { λ r. ⌜ handed (answerNumber (r .answer)) (r .builder) ≡ withSequence self sequence ⌝ }
     {
         let n = self.num_sequences as usize;
         if MAX_SEQUENCES <= n {
@@ -229,7 +231,7 @@ impl WaveformMemoryBuilder {
 
     // Tests no snippets, no sequences, then the size.
     pub fn build(self) -> BuiltMemory
-        ensures { λ r. ⌜ builtTold r ≡ builtMemory self ⌝ }
+        ensures { λ r. ⌜ built (answerNumber (r .answer)) (r .memory) (r .builder) ≡ builtMemory self ⌝ }
     {
         let s = least(self.num_snippets, MAX_SNIPPETS);
         let q = least(self.num_sequences, MAX_SEQUENCES);

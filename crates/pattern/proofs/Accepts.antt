@@ -3,26 +3,24 @@
 use Prim.Native.Nat.{ℕ, _+_, _<_}
 use mathlib.Core.Path.{_≡_, refl, sym, ap, ap₂, _∙_}
 use mathlib.Core.Bool.{Bool, true, false, cond, _||_}
-use mathlib.Core.List.{List, [], _∷_}
+use mathlib.Core.List.{List, [], _∷_, map}
 use native.Mathlib.Omega.{arith}
 use borrow.Author.Tests.{lt-ltb, le-ltb}
 use lib.Dec.{ltb, leb}
-use lib.ListN.{length, length-map}
-use Rattle.errors.specs.Told.{Told, gives, refuses, Handed, refused, Built}
-use Rattle.snippet.specs.declared.PwlPoint.{PwlPoint}
-use Rattle.snippet.specs.Point.{pointByte}
-use Rattle.snippet.specs.Point as made
-use Rattle.snippet.specs.Snippet.{pointOf, withPoint, withMade, builtSnippet}
+use lib.ListN.{length}
+use Rattle.errors.specs.Told.{Told, gives, refuses, onTold, Handed, refused, Built}
+use Rattle.snippet.specs.Snippet.{withMade, builtSnippet}
 use Rattle.frame.specs.declared.Frame.{Frame}
 use Rattle.frame.specs.declared.FrameBuilder.{FrameBuilder}
 use Rattle.frame.specs.Builder.{plainFrame}
 use Rattle.frame.specs.Frame.{bytesOf, frameBytes, builtFrame}
 use Rattle.sequence.specs.declared.SequenceBuilder.{SequenceBuilder}
 use Rattle.sequence.specs.Sequence.{withFrame, builtSequence}
-use Rattle.memory.specs.Memory.{withSnippet, withSequence, imageNumber, builtMemory}
-use Rattle.content.specs.Content.{pointBytes, framesBytes, sizeOf}
-use Rattle.pattern.specs.Calls.{SnippetCall, ramp, step, point, snippetStep, snippetFrom, pointsFrom, FrameCall, gain, timebase, loopCount, frequencyHz, frameStep, Begin, new, silence, begunBy, FrameCalls, frameRan, answerOn, frameCalled, numberOf, frameFrom, withMadeFrame, sequenceStep, sequenceFrom, framesFrom, MemoryCall, addSnippet, addSequence, memoryStep, memoryFrom, contentFrom, builtFrom}
-use Rattle.pattern.specs.Accepts.{pointFault, madeFault, snippetFault, emptySnippet, badBegin, fieldFault, frameFault, lengthWith, sequenceFault, emptySequence, memoryFault, buildFault, Accepts}
+use Rattle.memory.specs.Memory.{newMemory, withSnippet, withSequence, imageNumber, builtMemory}
+use Rattle.content.specs.Content.{Content, pointBytes, framesBytes}
+use Rattle.pattern.specs.Calls.{SnippetCall, madeBy, snippetStep, snippetFrom, pointsFrom, FrameCall, gain, timebase, loopCount, frequencyHz, frameStep, Begin, new, silence, begunBy, FrameCalls, frameCalled, numberOf, frameFrom, sequenceStep, sequenceFrom, framesFrom, MemoryCall, addSnippet, addSequence, memoryStep, memoryFrom, contentFrom, builtFrom}
+use Rattle.pattern.specs.Accepts.{snippetFault, badBegin, fieldFault, sequenceFault, memoryFault, Accepts}
+use Rattle.pattern.proofs.Items.{frameRan, answerOn, withMadeFrame, snippets-held, sequences-held, content-held}
 use Rattle.pattern.proofs.Frames.{built-bytes, ran-fields}
 use Rattle.pattern.proofs.Snippets.{snippet-holds}
 use Rattle.pattern.proofs.Sequences.{sequence-holds}
@@ -49,24 +47,13 @@ module _ (ks : List SnippetCall) where
   counted : snippetFrom ks .len ≡ length (pointsFrom ks)
   counted = snippet-holds ks .shows .counted
 
-  point-fault : (p : PwlPoint) → withPoint (snippetFrom ks) p .number ≡ pointFault (pointsFrom ks)
-  point-fault p = number-of (leb 16 (snippetFrom ks .len)) _ _ ∙ ap (λ (n : ℕ). cond (leb 16 n) 6 0) counted
-
-  made-fault : (r : Bool) (t a : ℕ) → withMade (snippetFrom ks) (made.point r t a) .number ≡ madeFault (pointsFrom ks) t a
-  made-fault r t a = go (ltb t 1) (ltb 8 t) (ltb 15 a) where
-    go : (x y z : Bool) → withMade (snippetFrom ks) (cond x (refuses 1) (cond y (refuses 1) (cond z (refuses 2) (gives (pointByte r t a))))) .number
-        ≡ cond (x || y) 1 (cond z 2 (pointFault (pointsFrom ks)))
-    go true y z = refl
-    go false true z = refl
-    go false false true = refl
-    go false false false = point-fault (pointOf (pointByte r t a))
-
   snippet-fault : (k : SnippetCall) → snippetStep (snippetFrom ks) k .number ≡ snippetFault (pointsFrom ks) k
-  snippet-fault (ramp t a) = made-fault true t a
-  snippet-fault (step t a) = made-fault false t a
-  snippet-fault (point x) = point-fault _
+  snippet-fault k = go (madeBy k) where
+    go : (t : Told ℕ) → withMade (snippetFrom ks) t .number ≡ onTold t (λ byte. cond (leb 16 (length (pointsFrom ks))) 6 0) (λ n. n)
+    go (gives byte) = number-of (leb 16 (snippetFrom ks .len)) _ _ ∙ ap (λ (n : ℕ). cond (leb 16 n) 6 0) counted
+    go (refuses n) = refl
 
-  empty-snippet : builtSnippet (snippetFrom ks) .number ≡ emptySnippet (pointsFrom ks)
+  empty-snippet : builtSnippet (snippetFrom ks) .number ≡ cond (ltb (length (pointsFrom ks)) 1) 9 0
   empty-snippet = built-number (ltb (snippetFrom ks .len) 1) _ _ ∙ ap (λ (n : ℕ). cond (ltb n 1) 9 0) counted
 
 -- ---- a frame
@@ -81,7 +68,7 @@ field-fault b (timebase t) = refl
 field-fault b (loopCount k) = number-of (ltb 15 k) _ _
 field-fault b (frequencyHz f) = number-of (ltb 511 f) _ _
 
-frame-fault : (m : FrameCalls) (k : FrameCall) → frameCalled m k ≡ frameFault (m .begin) k
+frame-fault : (m : FrameCalls) (k : FrameCall) → frameCalled m k ≡ cond (badBegin (m .begin)) 3 (fieldFault k)
 frame-fault m k = ap (λ (t : Told FrameBuilder). answerOn t (m .calls) k) (begin-fault (m .begin)) ∙ go (badBegin (m .begin)) where
   go : (t : Bool) → answerOn (cond t (refuses 3) (gives (plainFrame (numberOf (m .begin))))) (m .calls) k ≡ cond t 3 (fieldFault k)
   go true = refl
@@ -108,7 +95,7 @@ sequence-fault ms m =
     bytes = built-bytes (frameRan plain (m .calls)) ∙ ap bytesOf (ran-fields (m .calls) plain)
 
     go : (t : Bool) → withMadeFrame (sequenceFrom ms) (m .calls) (cond t (refuses 3) (gives (plainFrame (numberOf (m .begin))))) .number
-        ≡ cond t 3 (framesFault (lengthWith (framesFrom ms) (frameFrom m)) (length (framesFrom ms)))
+        ≡ cond t 3 (framesFault (length (framesBytes (framesFrom ms)) + length (bytesOf (frameFrom m))) (length (framesFrom ms)))
     go true = refl
     go false =
         with-fault (sequenceFrom ms) (builtFrame (frameRan plain (m .calls)))
@@ -123,7 +110,7 @@ module _ (ms : List FrameCalls) where
   no-frames : ltb (sequenceFrom ms .len) 1 ≡ ltb (length (framesFrom ms)) 1
   no-frames = ap (λ (n : ℕ). ltb n 1) (sequence-holds ms .counted) ∙ empty-bytes (framesFrom ms)
 
-  empty-sequence : builtSequence (sequenceFrom ms) .number ≡ emptySequence (framesFrom ms)
+  empty-sequence : builtSequence (sequenceFrom ms) .number ≡ cond (ltb (length (framesFrom ms)) 1) 10 0
   empty-sequence = built-number (ltb (sequenceFrom ms .len) 1) _ _ ∙ ap (λ (t : Bool). cond t 10 0) no-frames
 
 -- ---- a memory
@@ -139,20 +126,19 @@ memory-fault : (a : Bool) (ks : List MemoryCall) (k : MemoryCall) → memoryStep
 memory-fault a ks (addSnippet js) =
     item-fault (memoryFrom a ks) (withSnippet (memoryFrom a ks)) (ltb (snippetFrom js .len) 1) 9 _ _ (snippetFrom js) (omega arith)
     ∙ ap (cond (ltb (snippetFrom js .len) 1) 9) (number-of (leb 15 (memoryFrom a ks .«num_snippets»)) _ _)
-    ∙ ap₂ (λ (m n : ℕ). cond (ltb m 1) 9 (cond (leb 15 n) 6 0)) (counted js) (memory-holds a ks .snippets .counted)
+    ∙ ap₂ (λ (m n : ℕ). cond (ltb m 1) 9 (cond (leb 15 n) 6 0)) (counted js) (memory-holds a ks .snippets .counted ∙ ap length (sym (snippets-held ks (newMemory a))))
 memory-fault a ks (addSequence ms) =
     item-fault (memoryFrom a ks) (withSequence (memoryFrom a ks)) (ltb (sequenceFrom ms .len) 1) 10 _ _ (sequenceFrom ms) (omega arith)
     ∙ ap (cond (ltb (sequenceFrom ms .len) 1) 10) (number-of (leb 16 (memoryFrom a ks .«num_sequences»)) _ _)
-    ∙ ap₂ (λ (t : Bool) (n : ℕ). cond t 10 (cond (leb 16 n) 7 0)) (no-frames ms) (memory-holds a ks .sequences .counted)
+    ∙ ap₂ (λ (t : Bool) (n : ℕ). cond t 10 (cond (leb 16 n) 7 0)) (no-frames ms) (memory-holds a ks .sequences .counted ∙ ap length (sym (sequences-held ks (newMemory a))))
 
-build-fault : (a : Bool) (ks : List MemoryCall) → builtFrom a ks .number ≡ buildFault (contentFrom a ks)
+build-fault : (a : Bool) (ks : List MemoryCall)
+    → builtFrom a ks .number ≡ imageNumber (map pointBytes (contentFrom a ks .snippets)) (map framesBytes (contentFrom a ks .sequences))
 unfolding builtMemory
 build-fault a ks =
     let h = memory-holds a ks in
-    let c = contentFrom a ks in
     ap₂ imageNumber (h .snippets .shown) (h .sequences .shown)
-    ∙ ap₂ (λ (s q : ℕ). cond (ltb s 1) 9 (cond (ltb q 1) 10 (cond (ltb 100 (sizeOf c)) 8 0)))
-    (length-map (c .snippets) pointBytes) (length-map (c .sequences) framesBytes)
+    ∙ ap (λ (c : Content). imageNumber (map pointBytes (c .snippets)) (map framesBytes (c .sequences))) (content-held a ks)
 
 pub accepts : Accepts
 accepts =

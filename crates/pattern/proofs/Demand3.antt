@@ -8,7 +8,7 @@ use Rattle.memory.specs.Memory.{newMemory, builtMemory}
 use Rattle.content.specs.ReadImage.{readImage}
 use Rattle.content.proofs.Images.{image-codec, image-length, same-image, refuses-image, read-same}
 use Rattle.content.proofs.Sameness.{canonical}
-use Rattle.pattern.specs.Calls.{ran, MemoryCall, memoryStep, addedItem, builtFrom}
+use Rattle.pattern.specs.Calls.{ran, MemoryCall, memoryStep, builtFrom}
 use Rattle.pattern.specs.Demand.{content, Demand3}
 use Rattle.pattern.proofs.Flag.{same-number, same-item}
 use Rattle.pattern.proofs.Loops.{loops-read}
@@ -17,9 +17,9 @@ use Rattle.pattern.proofs.Runs.{ran-append}
 use Rattle.pattern.proofs.Reached.{callsOf, content-reached, built-reached}
 
 -- `build` hands back the builder as it came in
-goes-on : (a : Bool) (ks js : List MemoryCall) → builtMemory (ran memoryStep addedItem (builtFrom a ks .builder) js) ≡ builtFrom a (ks ++ js)
+goes-on : (a : Bool) (ks js : List MemoryCall) → builtMemory (ran memoryStep (builtFrom a ks .builder) js) ≡ builtFrom a (ks ++ js)
 unfolding builtMemory
-goes-on a ks js = ap builtMemory (ran-append memoryStep addedItem (newMemory a) ks js)
+goes-on a ks js = ap builtMemory (ran-append memoryStep (newMemory a) ks js)
 
 pub demand3 : Demand3
 demand3 =

@@ -9,7 +9,7 @@ use Rattle.snippet.specs.Snippet.{builtSnippet}
 use Rattle.sequence.specs.Sequence.{builtSequence}
 use Rattle.memory.specs.declared.WaveformMemoryBuilder.{WaveformMemoryBuilder}
 use Rattle.memory.specs.Memory.{newMemory, builtMemory}
-use Rattle.pattern.specs.Calls.{MemoryCall, addSnippet, addSequence, snippetFrom, sequenceFrom, memoryStep, addedItem, ran, builtFrom}
+use Rattle.pattern.specs.Calls.{MemoryCall, addSnippet, addSequence, snippetFrom, sequenceFrom, memoryStep, ran, builtFrom}
 
 abbrev flagged : Bool → WaveformMemoryBuilder → WaveformMemoryBuilder
 flagged a b =
@@ -36,10 +36,10 @@ step-flag a b (addSequence ms) =
     through a (ltb 0 (builtSequence (sequenceFrom ms) .number)) _ _ _ _ refl (through a (leb 16 (b .«num_sequences»)) _ _ _ _ refl refl)
 
 ran-flag : (a : Bool) (b : WaveformMemoryBuilder) (ks : List MemoryCall)
-    → ran memoryStep addedItem (flagged a b) ks ≡ flagged a (ran memoryStep addedItem b ks)
+    → ran memoryStep (flagged a b) ks ≡ flagged a (ran memoryStep b ks)
 ran-flag a b [] = refl
 ran-flag a b (k ∷ ks) =
-    ap (λ (s : Handed WaveformMemoryBuilder). ran memoryStep addedItem (s .builder) ks) (step-flag a b k)
+    ap (λ (s : Handed WaveformMemoryBuilder). ran memoryStep (s .builder) ks) (step-flag a b k)
     ∙ ran-flag a (memoryStep b k .builder) ks
 
 pub same-number : (a : Bool) (ks : List MemoryCall) → builtFrom a ks .number ≡ builtFrom false ks .number

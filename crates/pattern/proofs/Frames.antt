@@ -17,10 +17,12 @@ use Rattle.frame.specs.declared.LoopCount.the-variants as LoopCount
 use Rattle.frame.specs.declared.Frequency.{Frequency}
 use Rattle.frame.specs.declared.Frequency.the-variants as Frequency
 use Rattle.frame.specs.declared.FrameBuilder.{FrameBuilder}
-use Rattle.frame.specs.Agreement.{FrameAdmitted, LoopAdmitted, FrequencyAdmitted}
+use Rattle.frame.specs.Agreement.{FrameAdmitted}
+use Rattle.frame.proofs.Parts.{thirdByte, LoopAdmitted, FrequencyAdmitted}
 use Rattle.frame.specs.Builder.{frameWith, plainFrame, newFrame, withLoopCount, withFrequency}
-use Rattle.frame.specs.Frame.{firstByte, secondByte, thirdByte, hasSecond, bytesOf, frameBytes, builtFrame}
-use Rattle.pattern.specs.Calls.{FrameCall, gain, timebase, loopCount, frequencyHz, frameStep, Begin, new, silence, begunBy, FrameCalls, frameRan, numberOf, lastGain, lastTimebase, lastLoop, lastFrequency, frameFrom}
+use Rattle.frame.specs.Frame.{firstByte, secondByte, hasSecond, bytesOf, frameBytes, builtFrame}
+use Rattle.pattern.specs.Calls.{FrameCall, gain, timebase, loopCount, frequencyHz, frameStep, Begin, new, silence, begunBy, FrameCalls, numberOf, lastGain, lastTimebase, lastLoop, lastFrequency, frameFrom}
+use Rattle.pattern.proofs.Items.{frameRan}
 
 -- ---- a built frame shows the bytes of its fields
 

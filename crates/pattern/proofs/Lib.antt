@@ -2,6 +2,7 @@ pub mod Accepts
 pub mod Demand3
 pub mod Flag
 pub mod Frames
+pub mod Items
 pub mod Loops
 pub mod Memories
 pub mod Outcomes

@@ -16,10 +16,12 @@ use Rattle.frame.specs.declared.LoopCount.the-variants as LoopCount
 use Rattle.frame.specs.declared.Frequency.{Frequency}
 use Rattle.frame.specs.declared.Frequency.the-variants as Frequency
 use Rattle.frame.specs.declared.FrameBuilder.{FrameBuilder}
-use Rattle.frame.specs.Agreement.{FrameAdmitted, absentIsZero}
+use Rattle.frame.specs.Agreement.{FrameAdmitted}
 use Rattle.frame.specs.Builder.{frameWith}
-use Rattle.frame.proofs.Canon.{written, canon}
-use Rattle.content.specs.Content.{Content, SequenceAdmitted}
+use Rattle.frame.proofs.Canon.{canon}
+use Rattle.frame.proofs.Parts.{absentIsZero, written}
+use Rattle.content.specs.Content.{Content}
+use Rattle.content.proofs.Admits.{SequenceAdmitted}
 use Rattle.content.specs.ReadImage.{readImage}
 use Rattle.content.proofs.Codec.{some-inj, all-map}
 use Rattle.content.proofs.Images.{image-codec}
@@ -49,4 +51,4 @@ unfolding canonical
 loops-read l h c e =
     let (a, w) = image-codec .sound l c h e in
     let r : canonical c ≡ c = some-inj (sym (image-codec .complete c a) ∙ ap readImage w ∙ e) in
-    subst (λ (d : Content). All (All LoopAsRead) (d .sequences)) r (loops-canonical (c .sequences) (a .sequence))
+    subst (λ (d : Content). All (All LoopAsRead) (d .sequences)) r (loops-canonical (c .sequences) (a .sequences .each))

@@ -21,11 +21,12 @@ use Rattle.memory.specs.declared.WaveformMemory.{WaveformMemory}
 use Rattle.memory.specs.declared.WaveformMemoryBuilder.{WaveformMemoryBuilder}
 use Rattle.memory.specs.Image.{imageSize}
 use Rattle.memory.specs.Memory.{newMemory, imageNumber, snippetItems, sequenceItems, memoryOf, builtMemory}
-use Rattle.content.specs.Content.{Point, pointBytes, framesBytes, imageOf, SnippetAdmitted, SequenceAdmitted, Admitted}
+use Rattle.content.specs.Content.{Point, Content, pointBytes, framesBytes, imageOf, Admitted}
+use Rattle.content.proofs.Admits.{SnippetAdmitted, SequenceAdmitted}
 use Rattle.content.proofs.Codec.{all-append}
 use Rattle.content.proofs.Sequences.{short}
-use Rattle.pattern.specs.Calls.{held, MemoryCall, addSnippet, addSequence, Item, points, frames, snippetsOf, sequencesOf, contentOf, withBuiltSnippet, withBuiltSequence, memoryStep, addedItem, memoryFrom, contentFrom, builtFrom, snippetFrom, pointsFrom, sequenceFrom, framesFrom}
-use Rattle.pattern.specs.Demand.{ValuesOf}
+use Rattle.pattern.specs.Calls.{held, MemoryCall, addSnippet, addSequence, memoryStep, memoryFrom, contentFrom, builtFrom, snippetFrom, pointsFrom, sequenceFrom, framesFrom}
+use Rattle.pattern.proofs.Items.{Item, points, frames, addedItem, snippetsOf, sequencesOf, contentOf, content-held, withBuiltSnippet, withBuiltSequence}
 use Rattle.pattern.proofs.Outcomes.{Outcome, all-calls, Shows, shows-more}
 use Rattle.pattern.proofs.Snippets as snippet
 use Rattle.pattern.proofs.Snippets.{snippet-holds}
@@ -173,12 +174,16 @@ module _ (b : WaveformMemoryBuilder) (is : List Item) (h : Holds b is) (e : buil
       let ns = length-map (snippetsOf is) pointBytes in
       let nq = length-map (sequencesOf is) framesBytes in
       record {
-        someSnippets = omega (arith, w .someSnippets);
-        fewSnippets = omega (arith, h .snippets .counted, h .snippets .room);
-        snippet = h .snippet;
-        someSequences = omega (arith, w .someSequences);
-        fewSequences = omega (arith, h .sequences .counted, h .sequences .room);
-        sequence = h .sequence;
+        snippets = record {
+          nonempty = omega (arith, w .someSnippets);
+          few = omega (arith, h .snippets .counted, h .snippets .room);
+          each = h .snippet;
+        };
+        sequences = record {
+          nonempty = omega (arith, w .someSequences);
+          few = omega (arith, h .sequences .counted, h .sequences .room);
+          each = h .sequence;
+        };
         fits = w .fits;
       }
 
@@ -186,20 +191,16 @@ module _ (b : WaveformMemoryBuilder) (is : List Item) (h : Holds b is) (e : buil
   unfolding imageOf
   built = (built-admitted, ap (λ (m : WaveformMemory). m .«data») (sym built-memory))
 
-  built-values : ValuesOf (builtMemory b .item) (contentOf is)
-  built-values =
-      record {
-        size = ap (λ (m : WaveformMemory). m .len) built-memory;
-        snippets = ap (λ (m : WaveformMemory). m .«num_snippets») built-memory ∙ length-map (snippetsOf is) pointBytes;
-        sequences = ap (λ (m : WaveformMemory). m .«num_sequences») built-memory ∙ length-map (sequencesOf is) framesBytes;
-      }
-
 pub memory-holds : (a : Bool) (ks : List MemoryCall) → Holds (memoryFrom a ks) (held memoryStep addedItem (newMemory a) ks)
 memory-holds a ks = all-calls memoryStep addedItem Holds one-call ks (newMemory a) [] (none-held a)
 
 pub image-from : (a : Bool) (ks : List MemoryCall) → builtFrom a ks .number ≡ 0
     → Admitted (contentFrom a ks) × (imageOf (contentFrom a ks) ≡ builtFrom a ks .item .«data»)
-image-from a ks e = built (memoryFrom a ks) _ (memory-holds a ks) e
+image-from a ks e =
+    subst (λ (c : Content). Admitted c × (imageOf c ≡ builtFrom a ks .item .«data»)) (content-held a ks) (built (memoryFrom a ks) _ (memory-holds a ks) e)
 
-pub values-from : (a : Bool) (ks : List MemoryCall) → builtFrom a ks .number ≡ 0 → ValuesOf (builtFrom a ks .item) (contentFrom a ks)
-values-from a ks e = built-values (memoryFrom a ks) _ (memory-holds a ks) e
+pub values-from : (a : Bool) (ks : List MemoryCall) → builtFrom a ks .number ≡ 0
+    → builtFrom a ks .item ≡ memoryOf (map pointBytes (contentFrom a ks .snippets)) (map framesBytes (contentFrom a ks .sequences))
+values-from a ks e =
+    built-memory (memoryFrom a ks) _ (memory-holds a ks) e
+    ∙ ap (λ (c : Content). memoryOf (map pointBytes (c .snippets)) (map framesBytes (c .sequences))) (content-held a ks)

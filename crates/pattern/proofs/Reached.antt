@@ -22,7 +22,8 @@ use Rattle.frame.specs.declared.LoopCount.the-variants as LoopCount
 use Rattle.frame.specs.declared.Frequency.{Frequency}
 use Rattle.frame.specs.declared.Frequency.the-variants as Frequency
 use Rattle.frame.specs.declared.FrameBuilder.{FrameBuilder}
-use Rattle.frame.specs.Agreement.{FrameAdmitted, LoopAdmitted, FrequencyAdmitted}
+use Rattle.frame.specs.Agreement.{FrameAdmitted}
+use Rattle.frame.proofs.Parts.{LoopAdmitted, FrequencyAdmitted}
 use Rattle.frame.specs.Builder.{frameWith, plainFrame}
 use Rattle.frame.specs.Frame.{bytesOf, frameBytes, builtFrame}
 use Rattle.sequence.specs.declared.SequenceBuilder.{SequenceBuilder}
@@ -31,11 +32,13 @@ use Rattle.memory.specs.declared.WaveformMemoryBuilder.{WaveformMemoryBuilder}
 use Rattle.memory.specs.Image.{joined, imageSize}
 use Rattle.memory.specs.Memory.{newMemory, imageNumber, builtMemory}
 use Rattle.memory.proofs.Images.{joined-length}
-use Rattle.content.specs.Content.{Point, Content, pointBytes, framesBytes, SnippetAdmitted, SequenceAdmitted, Admitted}
+use Rattle.content.specs.Content.{Point, Content, pointBytes, framesBytes, Admitted}
+use Rattle.content.proofs.Admits.{SnippetAdmitted, SequenceAdmitted}
 use Rattle.content.proofs.Codec.{all-left}
 use Rattle.content.proofs.Points.{Good}
 use Rattle.content.proofs.Sequences.{long}
-use Rattle.pattern.specs.Calls.{ran, held, SnippetCall, ramp, step, snippetStep, addedPoint, pointsFrom, FrameCall, gain, timebase, loopCount, frequencyHz, Begin, new, silence, begunBy, FrameCalls, numberOf, frameFrom, frameRan, withMadeFrame, sequenceStep, framesFrom, snippetFrom, sequenceFrom, MemoryCall, addSnippet, addSequence, Item, points, frames, snippetsOf, sequencesOf, contentOf, memoryStep, addedItem, contentFrom, builtFrom}
+use Rattle.pattern.specs.Calls.{ran, held, SnippetCall, ramp, step, snippetStep, addedPoint, pointsFrom, FrameCall, gain, timebase, loopCount, frequencyHz, Begin, new, silence, begunBy, FrameCalls, numberOf, frameFrom, sequenceStep, framesFrom, snippetFrom, sequenceFrom, MemoryCall, addSnippet, addSequence, memoryStep, contentFrom, builtFrom}
+use Rattle.pattern.proofs.Items.{frameRan, withMadeFrame, Item, points, frames, addedItem, snippetsOf, sequencesOf, contentOf, content-held}
 use Rattle.pattern.proofs.Outcomes.{Outcome}
 use Rattle.pattern.proofs.Snippets as snippet
 use Rattle.pattern.proofs.Frames.{built-bytes, fieldsAfter, ran-fields}
@@ -276,12 +279,12 @@ fits-items c a =
     let j = joined-length (map pointBytes (c .snippets)) (map framesBytes (c .sequences)) in
     let ns = length-map (c .snippets) pointBytes in
     let nq = length-map (c .sequences) framesBytes in
-    let data′ : length (joined (map framesBytes (c .sequences))) ≤ 96 = omega (arith, a .fits, a .someSnippets, a .someSequences) in
+    let data′ : length (joined (map framesBytes (c .sequences))) ≤ 96 = omega (arith, a .fits, a .snippets .nonempty, a .sequences .nonempty) in
     record {
-      fewSnippets = let n = ap length (snippets-back c) in omega (arith, a .fewSnippets);
-      snippet = subst (All SnippetAdmitted) (sym (snippets-back c)) (a .snippet);
-      fewSequences = let n = ap length (sequences-back c) in omega (arith, a .fewSequences);
-      sequence = subst (All SequenceAdmitted) (sym (sequences-back c)) (a .sequence);
+      fewSnippets = let n = ap length (snippets-back c) in omega (arith, a .snippets .few);
+      snippet = subst (All SnippetAdmitted) (sym (snippets-back c)) (a .snippets .each);
+      fewSequences = let n = ap length (sequences-back c) in omega (arith, a .sequences .few);
+      sequence = subst (All SequenceAdmitted) (sym (sequences-back c)) (a .sequences .each);
       short = subst (All Short) (sym (sequences-back c)) (all-short (c .sequences) data′);
     }
 
@@ -290,7 +293,8 @@ callsOf c = map itemCall (itemsOf c)
 
 pub content-reached : (c : Content) → Admitted c → contentFrom false (callsOf c) ≡ c
 content-reached c a =
-    ap contentOf (items-reached (itemsOf c) (fits-items c a))
+    sym (content-held false (callsOf c))
+    ∙ ap contentOf (items-reached (itemsOf c) (fits-items c a))
     ∙ ap₂ (λ (s : List (List Point)) (q : List (List FrameBuilder)). record { snippets = s; sequences = q }) (snippets-back c) (sequences-back c)
 
 number-zero : (ss qs : List (List ℕ)) → 1 ≤ length ss → 1 ≤ length qs → imageSize ss qs ≤ 100 → imageNumber ss qs ≡ 0
@@ -300,9 +304,9 @@ pub built-reached : (c : Content) → Admitted c → builtFrom false (callsOf c)
 unfolding builtMemory
 built-reached c a =
     let h = memory.memory-holds false (callsOf c) in
-    let e = content-reached c a in
+    let e = content-held false (callsOf c) ∙ content-reached c a in
     let ns = length-map (c .snippets) pointBytes in
     let nq = length-map (c .sequences) framesBytes in
     ap₂ imageNumber (h .snippets .shown) (h .sequences .shown)
     ∙ ap (λ (d : Content). imageNumber (map pointBytes (d .snippets)) (map framesBytes (d .sequences))) e
-    ∙ number-zero (map pointBytes (c .snippets)) (map framesBytes (c .sequences)) (omega (arith, a .someSnippets)) (omega (arith, a .someSequences)) (a .fits)
+    ∙ number-zero (map pointBytes (c .snippets)) (map framesBytes (c .sequences)) (omega (arith, a .snippets .nonempty)) (omega (arith, a .sequences .nonempty)) (a .fits)

@@ -22,7 +22,8 @@ use Rattle.sequence.specs.Sequence.{newSequence, withFrame}
 use Rattle.memory.specs.Image.{joined}
 use Rattle.content.specs.Content.{framesBytes}
 use Rattle.content.proofs.Codec.{all-append}
-use Rattle.pattern.specs.Calls.{FrameCall, FrameCalls, frameRan, frameFrom, begunBy, withMadeFrame, sequenceStep, sequenceFrom, framesFrom}
+use Rattle.pattern.specs.Calls.{FrameCall, FrameCalls, frameFrom, begunBy, sequenceStep, sequenceFrom, framesFrom}
+use Rattle.pattern.proofs.Items.{frameRan, withMadeFrame}
 use Rattle.pattern.proofs.Outcomes.{Outcome, all-calls}
 use Rattle.pattern.proofs.Frames.{built-bytes, FrameOutcome, frame-outcome}
 

@@ -4,11 +4,10 @@ use Prim.Native.Nat.{ℕ, _%_}
 use mathlib.Core.Bool.{Bool, true, false, cond}
 use mathlib.Core.List.{List, [], _∷_}
 use lib.Dec.{ltb}
-use Rattle.errors.specs.Told.{Told, gives, refuses, Handed, refused, Built}
-use Rattle.snippet.specs.declared.Snippet.{Snippet}
+use Rattle.errors.specs.Told.{Told, gives, onTold, Handed, refused, Built}
 use Rattle.snippet.specs.declared.SnippetBuilder.{SnippetBuilder}
 use Rattle.snippet.specs.Point as made
-use Rattle.snippet.specs.Snippet.{pointOf, newSnippet, withPoint, withMade, builtSnippet}
+use Rattle.snippet.specs.Snippet.{newSnippet, withMade, builtSnippet}
 use Rattle.frame.specs.declared.Gain.{Gain}
 use Rattle.frame.specs.declared.Gain.the-variants.{Full}
 use Rattle.frame.specs.declared.Timebase.{Timebase}
@@ -20,32 +19,33 @@ use Rattle.frame.specs.declared.Frequency.the-variants as Frequency
 use Rattle.frame.specs.declared.FrameBuilder.{FrameBuilder}
 use Rattle.frame.specs.Builder.{frameWith, silentFrame, newFrame, withGain, withTimebase, withLoopCount, withFrequency}
 use Rattle.frame.specs.Frame.{builtFrame}
-use Rattle.sequence.specs.declared.Sequence.{Sequence}
 use Rattle.sequence.specs.declared.SequenceBuilder.{SequenceBuilder}
 use Rattle.sequence.specs.Sequence.{newSequence, withFrame, builtSequence}
 use Rattle.memory.specs.declared.WaveformMemory.{WaveformMemory}
 use Rattle.memory.specs.declared.WaveformMemoryBuilder.{WaveformMemoryBuilder}
+use Rattle.memory.specs.Image.{joined}
 use Rattle.memory.specs.Memory.{newMemory, withSnippet, withSequence, builtMemory}
 use Rattle.content.specs.Content.{Point, Content}
 use Rattle.content.specs.ReadImage.{pointIn}
 
 -- ---- any builder B with calls K, each of which adds an X when it is accepted
 
-module _ {B K X : Type 0} (step : B → K → Handed B) (adds : K → X) where
+module _ {B K : Type 0} (step : B → K → Handed B) where
   -- "Each call gets what the last handed back"
   abbrev pub ran : B → List K → B
   ran b [] = b
   ran b (k ∷ ks) = ran (step b k .builder) ks
 
-  -- "An item holds what its accepted calls added, in order; a refused call adds nothing"
-  abbrev pub held : B → List K → List X
-  held b [] = []
-  held b (k ∷ ks) = cond (ltb 0 (step b k .number)) (held (step b k .builder) ks) (adds k ∷ held (step b k .builder) ks)
-
   -- the answer to each call: 0 where it is accepted, else the number of its refusal
   abbrev pub answersTo : B → List K → List ℕ
   answersTo b [] = []
   answersTo b (k ∷ ks) = step b k .number ∷ answersTo (step b k .builder) ks
+
+module _ {B K X : Type 0} (step : B → K → Handed B) (adds : K → X) where
+  -- "An item holds what its accepted calls added, in order; a refused call adds nothing"
+  abbrev pub held : B → List K → List X
+  held b [] = []
+  held b (k ∷ ks) = cond (ltb 0 (step b k .number)) (held (step b k .builder) ks) (adds k ∷ held (step b k .builder) ks)
 
 -- ---- a snippet
 
@@ -55,10 +55,14 @@ pub data SnippetCall : Type 0 where
   -- a point that was made before, by its byte (the low eight bits count)
   point : ℕ → SnippetCall
 
+-- the byte that it asks for
+abbrev pub madeBy : SnippetCall → Told ℕ
+madeBy (ramp t a) = made.point true t a
+madeBy (step t a) = made.point false t a
+madeBy (point x) = gives (x % 256)
+
 abbrev pub snippetStep : SnippetBuilder → SnippetCall → Handed SnippetBuilder
-snippetStep b (ramp t a) = withMade b (made.point true t a)
-snippetStep b (step t a) = withMade b (made.point false t a)
-snippetStep b (point x) = withPoint b (pointOf (x % 256))
+snippetStep b k = withMade b (madeBy k)
 
 abbrev pub addedPoint : SnippetCall → Point
 addedPoint (ramp t a) = record { ramp = true; timebases = t; amplitude = a }
@@ -66,7 +70,7 @@ addedPoint (step t a) = record { ramp = false; timebases = t; amplitude = a }
 addedPoint (point x) = pointIn (x % 256)
 
 abbrev pub snippetFrom : List SnippetCall → SnippetBuilder
-snippetFrom ks = ran snippetStep addedPoint newSnippet ks
+snippetFrom ks = ran snippetStep newSnippet ks
 
 abbrev pub pointsFrom : List SnippetCall → List Point
 pointsFrom ks = held snippetStep addedPoint newSnippet ks
@@ -98,16 +102,9 @@ pub record FrameCalls : Type 0 where
   pub begin : Begin
   pub calls : List FrameCall
 
-abbrev pub frameRan : FrameBuilder → List FrameCall → FrameBuilder
-frameRan b ks = ran frameStep (λ k. k) b ks
-
 -- the answer to a call on a frame: where `new` was refused, that refusal
-abbrev pub answerOn : Told FrameBuilder → List FrameCall → FrameCall → ℕ
-answerOn (gives f) ks k = frameStep (frameRan f ks) k .number
-answerOn (refuses n) ks k = n
-
 abbrev pub frameCalled : FrameCalls → FrameCall → ℕ
-frameCalled m k = answerOn (begunBy (m .begin)) (m .calls) k
+frameCalled m k = onTold (begunBy (m .begin)) (λ f. frameStep (ran frameStep f (m .calls)) k .number) (λ n. n)
 
 -- "A frame's field is what the last accepted call that sets it gave, else the Rust's default"
 abbrev pub numberOf : Begin → ℕ
@@ -151,15 +148,11 @@ frameFrom m =
 
 -- ---- a sequence: each call adds the frame that its own calls make; where `new` was refused there is no frame to add
 
-abbrev pub withMadeFrame : SequenceBuilder → List FrameCall → Told FrameBuilder → Handed SequenceBuilder
-withMadeFrame b ks (gives f) = withFrame b (builtFrame (frameRan f ks))
-withMadeFrame b ks (refuses n) = refused n b
-
 abbrev pub sequenceStep : SequenceBuilder → FrameCalls → Handed SequenceBuilder
-sequenceStep b m = withMadeFrame b (m .calls) (begunBy (m .begin))
+sequenceStep b m = onTold (begunBy (m .begin)) (λ f. withFrame b (builtFrame (ran frameStep f (m .calls)))) (λ n. refused n b)
 
 abbrev pub sequenceFrom : List FrameCalls → SequenceBuilder
-sequenceFrom ms = ran sequenceStep frameFrom newSequence ms
+sequenceFrom ms = ran sequenceStep newSequence ms
 
 abbrev pub framesFrom : List FrameCalls → List FrameBuilder
 framesFrom ms = held sequenceStep frameFrom newSequence ms
@@ -170,43 +163,31 @@ pub data MemoryCall : Type 0 where
   addSnippet : List SnippetCall → MemoryCall
   addSequence : List FrameCalls → MemoryCall
 
-pub data Item : Type 0 where
-  points : List Point → Item
-  frames : List FrameBuilder → Item
-
-abbrev pub withBuiltSnippet : WaveformMemoryBuilder → Built Snippet SnippetBuilder → Handed WaveformMemoryBuilder
-withBuiltSnippet b r = cond (ltb 0 (r .number)) (refused (r .number) b) (withSnippet b (r .item))
-
-abbrev pub withBuiltSequence : WaveformMemoryBuilder → Built Sequence SequenceBuilder → Handed WaveformMemoryBuilder
-withBuiltSequence b r = cond (ltb 0 (r .number)) (refused (r .number) b) (withSequence b (r .item))
+abbrev pub withBuilt : {B I S : Type 0} → (B → I → Handed B) → B → Built I S → Handed B
+withBuilt add b r = cond (ltb 0 (r .number)) (refused (r .number) b) (add b (r .item))
 
 abbrev pub memoryStep : WaveformMemoryBuilder → MemoryCall → Handed WaveformMemoryBuilder
-memoryStep b (addSnippet ks) = withBuiltSnippet b (builtSnippet (snippetFrom ks))
-memoryStep b (addSequence ms) = withBuiltSequence b (builtSequence (sequenceFrom ms))
+memoryStep b (addSnippet ks) = withBuilt withSnippet b (builtSnippet (snippetFrom ks))
+memoryStep b (addSequence ms) = withBuilt withSequence b (builtSequence (sequenceFrom ms))
 
-abbrev pub addedItem : MemoryCall → Item
-addedItem (addSnippet ks) = points (pointsFrom ks)
-addedItem (addSequence ms) = frames (framesFrom ms)
+abbrev pub addedSnippets : MemoryCall → List (List Point)
+addedSnippets (addSnippet ks) = pointsFrom ks ∷ []
+addedSnippets (addSequence ms) = []
 
-abbrev pub snippetsOf : List Item → List (List Point)
-snippetsOf [] = []
-snippetsOf (points ps ∷ is) = ps ∷ snippetsOf is
-snippetsOf (frames fs ∷ is) = snippetsOf is
-
-abbrev pub sequencesOf : List Item → List (List FrameBuilder)
-sequencesOf [] = []
-sequencesOf (points ps ∷ is) = sequencesOf is
-sequencesOf (frames fs ∷ is) = fs ∷ sequencesOf is
-
-abbrev pub contentOf : List Item → Content
-contentOf is = record { snippets = snippetsOf is; sequences = sequencesOf is }
+abbrev pub addedSequences : MemoryCall → List (List FrameBuilder)
+addedSequences (addSnippet ks) = []
+addedSequences (addSequence ms) = framesFrom ms ∷ []
 
 -- the memory builder after the calls, begun with either acceleration flag, and the content that they added
 abbrev pub memoryFrom : Bool → List MemoryCall → WaveformMemoryBuilder
-memoryFrom acceleration ks = ran memoryStep addedItem (newMemory acceleration) ks
+memoryFrom acceleration ks = ran memoryStep (newMemory acceleration) ks
 
 abbrev pub contentFrom : Bool → List MemoryCall → Content
-contentFrom acceleration ks = contentOf (held memoryStep addedItem (newMemory acceleration) ks)
+contentFrom acceleration ks =
+    record {
+      snippets = joined (held memoryStep addedSnippets (newMemory acceleration) ks);
+      sequences = joined (held memoryStep addedSequences (newMemory acceleration) ks);
+    }
 
 -- what building then answers
 abbrev pub builtFrom : Bool → List MemoryCall → Built WaveformMemory WaveformMemoryBuilder

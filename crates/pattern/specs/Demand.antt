@@ -3,18 +3,17 @@
 use Prim.Native.Nat.{ℕ}
 use mathlib.Core.Path.{_≡_}
 use mathlib.Core.Logic.{_↔_}
-use mathlib.Core.Bool.{Bool, false}
-use mathlib.Core.List.{List, _++_}
+use mathlib.Core.Bool.{Bool, true, false}
+use mathlib.Core.List.{List, _++_, map}
 use mathlib.Core.Option.{none, some}
 use lib.ListN.{length}
 use Rattle.laws.specs.Bytes.{All, Bytes}
 use Rattle.frame.specs.declared.FrameBuilder.{FrameBuilder}
-use Rattle.frame.specs.Frame.{loopGiven, hasSecond}
-use Rattle.memory.specs.declared.WaveformMemory.{WaveformMemory}
-use Rattle.memory.specs.Memory.{builtMemory}
-use Rattle.content.specs.Content.{Content, Admitted, sizeOf, imageOf, Same}
+use Rattle.frame.specs.Frame.{onLoop, hasSecond}
+use Rattle.memory.specs.Memory.{memoryOf, builtMemory}
+use Rattle.content.specs.Content.{Content, pointBytes, framesBytes, Admitted, imageOf, Same}
 use Rattle.content.specs.ReadImage.{readImage}
-use Rattle.pattern.specs.Calls.{ran, MemoryCall, memoryStep, addedItem, contentFrom, builtFrom}
+use Rattle.pattern.specs.Calls.{ran, MemoryCall, memoryStep, contentFrom, builtFrom}
 
 -- a pattern: an acceleration flag and the calls on a memory builder
 pub record Pattern : Type 0 where
@@ -25,12 +24,8 @@ pub record Pattern : Type 0 where
 abbrev pub IsBuilt : Pattern → Type 0
 IsBuilt p = builtFrom (p .acceleration) (p .calls) .number ≡ 0
 
--- what `build` hands out
-abbrev pub patternMemory : Pattern → WaveformMemory
-patternMemory p = builtFrom (p .acceleration) (p .calls) .item
-
 abbrev pub image : Pattern → List ℕ
-image p = patternMemory p .«data»
+image p = builtFrom (p .acceleration) (p .calls) .item .«data»
 
 abbrev pub content : Pattern → Content
 content p = contentFrom (p .acceleration) (p .calls)
@@ -39,15 +34,9 @@ content p = contentFrom (p .acceleration) (p .calls)
 abbrev pub ImageOf : List ℕ → Content → Type 0
 ImageOf l c = Admitted c × (imageOf c ≡ l)
 
--- the length and the counts beside an image are its content's; an upload sends the first `len` bytes
-pub record ValuesOf (m : WaveformMemory) (c : Content) : Type 0 where
-  pub size : m .len ≡ sizeOf c
-  pub snippets : m .«num_snippets» ≡ length (c .snippets)
-  pub sequences : m .«num_sequences» ≡ length (c .sequences)
-
 -- "an absent loop count for a one-byte frame, a present one otherwise"
 abbrev pub LoopAsRead : FrameBuilder → Type 0
-LoopAsRead f = loopGiven (f .«loop_count») ≡ hasSecond f
+LoopAsRead f = onLoop (f .«loop_count») false (λ _. true) ≡ hasSecond f
 
 pub record Demand3 : Type 0 where
   -- the acceleration flag changes nothing: the refusal and the image are those without it
@@ -57,8 +46,9 @@ pub record Demand3 : Type 0 where
   pub hundred : (p : Pattern) → IsBuilt p → length (image p) ≡ 100
   -- what its accepted calls added is admitted, and its image is laid out as document 01 says
   pub laidOut : (p : Pattern) → IsBuilt p → ImageOf (image p) (content p)
-  -- the length and the counts beside the image are those of that content
-  pub values : (p : Pattern) → IsBuilt p → ValuesOf (patternMemory p) (content p)
+  -- the length and the counts beside the image are those of that content; an upload sends the first `len` bytes
+  pub values : (p : Pattern) → IsBuilt p → let c = content p in
+      builtFrom (p .acceleration) (p .calls) .item ≡ memoryOf (map pointBytes (c .snippets)) (map framesBytes (c .sequences))
   -- "The builders admit ..": what is admitted is what some calls build
   pub admits : (c : Content) → Admitted c → (p : Pattern) × IsBuilt p × (content p ≡ c)
   -- "Two images .. are equal exactly when .." their contents are the same
@@ -71,6 +61,6 @@ pub record Demand3 : Type 0 where
   pub loopsRead : (l : List ℕ) → Bytes l → (c : Content) → readImage l ≡ some c → All (All LoopAsRead) (c .sequences)
   -- a `build`, refused or not, hands back its builder as it came in: more calls on it add to what was added before
   pub goesOn : (a : Bool) (ks js : List MemoryCall)
-      → builtMemory (ran memoryStep addedItem (builtFrom a ks .builder) js) ≡ builtFrom a (ks ++ js)
+      → builtMemory (ran memoryStep (builtFrom a ks .builder) js) ≡ builtFrom a (ks ++ js)
   -- every built image is read back to the same content
   pub readBack : (p : Pattern) → IsBuilt p → (c : Content) × (readImage (image p) ≡ some c) × Same (content p) c

@@ -11,12 +11,13 @@ use lib.Dec.{leb, eqb}
 use lib.ListN.{length, take, drop, getD, length-take}
 use lib.Seq.{take-add, take-at, drop-at, length-take-le}
 use Rattle.laws.specs.Bytes.{All, Bytes}
-use Rattle.errors.specs.Told.{gives}
+use Rattle.errors.specs.Told.{gives, refuses}
 use Rattle.errors.specs.declared.Answer.the-variants as Answer
 use Rattle.frame.specs.declared.FrameBuilder.{FrameBuilder}
 use Rattle.frame.specs.Builder.{silentFrame}
 use Rattle.content.specs.Content.{Point, Content, pointBytes}
-use Rattle.content.specs.ReadImage.{andThen, every, pointsIn, readSnippet, readSequence, Cut, cut, allZero, Items, countsFit, itemsFrom, readItems, contentIn, readImage}
+use Rattle.content.proofs.Admits.{pointsIn}
+use Rattle.content.specs.ReadImage.{onOption, andThen, every, readSnippet, readSequence, Cut, cut, allZero, Items, countsFit, itemsFrom, readItems, contentIn, readImage}
 use Rattle.content.proofs.Codec.{cons-eq}
 use Rattle.content.proofs.Points.{points-there}
 use Rattle.content.proofs.Items.{counts-sound}
@@ -25,14 +26,14 @@ use Rattle.reader.specs.declared.Frames.{Frames}
 use Rattle.reader.specs.declared.Reading.{Reading}
 use Rattle.reader.specs.Reading.{noPoints, noFrames, readingOf}
 use Rattle.reader.specs.Walk.{pushSnippet, pushSequence, walkSequences, noReading, sequencesThen, afterSnippets, snippetsThen, afterCounts, scanned}
-use Rattle.reader.specs.Told.{readingTold, imageTold}
+use Rattle.reader.specs.Told.{readingTold}
 use Rattle.reader.proofs.Capacity.{Tracks, flatPoints, flatFrames, rawSnippet, raw-same, tracks-snippets, tracks-sequences}
 use Rattle.reader.proofs.Cuts.{lastOf, inTurn, afterCut, walk-cut, joinCut, cutMore, cut-append, cond-then, WasCut, was-cut}
 use Rattle.reader.proofs.Flats.{flatOf, shows}
 
 -- a reading is right for what the definition reads
 abbrev Right : Option Content → Reading → Type 0
-Right o r = (readingTold r ≡ imageTold o) × (r ≡ readingOf o)
+Right o r = (readingTold r ≡ onOption o (refuses 18) gives) × (r ≡ readingOf o)
 
 via : {o o′ : Option Content} {r r′ : Reading} → o ≡ o′ → r ≡ r′ → Right o′ r′ → Right o r
 via {o} {o′} {r} {r′} p e x = subst (λ (y : Reading). Right o y) (sym e) (subst (λ (y : Option Content). Right y r′) (sym p) x)
@@ -208,5 +209,5 @@ whole (s ∷ q ∷ l) small = go (eqb (length (s ∷ q ∷ l)) 100) (countsFit s
       refused-right (image-none s q l false u (ne-eqb (length l) 98 (λ n. d (omega arith))) f refl)
 
 -- a reading that holds what the image says tells it
-pub told : (l : List ℕ) → Bytes l → (r : Reading) → r ≡ readingOf (readImage l) → readingTold r ≡ imageTold (readImage l)
+pub told : (l : List ℕ) → Bytes l → (r : Reading) → r ≡ readingOf (readImage l) → readingTold r ≡ onOption (readImage l) (refuses 18) gives
 told l small r e = let w = whole l small in ap readingTold (e ∙ sym (w .1)) ∙ w .0

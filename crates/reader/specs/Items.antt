@@ -1,13 +1,10 @@
 -- The j-th element of the i-th list in what the reader answers. Document 01 leaves the form to us: "it returns lists" (demand 3).
-use Prim.Native.Nat.{ℕ, _-_}
-use mathlib.Core.List.{List, []}
+use Prim.Native.Nat.{ℕ}
+use mathlib.Core.List.{List}
 use mathlib.Core.Option.{Option, none, some}
-use lib.ListN.{take, getElem?}
+use lib.ListN.{getElem?}
 use Rattle.frame.specs.declared.FrameBuilder.{FrameBuilder}
 use Rattle.content.specs.ReadImage.{andThen}
-use Rattle.reader.specs.declared.Points.{Points}
-use Rattle.reader.specs.declared.Frames.{Frames}
-use Rattle.reader.specs.Reading.{parts, sequencesIn}
 use Rattle.reader.specs.declared.items.PointAt.{PointAt}
 use Rattle.reader.specs.declared.items.PointAt.the-variants as PointAt
 use Rattle.reader.specs.declared.items.FrameAt.{FrameAt}
@@ -18,17 +15,11 @@ abbrev pub element : {A : Type 0} → List (List A) → ℕ → ℕ → Option A
 element ls i j = andThen (getElem? ls i) (λ l. getElem? l j)
 
 -- the byte of a point of a snippet
-abbrev pub pointAt : Points → ℕ → ℕ → Option ℕ
-pointAt p i j = element (parts 0 (take (p .count) (p .ends)) (p .items)) i j
-
 abbrev pub pointAtTold : PointAt → Option ℕ
 pointAtTold (PointAt.Point p) = some (p .byte)
 pointAtTold PointAt.Absent = none
 
 -- a frame of a sequence
-abbrev pub frameAt : Frames → ℕ → ℕ → Option FrameBuilder
-frameAt f i j = element (sequencesIn f) i j
-
 abbrev pub frameAtTold : FrameAt → Option FrameBuilder
 frameAtTold (FrameAt.Frame f) = some f
 frameAtTold FrameAt.Absent = none

@@ -19,6 +19,10 @@ abbrev pub parts : {A : Type 0} → ℕ → List ℕ → List A → List (List A
 parts from [] l = []
 parts from (e ∷ es) l = take (e - from) (drop from l) ∷ parts e es l
 
+-- the snippets' points by their bytes: items holds them, ends where each snippet ends
+abbrev pub snippetsIn : Points → List (List ℕ)
+snippetsIn p = parts 0 (take (p .count) (p .ends)) (p .items)
+
 -- the sequences' frames: items holds them, ends where each sequence ends
 abbrev pub sequencesIn : Frames → List (List FrameBuilder)
 sequencesIn f = parts 0 (take (f .count) (f .ends)) (f .items)
@@ -44,11 +48,6 @@ laidPoints ls =
 abbrev pub laidFrames : List (List FrameBuilder) → Frames
 laidFrames ls =
     record { items = padded 96 silentFrame (joined ls); len = length (joined ls); ends = padded 16 0 (endPointers 0 ls); count = length ls }
-
--- 18 for what is no image
-abbrev pub readNumber : Option Content → ℕ
-readNumber none = 18
-readNumber (some c) = 0
 
 -- the lists of a content; what is refused holds none
 abbrev pub readingOf : Option Content → Reading

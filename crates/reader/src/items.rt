@@ -4,7 +4,8 @@
 ghost use mathlib.Core.Path.{_≡_};
 ghost use Prim.Native.Nat.{_<_};
 ghost use lib.ListN.{take, length};
-ghost use Rattle.reader.specs.Items.{pointAt, pointAtTold, frameAt, frameAtTold};
+ghost use Rattle.reader.specs.Items.{element, pointAtTold, frameAtTold};
+ghost use Rattle.reader.specs.Reading.{snippetsIn, sequencesIn};
 ghost use Rattle.reader.specs.Places.{startIn, placeIn, placeTold};
 use crate::Frames;
 use crate::Points;
@@ -29,7 +30,7 @@ enum Place {
 
 // The j-th point of the i-th snippet, both counted from 0.
 pub fn point_at(points: Points, i: usize, j: usize) -> PointAt
-    ensures { λ r. ⌜ pointAtTold r ≡ pointAt points i j ⌝ }
+    ensures { λ r. ⌜ pointAtTold r ≡ element (snippetsIn points) i j ⌝ }
 {
     let ends = points.ends;
     match find(&ends, points.count as usize, i, j) {
@@ -45,7 +46,7 @@ pub fn point_at(points: Points, i: usize, j: usize) -> PointAt
 
 // The j-th frame of the i-th sequence, both counted from 0.
 pub fn frame_at(frames: Frames, i: usize, j: usize) -> FrameAt
-    ensures { λ r. ⌜ frameAtTold r ≡ frameAt frames i j ⌝ }
+    ensures { λ r. ⌜ frameAtTold r ≡ element (sequencesIn frames) i j ⌝ }
 {
     let ends = frames.ends;
     match find(&ends, frames.count as usize, i, j) {

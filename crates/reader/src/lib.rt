@@ -9,8 +9,8 @@ ghost use mathlib.Core.Path.{_≡_};
 ghost use Prim.Native.Nat.{_+_, _≤_, _<_};
 ghost use lib.ListN.{length, drop};
 ghost use Rattle.errors.specs.Number.{answerNumber};
-ghost use Rattle.content.specs.ReadImage.{readImage, countsFit, allZero};
-ghost use Rattle.reader.specs.Reading.{readNumber, readingOf, noPoints, noFrames};
+ghost use Rattle.content.specs.ReadImage.{onOption, readImage, countsFit, allZero};
+ghost use Rattle.reader.specs.Reading.{readingOf, noPoints, noFrames};
 ghost use Rattle.frame.specs.Read.{readTold};
 ghost use Rattle.reader.specs.Flat.{pushPoints, endSnippet};
 ghost use Rattle.reader.specs.Walk.{nextFrame, noSnippets, snippetsRead, walkSnippets, noSequences, sequencesRead, walkSequences};
@@ -333,7 +333,7 @@ fn scan(image: &[u8]) -> Reading
 
 // The lists whose image the bytes are, or NotAnImage. What no list shows, the bytes behind the lists, is as in a new array.
 pub fn read(image: &[u8]) -> Reading
-    ensures { λ r. ⌜ answerNumber (r .answer) ≡ readNumber (readImage (now (image .entry))) ⌝ }
+    ensures { λ r. ⌜ answerNumber (r .answer) ≡ onOption (readImage (now (image .entry))) 18 (λ _. 0) ⌝ }
     ensures { λ r. ⌜ r ≡ readingOf (readImage (now (image .entry))) ⌝ }
 {
     scan(image)

@@ -22,7 +22,8 @@ use Rattle.reader.specs.declared.items.FrameAt.{FrameAt}
 use Rattle.reader.specs.declared.items.FrameAt.the-variants as FrameAt
 use Rattle.reader.proofs.Placed.{elem-some, elem-none, one-part}
 use Rattle.readings.specs.InPlace.{beforeItem, itemAt, NthFrame, FrameOf}
-use Rattle.readings.specs.Readings.{absentPoint, byteCode, Small}
+use Rattle.readings.specs.Readings.{byteCode, Small}
+use Rattle.readings.proofs.Codes.{absentPoint}
 
 -- ---- an item's bytes
 

@@ -1,3 +1,4 @@
+pub mod Codes
 pub mod Elements
 pub mod Fitting
 pub mod Laying

@@ -17,7 +17,8 @@ use Rattle.frame.specs.Frame.{bytesOf}
 use Rattle.frame.specs.Agreement.{FrameAdmitted}
 use Rattle.memory.specs.Image.{joined, endPointers, imageBytes}
 use Rattle.memory.proofs.Images.{joined-length}
-use Rattle.content.specs.Content.{Point, Content, byteOf, pointBytes, framesBytes, imageOf, SnippetAdmitted, SequenceAdmitted, Admitted}
+use Rattle.content.specs.Content.{Point, Content, byteOf, pointBytes, framesBytes, imageOf, Admitted}
+use Rattle.content.proofs.Admits.{SequenceAdmitted}
 use Rattle.content.specs.ReadImage.{readImage}
 use Rattle.content.proofs.Codec.{none-some, some-inj, cons-eq, all-append, all-map}
 use Rattle.content.proofs.Points.{snippet-codec}
@@ -27,9 +28,10 @@ use Rattle.reader.specs.Reading.{parts, padded}
 use Rattle.reader.specs.Items.{element}
 use Rattle.reader.proofs.Cuts.{lastOf}
 use Rattle.reader.proofs.Flats.{flatOf, shows}
-use Rattle.readings.specs.Readings.{countsAnswer, pointCode, pointAnswer, frameCode, frameAnswer, byteCode}
-use Rattle.readings.specs.Lists.{wordsBytes, listsOf, listsSize, listsOut}
-use Rattle.readings.specs.Telling.{AnswersFit, SameAnswers, SameLists, ReadingsTold}
+use Rattle.readings.specs.Readings.{countsAnswer, pointAnswer, frameAnswer, byteCode}
+use Rattle.readings.proofs.Codes.{pointCode, frameCode}
+use Rattle.readings.specs.Lists.{wordsBytes, listsOf, listsOut}
+use Rattle.readings.specs.Telling.{Alike, ReadingsTold}
 use Rattle.readings.proofs.Laying.{words-length}
 use Rattle.readings.proofs.Words.{word-small, word-told, words-told}
 
@@ -117,8 +119,8 @@ held l c h e =
     record {
       admitted = s .0;
       image = s .1;
-      bytes = all-map Bytes pointBytes (snippet-codec .fit) (c .snippets) (s .0 .snippet);
-      frames = all-frames (c .sequences) (s .0 .sequence);
+      bytes = all-map Bytes pointBytes (snippet-codec .fit) (c .snippets) (s .0 .snippets .each);
+      frames = all-frames (c .sequences) (s .0 .sequences .each);
     }
 
 -- the same points and the same frames are of the same image
@@ -129,13 +131,13 @@ one-image l k c d a b p q =
     ap readImage (sym (a .image) ∙ (λ i. imageBytes (p i) (map framesBytes (q i))) ∙ b .image)
 
 counts-room : (l : List ℕ) (c : Content) → Held l c → Room 16 (countsAnswer (some c))
-counts-room l c a = omega (arith, a .admitted .fewSnippets, a .admitted .fewSequences)
+counts-room l c a = omega (arith, a .admitted .snippets .few, a .admitted .sequences .few)
 
 same-counts : (l k : List ℕ) (c d : Content) → Held l c → Held k d → packed 16 (countsAnswer (some c)) ≡ packed 16 (countsAnswer (some d))
     → (length (c .snippets) ≡ length (d .snippets)) × (length (c .sequences) ≡ length (d .sequences))
 same-counts l k c d a b e =
-    let g = a .admitted .fewSequences in
-    let h = b .admitted .fewSequences in
+    let g = a .admitted .sequences .few in
+    let h = b .admitted .sequences .few in
     (omega (arith, e), omega (arith, e))
 
 -- an image is not answered as what is none
@@ -153,20 +155,22 @@ of-read P l h n f = go (readImage l) refl where
   go none e = n
   go (some c) e = f c (held l c h e)
 
-fit : (l : List ℕ) → Bytes l → AnswersFit l
-fit l h =
-    record {
-      counts = of-read (λ (o : Option Content). Room 16 (countsAnswer o)) l h (omega arith) (counts-room l);
-      point = λ i j.
-          of-read (λ (o : Option Content). Room 16 (pointAnswer o i j)) l h (omega arith)
-          (λ c a. subst (λ (n : ℕ). n < 2 ^ 16) (sym (points-bytes (c .snippets) i j)) (byte-room (element (map pointBytes (c .snippets)) i j) (element-all (λ b. b < 256) (map pointBytes (c .snippets)) i j (a .bytes))));
-      frame = λ i j.
-          of-read (λ (o : Option Content). Room 56 (frameAnswer o i j)) l h (omega arith)
-          (λ c a. frame-room (element (c .sequences) i j) (element-all FrameAdmitted (c .sequences) i j (a .frames)));
-    }
+counts-fit : (l : List ℕ) → Bytes l → Room 16 (countsAnswer (readImage l))
+counts-fit l h = of-read (λ (o : Option Content). Room 16 (countsAnswer o)) l h (omega arith) (counts-room l)
 
-same-readings : (l k : List ℕ) → Bytes l → Bytes k → SameAnswers l k → readImage l ≡ readImage k
-same-readings l k hl hk s = go (readImage l) (readImage k) refl refl (s .counts) (s .point) (s .frame) where
+point-fit : (l : List ℕ) → Bytes l → (i j : ℕ) → Room 16 (pointAnswer (readImage l) i j)
+point-fit l h i j =
+    of-read (λ (o : Option Content). Room 16 (pointAnswer o i j)) l h (omega arith)
+    (λ c a. subst (λ (n : ℕ). n < 2 ^ 16) (sym (points-bytes (c .snippets) i j)) (byte-room (element (map pointBytes (c .snippets)) i j) (element-all (λ b. b < 256) (map pointBytes (c .snippets)) i j (a .bytes))))
+
+frame-fit : (l : List ℕ) → Bytes l → (i j : ℕ) → Room 56 (frameAnswer (readImage l) i j)
+frame-fit l h i j =
+    of-read (λ (o : Option Content). Room 56 (frameAnswer o i j)) l h (omega arith)
+    (λ c a. frame-room (element (c .sequences) i j) (element-all FrameAdmitted (c .sequences) i j (a .frames)))
+
+same-readings : (l k : List ℕ) → Bytes l → Bytes k → Alike 16 countsAnswer l k → ((i j : ℕ) → Alike 16 (λ o. pointAnswer o i j) l k)
+    → ((i j : ℕ) → Alike 56 (λ o. frameAnswer o i j) l k) → readImage l ≡ readImage k
+same-readings l k hl hk = go (readImage l) (readImage k) refl refl where
   go : (o p : Option Content) → readImage l ≡ o → readImage k ≡ p → packed 16 (countsAnswer o) ≡ packed 16 (countsAnswer p)
       → ((i j : ℕ) → packed 16 (pointAnswer o i j) ≡ packed 16 (pointAnswer p i j)) → ((i j : ℕ) → packed 56 (frameAnswer o i j) ≡ packed 56 (frameAnswer p i j))
       → readImage l ≡ readImage k
@@ -254,10 +258,10 @@ lengths l c a =
     let m = length-map (c .sequences) framesBytes in
     let j = joined-length xs ys in
     let f = sequences-bytes (c .sequences) in
-    let p = padded-length 96 0 (joined xs) (omega (arith, g .fits, g .someSnippets, g .someSequences)) in
-    let q = padded-length 15 0 (endPointers 0 xs) (omega (arith, length-pointers 0 xs, g .fewSnippets)) in
-    let r = padded-length 576 0 (wordsBytes (joined (c .sequences))) (omega (arith, words-length (joined (c .sequences)), g .fits, g .someSnippets, g .someSequences)) in
-    let s = padded-length 16 0 (endPointers 0 (c .sequences)) (omega (arith, length-pointers 0 (c .sequences), g .fewSequences)) in
+    let p = padded-length 96 0 (joined xs) (omega (arith, g .fits, g .snippets .nonempty, g .sequences .nonempty)) in
+    let q = padded-length 15 0 (endPointers 0 xs) (omega (arith, length-pointers 0 xs, g .snippets .few)) in
+    let r = padded-length 576 0 (wordsBytes (joined (c .sequences))) (omega (arith, words-length (joined (c .sequences)), g .fits, g .snippets .nonempty, g .sequences .nonempty)) in
+    let s = padded-length 16 0 (endPointers 0 (c .sequences)) (omega (arith, length-pointers 0 (c .sequences), g .sequences .few)) in
     let two = length-append (points c) (pointEnds c) in
     let three = length-append (points c ++ pointEnds c) (frames c) in
     record { one = p; two = omega arith; three = omega arith; all = omega (arith, length-append (points c ++ pointEnds c ++ frames c) (frameEnds c)) }
@@ -284,12 +288,13 @@ lists-told l k c d a b n e =
     (laid-told 0 15 xs ys (length-map (c .snippets) pointBytes ∙ m .0 ∙ sym (length-map (d .snippets) pointBytes)) (r .0) (r .1))
     (laid-told silentFrame 16 (c .sequences) (d .sequences) (m .1) (ap (padded 96 silentFrame) same) (p .1))
 
-lists-length : (l out : List ℕ) (c : Content) → Held l c → length out ≡ listsSize → length (listsOf c) ≡ length out
+lists-length : (l out : List ℕ) (c : Content) → Held l c → length out ≡ 703 → length (listsOf c) ≡ length out
 unfolding listsOf
 lists-length l out c a h = lengths l c a .all ∙ sym h
 
-same-lists : (l k out : List ℕ) → Bytes l → Bytes k → SameLists l k out → readImage l ≡ readImage k
-same-lists l k out hl hk s = go (readImage l) (readImage k) refl refl (s .counts) (s .buffer) where
+same-lists : (l k out : List ℕ) → Bytes l → Bytes k → length out ≡ 703 → Alike 16 countsAnswer l k
+    → listsOut (readImage l) out ≡ listsOut (readImage k) out → readImage l ≡ readImage k
+same-lists l k out hl hk full = go (readImage l) (readImage k) refl refl where
   go : (o p : Option Content) → readImage l ≡ o → readImage k ≡ p → packed 16 (countsAnswer o) ≡ packed 16 (countsAnswer p) → listsOut o out ≡ listsOut p out
       → readImage l ≡ readImage k
   go none none e f n u = e ∙ sym f
@@ -299,7 +304,7 @@ same-lists l k out hl hk s = go (readImage l) (readImage k) refl refl (s .counts
       let a = held l c hl e in
       let b = held k d hk f in
       lists-told l k c d a b n
-      (sym (copied-whole out (listsOf c) (lists-length l out c a (s .full))) ∙ u ∙ copied-whole out (listsOf d) (lists-length k out d b (s .full)))
+      (sym (copied-whole out (listsOf c) (lists-length l out c a full)) ∙ u ∙ copied-whole out (listsOf d) (lists-length k out d b full))
 
 pub readings-told : ReadingsTold
-readings-told = record { answers = fit; readings = same-readings; lists = same-lists }
+readings-told = record { counts = counts-fit; point = point-fit; frame = frame-fit; readings = same-readings; lists = same-lists }

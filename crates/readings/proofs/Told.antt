@@ -12,13 +12,15 @@ use Rattle.errors.specs.Packed.{packed}
 use Rattle.snippet.proofs.Points.{byte-back}
 use Rattle.frame.specs.declared.FrameBuilder.{FrameBuilder}
 use Rattle.content.specs.Content.{Point, Content}
-use Rattle.content.specs.ReadImage.{andThen, pointsIn, readSnippet, readFrames, readSequence, readImage}
+use Rattle.content.proofs.Admits.{pointsIn}
+use Rattle.content.specs.ReadImage.{andThen, readSnippet, readFrames, readSequence, readImage}
 use Rattle.content.proofs.Codec.{some-inj, cond-some}
 use Rattle.reader.specs.declared.items.FrameAt.{FrameAt}
 use Rattle.reader.specs.Items.{element, frameAtTold}
 use Rattle.reader.proofs.Placed.{elem-some, elem-none}
 use Rattle.readings.specs.InPlace.{present, itemAt, FrameOf}
-use Rattle.readings.specs.Readings.{countsAnswer, absentPoint, byteCode, Small, pointCode, pointAnswer, absentFrame, frameCode, frameAnswer}
+use Rattle.readings.specs.Readings.{countsAnswer, byteCode, Small, pointAnswer, frameAnswer}
+use Rattle.readings.proofs.Codes.{absentPoint, pointCode, absentFrame, frameCode}
 use Rattle.readings.proofs.Standing.{Known, known}
 
 false-true : {X : Type 0} → false ≡ true → X

@@ -12,10 +12,11 @@ use Rattle.frame.specs.declared.LoopCount.the-variants as LoopCount
 use Rattle.frame.specs.declared.Frequency.{Frequency}
 use Rattle.frame.specs.declared.Frequency.the-variants as Frequency
 use Rattle.frame.specs.declared.FrameBuilder.{FrameBuilder}
-use Rattle.frame.specs.Agreement.{LoopAdmitted, FrequencyAdmitted, FrameAdmitted}
+use Rattle.frame.specs.Agreement.{FrameAdmitted}
+use Rattle.frame.proofs.Parts.{loopByte, frequencyWord, LoopAdmitted, FrequencyAdmitted}
 use Rattle.frame.specs.Frame.{gainCode, timebaseCode}
 use Rattle.frame.specs.Read.{gainAt, timebaseAt}
-use Rattle.frame.specs.Word.{loopByte, frequencyWord, frameWord}
+use Rattle.frame.specs.Word.{frameWord}
 use Rattle.frame.proofs.Reading.{gain-back, timebase-back}
 use Rattle.content.proofs.Codec.{cons-eq}
 use Rattle.readings.specs.Lists.{lowBytes, wordBytes, wordsBytes}

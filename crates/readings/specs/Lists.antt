@@ -2,12 +2,13 @@
 -- and byte slices". Laid out as in reader/specs/Reading.antt: elements end to end, and behind each kind the index after each list's last.
 use Prim.Native.Nat.{ℕ, zero, suc, _/_, _%_}
 use mathlib.Core.List.{List, [], _∷_, _++_, map}
-use mathlib.Core.Option.{Option, none, some}
+use mathlib.Core.Option.{Option}
 use Rattle.laws.specs.Copied.{copied}
 use Rattle.frame.specs.declared.FrameBuilder.{FrameBuilder}
 use Rattle.frame.specs.Word.{frameWord}
 use Rattle.memory.specs.Image.{joined, endPointers}
 use Rattle.content.specs.Content.{Content, pointBytes}
+use Rattle.content.specs.ReadImage.{onOption}
 use Rattle.reader.specs.Reading.{padded}
 
 -- the low k bytes of a number, the lowest first
@@ -31,11 +32,6 @@ listsOf c =
     ++ padded 576 0 (wordsBytes (joined (c .sequences)))
     ++ padded 16 0 (endPointers 0 (c .sequences))
 
--- how many bytes these are
-abbrev pub listsSize : ℕ
-listsSize = 703
-
 -- the lent buffer after it: as it was, where the bytes are no image
 abbrev pub listsOut : Option Content → List ℕ → List ℕ
-listsOut none out = out
-listsOut (some c) out = copied out (listsOf c)
+listsOut o out = onOption o out (λ c. copied out (listsOf c))

@@ -4,15 +4,16 @@
 // specs/Readings.antt, how all are bytes specs/Lists.antt, and that no two are confused specs/Telling.antt. The private functions answer
 // specs/InPlace.antt and specs/Laying.antt.
 ghost use mathlib.Core.Path.{_≡_};
-ghost use Prim.Native.Nat.{_≤_, _<_};
+ghost use Prim.Native.Nat.{_≤_, _<_, _^_};
 ghost use lib.ListN.{length, take, getD, getElem?};
 ghost use Rattle.laws.specs.Copied.{copied, placed};
 ghost use Rattle.errors.specs.Packed.{packed};
-ghost use Rattle.content.specs.ReadImage.{readImage, readFrames};
+ghost use Rattle.content.specs.ReadImage.{onOption, readImage, readFrames};
+ghost use Rattle.frame.specs.Word.{frameWord};
 ghost use Rattle.reader.specs.Items.{frameAtTold};
 ghost use Rattle.reader.specs.Reading.{padded};
 ghost use Rattle.readings.specs.InPlace.{present, itemFits, lastIn, indexTold, itemsFit, beforeItem, itemAt, NthFrame, FrameOf};
-ghost use Rattle.readings.specs.Readings.{countsAnswer, byteCode, Small, pointAnswer, frameCode, frameAnswer};
+ghost use Rattle.readings.specs.Readings.{countsAnswer, byteCode, Small, pointAnswer, frameAnswer};
 ghost use Rattle.readings.specs.Lists.{lowBytes, wordsBytes, listsOut};
 ghost use Rattle.readings.specs.Laying.{laidBytes};
 use errors::Answer;
@@ -354,7 +355,7 @@ fn byte(image: &[u8], at: usize) -> usize
 // ---- a frame as one number
 
 fn frame_code(f: FrameAt) -> u64
-    ensures { λ r. ⌜ r ≡ frameCode (frameAtTold f) ⌝ }
+    ensures { λ r. ⌜ r ≡ onOption (frameAtTold f) (2 ^ 48) frameWord ⌝ }
 {
     match f {
         FrameAt::Frame(x) => x.word(),

@@ -5,38 +5,31 @@ use mathlib.Core.Bool.{cond}
 use mathlib.Core.List.{List}
 use lib.Dec.{ltb, leb}
 use lib.ListN.{length, take, replicate}
-use Rattle.errors.specs.Number.{answerNumber}
-use Rattle.errors.specs.Told.{Handed, accepted, refused, Built}
+use Rattle.errors.specs.Told.{Handed, accepted, refused, Built, built}
 use Rattle.laws.specs.Copied.{over}
 use Rattle.frame.specs.declared.Frame.{Frame}
 use Rattle.frame.specs.Frame.{frameBytes}
 use Rattle.sequence.specs.declared.Sequence.{Sequence}
 use Rattle.sequence.specs.declared.SequenceBuilder.{SequenceBuilder}
-use Rattle.sequence.specs.declared.AddedFrame.{AddedFrame}
-use Rattle.sequence.specs.declared.BuiltSequence.{BuiltSequence}
 
 -- the bytes of a sequence's frames, in order: the first len, 96 at most
 abbrev pub sequenceBytes : Sequence → List ℕ
 sequenceBytes s = take (s .len) (s .«data»)
 
+-- a builder of its bytes, their number and that of the frames
+abbrev pub sequenceWith : List ℕ → ℕ → ℕ → SequenceBuilder
+sequenceWith bytes n frames = record { «data» = bytes; len = n; «frame_count» = frames }
+
 -- a builder that holds nothing
 abbrev pub newSequence : SequenceBuilder
-newSequence = record { «data» = replicate 96 0; len = 0; «frame_count» = 0 }
+newSequence = sequenceWith (replicate 96 0) 0 0
 
 -- a frame more behind the others: 8 if the sequence would be more than 96 bytes, then 7 if it is a 33rd frame
 abbrev pub withFrame : SequenceBuilder → Frame → Handed SequenceBuilder
 withFrame b f =
     cond (ltb 96 (b .len + length (frameBytes f))) (refused 8 b)
     (cond (leb 32 (b .«frame_count»)) (refused 7 b)
-    (accepted
-    (record {
-      «data» = over (b .«data») (b .len) (frameBytes f);
-      len = b .len + length (frameBytes f);
-      «frame_count» = b .«frame_count» + 1;
-    })))
-
-abbrev pub addedTold : AddedFrame → Handed SequenceBuilder
-addedTold r = record { number = answerNumber (r .answer); builder = r .builder }
+    (accepted (sequenceWith (over (b .«data») (b .len) (frameBytes f)) (b .len + length (frameBytes f)) (b .«frame_count» + 1))))
 
 -- what stands in the answer where no sequence was built
 abbrev pub noSequence : Sequence
@@ -44,10 +37,4 @@ noSequence = record { «data» = newSequence .«data»; len = 0 }
 
 -- the sequence of the builder's bytes, or 10 where there is none
 abbrev pub builtSequence : SequenceBuilder → Built Sequence SequenceBuilder
-builtSequence b =
-    cond (ltb (b .len) 1)
-    (record { number = 10; item = noSequence; builder = b })
-    (record { number = 0; item = record { «data» = b .«data»; len = b .len }; builder = b })
-
-abbrev pub builtTold : BuiltSequence → Built Sequence SequenceBuilder
-builtTold r = record { number = answerNumber (r .answer); item = r .sequence; builder = r .builder }
+builtSequence b = cond (ltb (b .len) 1) (built 10 noSequence b) (built 0 (record { «data» = b .«data»; len = b .len }) b)

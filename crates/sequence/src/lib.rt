@@ -7,7 +7,9 @@ ghost use mathlib.Core.Path.{_≡_};
 ghost use Prim.Native.Nat.{min};
 ghost use lib.ListN.{length};
 ghost use Rattle.laws.specs.Copied.{copied};
-ghost use Rattle.sequence.specs.Sequence.{sequenceBytes, newSequence, withFrame, addedTold, builtSequence, builtTold};
+ghost use Rattle.errors.specs.Number.{answerNumber};
+ghost use Rattle.errors.specs.Told.{handed, built};
+ghost use Rattle.sequence.specs.Sequence.{sequenceBytes, newSequence, withFrame, builtSequence};
 use errors::Answer;
 use errors::Error;
 use frame::Frame;
@@ -78,7 +80,7 @@ impl SequenceBuilder {
 
     // The 96 bytes are tested before the 32 frames.
     pub fn add_frame(self, frame: Frame) -> AddedFrame
-        ensures { λ r. ⌜ addedTold r ≡ withFrame self frame ⌝ }
+        ensures { λ r. ⌜ handed (answerNumber (r .answer)) (r .builder) ≡ withFrame self frame ⌝ }
     {
         let at = self.len as usize;
         let n = frame.byte_len();
@@ -115,7 +117,7 @@ impl SequenceBuilder {
     }
 
     pub fn build(self) -> BuiltSequence
-        ensures { λ r. ⌜ builtTold r ≡ builtSequence self ⌝ }
+        ensures { λ r. ⌜ built (answerNumber (r .answer)) (r .sequence) (r .builder) ≡ builtSequence self ⌝ }
     {
         if self.len < 1 {
             let none = Sequence {

@@ -7,7 +7,7 @@ use native.Mathlib.Omega.{arith}
 use borrow.Author.Tests.{eq-eqb, ne-eqb}
 use lib.Dec.{eqb}
 use Rattle.laws.proofs.Tests.{same}
-use Rattle.snippet.specs.Point.{pointByte, rampIn, timebasesIn, amplitudeIn, PointAdmitted, SamePoint}
+use Rattle.snippet.specs.Point.{pointByte, rampIn, timebasesIn, amplitudeIn, PointAdmitted}
 
 module _ (t a : ℕ) (h : PointAdmitted t a) where
   pub ramp-back : (r : Bool) → rampIn (pointByte r t a) ≡ r
@@ -29,14 +29,14 @@ byte-back = same (λ b. pointByte (rampIn b) (timebasesIn b) (amplitudeIn b)) (�
 pub byte-admitted : (b : ℕ) → PointAdmitted (timebasesIn b) (amplitudeIn b)
 byte-admitted b = record { shortest = omega arith; longest = omega arith; strongest = omega arith }
 
-pub same-byte : (r : Bool) (t a : ℕ) (r′ : Bool) (t′ a′ : ℕ) → SamePoint r t a r′ t′ a′ → pointByte r t a ≡ pointByte r′ t′ a′
-same-byte r t a r′ t′ a′ s = λ i. pointByte (s .kind i) (s .lengths i) (s .strength i)
+-- "Points are the same when kind, length and amplitude are"
+pub same-byte : (r : Bool) (t a : ℕ) (r′ : Bool) (t′ a′ : ℕ) → (r ≡ r′) × (t ≡ t′) × (a ≡ a′) → pointByte r t a ≡ pointByte r′ t′ a′
+same-byte r t a r′ t′ a′ s = λ i. pointByte (s .0 i) (s .1 i) (s .2 i)
 
 pub same-point : (r : Bool) (t a : ℕ) (r′ : Bool) (t′ a′ : ℕ) → PointAdmitted t a → PointAdmitted t′ a′
-    → pointByte r t a ≡ pointByte r′ t′ a′ → SamePoint r t a r′ t′ a′
-same-point r t a r′ t′ a′ h h′ e =
-    record {
-      kind = sym (ramp-back t a h r) ∙ ap rampIn e ∙ ramp-back t′ a′ h′ r′;
-      lengths = sym (timebases-back t a h r) ∙ ap timebasesIn e ∙ timebases-back t′ a′ h′ r′;
-      strength = sym (amplitude-back t a h r) ∙ ap amplitudeIn e ∙ amplitude-back t′ a′ h′ r′;
-    }
+    → pointByte r t a ≡ pointByte r′ t′ a′ → (r ≡ r′) × (t ≡ t′) × (a ≡ a′)
+same-point r t a r′ t′ a′ h h′ e = (
+  sym (ramp-back t a h r) ∙ ap rampIn e ∙ ramp-back t′ a′ h′ r′,
+  sym (timebases-back t a h r) ∙ ap timebasesIn e ∙ timebases-back t′ a′ h′ r′,
+  sym (amplitude-back t a h r) ∙ ap amplitudeIn e ∙ amplitude-back t′ a′ h′ r′,
+)

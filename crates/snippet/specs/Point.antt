@@ -1,6 +1,5 @@
 -- A point is one byte: document 01, 'Points, frames, sequences'. "A bad length is told before a bad amplitude".
 use Prim.Native.Nat.{ℕ, _+_, _-_, _*_, _/_, _%_, _≤_}
-use mathlib.Core.Path.{_≡_}
 use mathlib.Core.Bool.{Bool, cond}
 use lib.Dec.{ltb, eqb}
 use Rattle.errors.specs.Number.{errorNumber}
@@ -40,9 +39,3 @@ pub record PointAdmitted (timebases amplitude : ℕ) : Type 0 where
   pub shortest : 1 ≤ timebases
   pub longest : timebases ≤ 8
   pub strongest : amplitude ≤ 15
-
--- "Points are the same when kind, length and amplitude are"
-pub record SamePoint (ramp : Bool) (timebases amplitude : ℕ) (ramp′ : Bool) (timebases′ amplitude′ : ℕ) : Type 0 where
-  pub kind : ramp ≡ ramp′
-  pub lengths : timebases ≡ timebases′
-  pub strength : amplitude ≡ amplitude′

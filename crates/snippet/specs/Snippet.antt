@@ -5,13 +5,10 @@ use mathlib.Core.Bool.{cond}
 use mathlib.Core.List.{List, map}
 use lib.Dec.{ltb, leb}
 use lib.ListN.{take, set, replicate}
-use Rattle.errors.specs.Number.{answerNumber}
-use Rattle.errors.specs.Told.{Told, gives, refuses, Handed, accepted, refused, Built}
+use Rattle.errors.specs.Told.{Told, onTold, Handed, accepted, refused, Built, built}
 use Rattle.snippet.specs.declared.PwlPoint.{PwlPoint}
 use Rattle.snippet.specs.declared.Snippet.{Snippet}
 use Rattle.snippet.specs.declared.SnippetBuilder.{SnippetBuilder}
-use Rattle.snippet.specs.declared.AddedPoint.{AddedPoint}
-use Rattle.snippet.specs.declared.BuiltSnippet.{BuiltSnippet}
 
 -- the point with a byte, and the byte of a point
 abbrev pub pointOf : ℕ → PwlPoint
@@ -36,11 +33,7 @@ withPoint b p =
 
 -- a point that was asked for by its fields: its own refusal comes first
 abbrev pub withMade : SnippetBuilder → Told ℕ → Handed SnippetBuilder
-withMade b (gives byte) = withPoint b (pointOf byte)
-withMade b (refuses n) = refused n b
-
-abbrev pub addedTold : AddedPoint → Handed SnippetBuilder
-addedTold r = record { number = answerNumber (r .answer); builder = r .builder }
+withMade b t = onTold t (λ byte. withPoint b (pointOf byte)) (λ n. refused n b)
 
 -- what stands in the answer where no snippet was built
 abbrev pub noSnippet : Snippet
@@ -48,10 +41,4 @@ noSnippet = record { points = newSnippet .points; len = 0 }
 
 -- the snippet of the builder's points, or 9 where there is none
 abbrev pub builtSnippet : SnippetBuilder → Built Snippet SnippetBuilder
-builtSnippet b =
-    cond (ltb (b .len) 1)
-    (record { number = 9; item = noSnippet; builder = b })
-    (record { number = 0; item = record { points = b .points; len = b .len }; builder = b })
-
-abbrev pub builtTold : BuiltSnippet → Built Snippet SnippetBuilder
-builtTold r = record { number = answerNumber (r .answer); item = r .snippet; builder = r .builder }
+builtSnippet b = cond (ltb (b .len) 1) (built 9 noSnippet b) (built 0 (record { points = b .points; len = b .len }) b)

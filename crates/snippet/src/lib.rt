@@ -8,8 +8,10 @@ ghost use mathlib.Core.Bool.{true, false};
 ghost use mathlib.Core.List.{map};
 ghost use lib.ListN.{length};
 ghost use Rattle.laws.specs.Copied.{copied};
+ghost use Rattle.errors.specs.Number.{answerNumber};
+ghost use Rattle.errors.specs.Told.{handed, built};
 ghost use Rattle.snippet.specs.Point.{point, pointTold, rampIn, timebasesIn, amplitudeIn};
-ghost use Rattle.snippet.specs.Snippet.{pointOf, pwlByte, snippetBytes, newSnippet, noSnippet, withPoint, withMade, addedTold, builtSnippet, builtTold};
+ghost use Rattle.snippet.specs.Snippet.{pointOf, pwlByte, snippetBytes, newSnippet, noSnippet, withPoint, withMade, builtSnippet};
 use errors::Answer;
 use errors::Error;
 
@@ -159,20 +161,20 @@ impl SnippetBuilder {
     }
 
     pub fn ramp(self, timebases: u8, amplitude: u8) -> AddedPoint
-        ensures { λ r. ⌜ addedTold r ≡ withMade self (point true timebases amplitude) ⌝ }
+        ensures { λ r. ⌜ handed (answerNumber (r .answer)) (r .builder) ≡ withMade self (point true timebases amplitude) ⌝ }
     {
         self.add(PwlPoint::ramp(timebases, amplitude))
     }
 
     pub fn step(self, timebases: u8, amplitude: u8) -> AddedPoint
-        ensures { λ r. ⌜ addedTold r ≡ withMade self (point false timebases amplitude) ⌝ }
+        ensures { λ r. ⌜ handed (answerNumber (r .answer)) (r .builder) ≡ withMade self (point false timebases amplitude) ⌝ }
     {
         self.add(PwlPoint::step(timebases, amplitude))
     }
 
     // A point that was made before.
     pub fn point(self, point: PwlPoint) -> AddedPoint
-        ensures { λ r. ⌜ addedTold r ≡ withPoint self point ⌝ }
+        ensures { λ r. ⌜ handed (answerNumber (r .answer)) (r .builder) ≡ withPoint self point ⌝ }
     {
         let n = self.len as usize;
         if MAX_POINTS_PER_SNIPPET <= n {
@@ -191,7 +193,7 @@ impl SnippetBuilder {
     }
 
     fn add(self, made: PointAnswer) -> AddedPoint
-        ensures { λ r. ⌜ addedTold r ≡ withMade self (pointTold made) ⌝ }
+        ensures { λ r. ⌜ handed (answerNumber (r .answer)) (r .builder) ≡ withMade self (pointTold made) ⌝ }
     {
         match made {
             PointAnswer::Point(p) => self.point(p),
@@ -203,7 +205,7 @@ impl SnippetBuilder {
     }
 
     pub fn build(self) -> BuiltSnippet
-        ensures { λ r. ⌜ builtTold r ≡ builtSnippet self ⌝ }
+        ensures { λ r. ⌜ built (answerNumber (r .answer)) (r .snippet) (r .builder) ≡ builtSnippet self ⌝ }
     {
         let ps = self.points;
         if self.len < 1 {

@@ -1,7 +1,8 @@
 -- By what was added, and the law on a step made on bytes. Assumes nothing.
 use borrow.Author.Needs.{needs}
 use mathlib.Core.Path.{_≡_, ap, _∙_}
-use Rattle.sequence.specs.Sequence.{builtTold}
+use Rattle.errors.specs.Number.{answerNumber}
+use Rattle.errors.specs.Told.{built}
 use native.Mathlib.Omega.{arith}
 use denote.Ref.{now}
 use lib.ListN.{length, take, length-take}
@@ -36,7 +37,7 @@ returns c =
     let s = a .r .sequence in
     let n = c .before .before .before .before .before .before .before .byte-len in
     let p = c .before .before .add .ensures in
-    sequence-added (builtTold (a .r)) (now (a .list)) _ _ _ _ _ (c .before .before .before .before .number2 .ensures) (c .before .before .before .before .before .number .ensures) (p .0)
+    sequence-added (built (answerNumber (a .r .answer)) (a .r .sequence) (a .r .builder)) (now (a .list)) _ _ _ _ _ (c .before .before .before .before .number2 .ensures) (c .before .before .before .before .before .number .ensures) (p .0)
     (ap (take (n .result)) (c .before .before .before .before .before .before .before .before .as-bytes .ensures) ∙ shown-part (s .«data») (s .len) (n .result) (n .ensures)) (p .1)
 
 pub add-sequence-spec : {M : Type 1} → statement M

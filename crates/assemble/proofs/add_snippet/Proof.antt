@@ -2,7 +2,9 @@
 use borrow.Author.Needs.{needs}
 use mathlib.Core.Path.{_≡_, ap, _∙_}
 use mathlib.Core.List.{map}
-use Rattle.snippet.specs.Snippet.{pwlByte, builtTold}
+use Rattle.snippet.specs.Snippet.{pwlByte}
+use Rattle.errors.specs.Number.{answerNumber}
+use Rattle.errors.specs.Told.{built}
 use Rattle.snippet.proofs.Sizes.{snippet-length}
 use native.Mathlib.Omega.{arith}
 use denote.Ref.{now}
@@ -38,7 +40,7 @@ returns c =
     let s = a .r .snippet in
     let n = c .before .before .before .before .before .before .before .byte-len in
     let p = c .before .before .add .ensures in
-    snippet-added (builtTold (a .r)) (now (a .list)) _ _ _ _ _ (c .before .before .before .before .number2 .ensures) (c .before .before .before .before .before .number .ensures) (p .0)
+    snippet-added (built (answerNumber (a .r .answer)) (a .r .snippet) (a .r .builder)) (now (a .list)) _ _ _ _ _ (c .before .before .before .before .number2 .ensures) (c .before .before .before .before .before .number .ensures) (p .0)
     (ap (take (n .result)) (c .before .before .before .before .before .before .before .before .bytes .ensures) ∙ shown-part (map pwlByte (s .points)) (s .len) (n .result) (n .ensures)) (p .1)
 
 pub add-snippet-spec : {M : Type 1} → statement M

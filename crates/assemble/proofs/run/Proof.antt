@@ -10,7 +10,6 @@ use denote.Ref.{now}
 use lib.ListN.{length, length-set, length-replicate}
 use lib.Seq.{sets}
 use Rattle.laws.specs.Copied.{copied}
-use Rattle.laws.proofs.Lists.{bytes-of}
 use Rattle.calls.specs.declared.Builders.{Builders}
 use Rattle.calls.specs.Calls.{callOf, callsIn}
 use Rattle.assemble.specs.Lists.{firstRefused}
@@ -92,16 +91,15 @@ returns : tie.Need-returns Inv-loop μ-loop
 returns c =
     let r = c .before .loop .inv .5 in
     let h = c .loop-test .left in
-    let bytes : List ℕ = now (c .before .before .before .before .before .before .before .args .calls) in
-    let small = bytes-of bytes (λ i. omega (arith, c .before .before .before .before .before .before .shared-slice-known .given i)) in (
-      left-builders r h ∙ builders-from bytes small,
+    let bytes : List ℕ = now (c .before .before .before .before .before .before .before .args .calls) in (
+      left-builders r h ∙ builders-from bytes,
       (
         left-count r h,
         (
-          left-told r h ∙ ap (firstRefused 0) (answers-from bytes small),
+          left-told r h ∙ ap (firstRefused 0) (answers-from bytes),
           (
-            left-answers r h ∙ ap (copied (now (c .before .before .before .before .before .before .before .args .answers))) (answers-from bytes small),
-            left-memory r h _ (memory-from bytes small),
+            left-answers r h ∙ ap (copied (now (c .before .before .before .before .before .before .before .args .answers))) (answers-from bytes),
+            left-memory r h _ (memory-from bytes),
           ),
         ),
       ),

@@ -11,7 +11,8 @@ use Rattle.errors.specs.Packed.{packed}
 use Rattle.calls.specs.declared.Builders.{Builders}
 use Rattle.frame.specs.declared.Frame.{Frame}
 use Rattle.frame.specs.Frame.{frameBytes}
-use Rattle.capi.specs.Items.{frameUnderWay, copiedLength, itemOut}
+use Rattle.capi.specs.Items.{copiedLength, itemOut}
+use Rattle.capi.proofs.Words.{frameUnderWay}
 use Rattle.capi.proofs.da728x_frame.Statement.{statement}
 use Rattle.capi.proofs.da728x_frame.Tie as tie
 

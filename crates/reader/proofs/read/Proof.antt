@@ -7,15 +7,15 @@ use native.Mathlib.Omega.{arith}
 use denote.Ref.{now}
 use Rattle.errors.specs.Number.{answerNumber}
 use Rattle.content.specs.Content.{Content}
-use Rattle.content.specs.ReadImage.{readImage}
+use Rattle.content.specs.ReadImage.{onOption, readImage}
 use Rattle.reader.specs.declared.Reading.{Reading}
-use Rattle.reader.specs.Reading.{readNumber, readingOf}
+use Rattle.reader.specs.Reading.{readingOf}
 use Rattle.reader.proofs.Whole.{whole}
 use Rattle.laws.proofs.Lists.{bytes-of}
 use Rattle.reader.proofs.read.Statement.{statement}
 use Rattle.reader.proofs.read.Tie as tie
 
-numbered : (o : Option Content) → answerNumber (readingOf o .answer) ≡ readNumber o
+numbered : (o : Option Content) → answerNumber (readingOf o .answer) ≡ onOption o 18 (λ _. 0)
 numbered none = refl
 numbered (some c) = refl
 

@@ -1,6 +1,8 @@
 -- Each arm by the code that it is for and what the builder's call answers; the last arm is past the list of codes. Assumes nothing.
 use borrow.Author.Needs.{needs}
-use mathlib.Core.Path.{ap, _∙_}
+use mathlib.Core.Path.{_≡_, ap, _∙_}
+use Prim.Native.Nat.{_%_}
+use native.Mathlib.Omega.{arith}
 use Rattle.laws.proofs.Tests.{past-list}
 use Rattle.calls.specs.Said as Call
 use Rattle.calls.specs.Calls.{callsByCode, calledBy}
@@ -20,7 +22,10 @@ returns-4 : tie.Need-returns-4
 returns-4 c = simp (c .before .before .match .keys4, ← c .before .step .ensures) (c .with-snippet3 .ensures)
 
 returns-5 : tie.Need-returns-5
-returns-5 c = simp (c .before .before .before .match .keys5, ← c .before .before .from-byte .ensures, ← c .before .point .ensures) (c .with-snippet4 .ensures)
+returns-5 c =
+    let s = c .before .before .before .before .before in
+    let e : s .args .r .a % 256 ≡ s .args .r .a = omega (arith, s .good .1 .0 .1 .1 .1 .0 .1) in
+    simp (c .before .before .before .match .keys5, e, ← c .before .before .from-byte .ensures, ← c .before .point .ensures) (c .with-snippet4 .ensures)
 
 returns-6 : tie.Need-returns-6
 returns-6 c = simp (c .before .before .match .keys6, ← c .before .new2 .ensures) (c .begin .ensures)

@@ -2,10 +2,16 @@
 use borrow.Author.Needs.{needs}
 use Prim.Native.Nat.{ℕ}
 use Rattle.calls.specs.declared.UnderWay.the-variants as UnderWay
-use Rattle.calls.specs.Calls.{onFrame}
+use Rattle.calls.specs.Calls.{builders}
+use Rattle.errors.specs.Told.{Handed, handed}
+use Rattle.calls.specs.declared.UnderWay.{UnderWay}
+use Rattle.calls.specs.declared.Builders.{Builders}
 use mathlib.Core.Path.{ap, _∙_}
 use Rattle.calls.proofs.Builders.set.Statement.{statement}
 use Rattle.calls.proofs.Builders.set.Tie as tie
+
+abbrev onFrame : Builders → ℕ → UnderWay → Handed Builders
+onFrame b n f = handed n (builders (b .snippet) f (b .sequence))
 
 returns : tie.Need-returns
 returns c = simp (c .before .enum-told .given .1) (c .not-begun .ensures)
