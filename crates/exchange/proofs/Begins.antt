@@ -4,14 +4,15 @@ use Prim.Native.Nat.{ℕ, _+_, _-_, _*_, _^_, _≤_, _<_, min}
 use native.Mathlib.Omega.{arith}
 use native.Mathlib.Nat.{min-eq-left}
 use mathlib.Core.Path.{_≡_, refl, sym, _∙_, ap}
-use mathlib.Core.Bool.{Bool, true, false, cond}
+use mathlib.Core.Bool.{Bool, true, cond}
 use mathlib.Core.List.{List, [], _∷_, _++_, append-assoc}
 use lib.ListN.{length, take, drop, replicate, length-append, length-replicate}
 use lib.Seq.{take-at, drop-at, drop-drop}
 use borrow.Author.Tests.{eq-eqb}
 use Rattle.exchange.specs.declared.Step.{Step}
 use Rattle.exchange.specs.declared.Step.the-variants.{Store}
-use Rattle.exchange.specs.State.{isSession, addressIn, brokenIn, countIn, wordAt, roomIn, imageIn, recordIn, bytesRead, each, plan, left, little, Begun, joinedSteps, begunBytes, begunIn}
+use Rattle.exchange.specs.State.{isSession, isOpen, addressIn, countIn, readCount, purposeIn, wordAt, roomIn, imageIn, recordIn, indexed, plan, left, little, Begun, joinedSteps, begunBytes, begunIn}
+use Rattle.exchange.proofs.Latest.{bytesRead}
 use Rattle.exchange.proofs.Moves.{going-left}
 use Rattle.exchange.proofs.Plan.{stepAt, length-joined, joined-steps, plan-parts}
 
@@ -19,56 +20,58 @@ use Rattle.exchange.proofs.Plan.{stepAt, length-joined, joined-steps, p
 little-again : (n : ℕ) → n < 2 ^ 64 → wordAt (little 8 n) 0 + 4294967296 * wordAt (little 8 n) 4 ≡ n
 little-again n h = omega arith
 
-module _ (b : Begun) (xs : List Step) (few : length xs ≤ 25) (image : length (b .image) ≡ 100) (handed : length (b .handed) ≡ 37) where
+module _ (b : Begun) (xs : List Step) (few : length xs ≤ 25) (image : length (b .image) ≡ 100) (recorded : length (b .«record») ≡ 37) where
   -- it has the size of a session
-  pub size : length (begunBytes b xs) ≡ 278
-  size = simp (length-append, length-replicate, length-joined, image, handed) (omega arith)
+  pub size : length (begunBytes b xs) ≡ 279
+  size = simp (length-append, length-replicate, length-joined, image, recorded) (omega arith)
 
   -- the bytes of the steps, and zeros
   abbrev rest : List ℕ
   rest = joinedSteps xs ++ replicate (125 - 5 * length xs) 0
 
   -- what stands where
-  behind-head : drop 16 (begunBytes b xs) ≡ b .image ++ (b .handed ++ rest)
-  behind-head = append-assoc (b .image ++ b .handed) (joinedSteps xs) (replicate (125 - 5 * length xs) 0) ∙ append-assoc (b .image) (b .handed) rest
+  behind-head : drop 17 (begunBytes b xs) ≡ b .image ++ (b .«record» ++ rest)
+  behind-head = append-assoc (b .image ++ b .«record») (joinedSteps xs) (replicate (125 - 5 * length xs) 0) ∙ append-assoc (b .image) (b .«record») rest
 
-  behind-image : drop 116 (begunBytes b xs) ≡ b .handed ++ rest
-  behind-image = sym (drop-drop 100 16 (begunBytes b xs)) ∙ ap (drop 100) behind-head ∙ drop-at (b .image) (b .handed ++ rest) 100 image
+  behind-image : drop 117 (begunBytes b xs) ≡ b .«record» ++ rest
+  behind-image = sym (drop-drop 100 17 (begunBytes b xs)) ∙ ap (drop 100) behind-head ∙ drop-at (b .image) (b .«record» ++ rest) 100 image
 
-  behind-record : drop 153 (begunBytes b xs) ≡ rest
-  behind-record = sym (drop-drop 37 116 (begunBytes b xs)) ∙ ap (drop 37) behind-image ∙ drop-at (b .handed) rest 37 handed
+  behind-record : drop 154 (begunBytes b xs) ≡ rest
+  behind-record = sym (drop-drop 37 117 (begunBytes b xs)) ∙ ap (drop 37) behind-image ∙ drop-at (b .«record») rest 37 recorded
 
   -- its steps, and the memory reads
-  planned : plan (begunBytes b xs) ≡ xs ++ each Store 0 (min (b .reads) 100)
+  planned : plan (begunBytes b xs) ≡ xs ++ indexed Store 0 (min (b .reads) 100)
   planned =
       let p = joined-steps xs (replicate (125 - 5 * length xs) 0) in
       plan-parts (begunBytes b xs)
-      ∙ (λ t. each (stepAt (behind-record t)) 0 (min-eq-left few t) ++ each Store 0 (min (b .reads) 100))
-      ∙ ap (λ (l : List Step). l ++ each Store 0 (min (b .reads) 100)) p
+      ∙ (λ t. indexed (stepAt (behind-record t)) 0 (min-eq-left few t) ++ indexed Store 0 (min (b .reads) 100))
+      ∙ ap (λ (l : List Step). l ++ indexed Store 0 (min (b .reads) 100)) p
 
 -- all that is told of it
 pub begins : (st : List ℕ) (b : Begun) (xs : List Step) → isSession st ≡ true → length xs ≤ 25 → b .room < 2 ^ 64 →
-    length (b .image) ≡ 100 → length (b .handed) ≡ 37 →
-    (left (begunIn st b xs) ≡ xs ++ each Store 0 (min (b .reads) 100))
+    length (b .image) ≡ 100 → length (b .«record») ≡ 37 →
+    (left (begunIn st b xs) ≡ xs ++ indexed Store 0 (min (b .reads) 100))
     × (addressIn (begunIn st b xs) ≡ b .address)
     × (countIn (begunIn st b xs) ≡ 0)
     × (roomIn (begunIn st b xs) ≡ b .room)
     × (imageIn (begunIn st b xs) ≡ b .image)
-    × (recordIn (begunIn st b xs) ≡ b .handed)
-    × (isSession (begunIn st b xs) ≡ true)
-    × (brokenIn (begunIn st b xs) ≡ false)
+    × (recordIn (begunIn st b xs) ≡ b .«record»)
+    × (purposeIn (begunIn st b xs) ≡ b .purpose)
+    × (readCount (begunIn st b xs) ≡ min (b .reads) 100)
+    × (isOpen (begunIn st b xs) ≡ true)
     × (bytesRead (begunIn st b xs) ≡ 0 ∷ 0 ∷ 0 ∷ [])
 unfolding begunIn
-begins st b xs s few room image handed =
-    let l : isSession (begunBytes b xs) ≡ true = eq-eqb _ _ (size b xs few image handed) in
+begins st b xs s few room image recorded =
+    let l : isSession (begunBytes b xs) ≡ true = eq-eqb _ _ (size b xs few image recorded) in
     rw s (
-      going-left (begunBytes b xs) _ (record { session = l; unbroken = refl; steps = planned b xs few image handed }),
+      going-left (begunBytes b xs) _ (record { session = l; stage = refl; steps = planned b xs few image recorded }),
       refl,
-      ap (λ (k : Bool). cond k 0 0) l,
+      rw l,
       little-again (b .room) room,
-      ap (take 100) (behind-head b xs few image handed) ∙ take-at (b .image) _ 100 image,
-      ap (take 37) (behind-image b xs few image handed) ∙ take-at (b .handed) _ 37 handed,
-      l,
+      ap (take 100) (behind-head b xs few image recorded) ∙ take-at (b .image) _ 100 image,
+      ap (take 37) (behind-image b xs few image recorded) ∙ take-at (b .«record») _ 37 recorded,
       refl,
+      refl,
+      rw l,
       rw l,
     )

@@ -8,34 +8,34 @@ use lib.Dec.{leb, leb·zero, leb·suc-zero, leb·suc-suc}
 use lib.ListN.{length, drop}
 use lib.Seq.{drop-nil}
 use Rattle.exchange.specs.declared.Step.{Step}
-use Rattle.exchange.specs.State.{isSession, brokenIn, madeIn, stepCount, readCount, stepIn, each, plan, left, noneLeft, completed}
-use Rattle.exchange.specs.Session.{Call, final, sent, brokenOff}
+use Rattle.exchange.specs.State.{isOpen, madeIn, stepCount, readCount, stepIn, indexed, plan, left, noneLeft, completed}
+use Rattle.exchange.specs.Session.{AnswerCall, final, sent, brokenOff}
 use Rattle.exchange.proofs.Order.{follows}
 
 -- none of n is left where m were made, exactly where n is at most m
-none-past : (f : ℕ → Step) (i n m : ℕ) → leb n m ≡ noneLeft (drop m (each f i n))
+none-past : (f : ℕ → Step) (i n m : ℕ) → leb n m ≡ noneLeft (drop m (indexed f i n))
 none-past f i zero m = leb·zero m ∙ ap noneLeft (sym (drop-nil m))
 none-past f i (suc n) zero = leb·suc-zero n
 none-past f i (suc n) (suc m) = leb·suc-suc n m ∙ none-past f (suc i) n m
 
--- a session is completed where none is left and it is not broken off
-completed-left : (st : List ℕ) → isSession st ≡ true → completed st ≡ not (brokenIn st) && noneLeft (left st)
+-- a session is completed where it is open and none is left
+completed-left : (st : List ℕ) → completed st ≡ isOpen st && noneLeft (left st)
 unfolding completed left
-completed-left st s = rw s (go (brokenIn st))
+completed-left st = go (isOpen st)
   where
-    go : (b : Bool) → not b && leb (stepCount st + readCount st) (madeIn st) ≡ not b && noneLeft (cond (not b) (drop (madeIn st) (plan st)) [])
-    go true = refl
-    go false = none-past (stepIn st) 0 (stepCount st + readCount st) (madeIn st)
+    go : (b : Bool) → b && leb (stepCount st + readCount st) (madeIn st) ≡ b && noneLeft (cond b (drop (madeIn st) (plan st)) [])
+    go true = none-past (stepIn st) 0 (stepCount st + readCount st) (madeIn st)
+    go false = refl
 
 -- completed after a run: no step left, and none that broke it off
-pub whole : (st : List ℕ) (cs : List Call) → isSession st ≡ true → brokenIn st ≡ false →
+pub whole : (st : List ℕ) (cs : List AnswerCall) → isOpen st ≡ true →
     completed (final st cs) ≡ not (brokenOff st cs) && noneLeft (drop (length (sent st cs)) (left st))
-whole st cs s u =
+whole st cs o =
     let k = follows cs st in
-    completed-left (final st cs) (k .sized ∙ s)
-    ∙ (λ j. not (k .broken j) && noneLeft (k .remaining j))
-    ∙ rw u (go (brokenOff st cs))
+    completed-left (final st cs)
+    ∙ (λ j. k .opened j && noneLeft (k .remaining j))
+    ∙ rw o (go (brokenOff st cs))
   where
-    go : (b : Bool) → not (cond b true false) && noneLeft (cond b [] (drop (length (sent st cs)) (left st))) ≡ not b && noneLeft (drop (length (sent st cs)) (left st))
+    go : (b : Bool) → cond b false true && noneLeft (cond b [] (drop (length (sent st cs)) (left st))) ≡ not b && noneLeft (drop (length (sent st cs)) (left st))
     go true = refl
     go false = refl

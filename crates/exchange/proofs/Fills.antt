@@ -15,9 +15,10 @@ use Rattle.exchange.specs.declared.Reply.{Reply}
 use Rattle.exchange.specs.declared.Reply.the-variants.{Done, Byte, Failed}
 use Rattle.exchange.specs.declared.Fit.{Fit}
 use Rattle.exchange.specs.declared.Fit.the-variants.{Unfit}
-use Rattle.exchange.specs.State.{each, left}
-use Rattle.exchange.specs.Turn.{fitsNext, changed, fitOf, stateBy, stateAfter, bufferBy, bufferAfter}
-use Rattle.exchange.specs.Session.{fitAt, after, cameBy, came, lending, filled}
+use Rattle.exchange.specs.State.{indexed, left}
+use Rattle.exchange.specs.Turn.{fitsNext, changed, fitOf, effectOf, stateBy, stateAfter, bufferAfter}
+use Rattle.exchange.specs.Session.{afterCall, came, lending, filled}
+use Rattle.exchange.proofs.Effects.{came-taken}
 use Rattle.exchange.proofs.Moves.{left-moved, left-broken}
 
 -- no bytes laid over a list
@@ -39,26 +40,29 @@ Filled st buffer i replies = filled st buffer replies ≡ over buffer i (came st
 -- the same, where the first answer fits so
 abbrev FilledBy : Fit → List ℕ → List ℕ → ℕ → List Reply → Type 0
 FilledBy f st buffer i replies =
-    filled (stateBy st f) (bufferBy f buffer) replies ≡ over buffer i (cameBy f (came (stateBy st f) (lending (stateBy st f) (bufferBy f buffer) replies)))
+    let e = effectOf f in
+    let t = stateBy st e in
+    filled t (e .buffer buffer) replies ≡ over buffer i (e .came ++ came t (lending t (e .buffer buffer) replies))
 
-module _ (replies : List Reply) (ih : (st : List ℕ) (i n : ℕ) (buffer : List ℕ) → left st ≡ each Store i n → i + n ≤ length buffer → Filled st buffer i replies) where
+module _ (replies : List Reply) (ih : (st : List ℕ) (i n : ℕ) (buffer : List ℕ) → left st ≡ indexed Store i n → i + n ≤ length buffer → Filled st buffer i replies) where
   -- by whether the buffer's length changed, how many reads are left, and the answer
-  fills-by : (st : List ℕ) (k : Bool) (i n : ℕ) (buffer : List ℕ) (a : Reply) → left st ≡ each Store i n → i + n ≤ length buffer →
-      FilledBy (cond k Unfit (fitsNext (each Store i n) a)) st buffer i replies
+  fills-by : (st : List ℕ) (k : Bool) (i n : ℕ) (buffer : List ℕ) (a : Reply) → left st ≡ indexed Store i n → i + n ≤ length buffer →
+      FilledBy (cond k Unfit (fitsNext (indexed Store i n) a)) st buffer i replies
   fills-by st true i n buffer a e h = ih st i n buffer e h
   fills-by st false i zero buffer a e h = ih st i zero buffer e h
   fills-by st false i (suc n) buffer Done e h = ih st i (suc n) buffer e h
-  fills-by st false i (suc n) buffer (Failed code) e h = ih _ i 0 buffer (left-broken st _ _ e _ _ _) (omega arith)
+  fills-by st false i (suc n) buffer (Failed code) e h = ih _ i 0 buffer (left-broken st _ _ e []) (omega arith)
   fills-by st false i (suc n) buffer (Byte b) e h =
       let l : length (set buffer i b) ≡ length buffer = length-set buffer i b in
-      ih _ (suc i) n (set buffer i b) (left-moved st _ _ e _ _ _) (omega arith)
+      ih _ (suc i) n (set buffer i b) (left-moved st _ _ e (b ∷ [])) (omega arith)
       ∙ over-more buffer i b _ (omega arith)
 
 -- every run of memory reads
-pub fills : (replies : List Reply) (st : List ℕ) (i n : ℕ) (buffer : List ℕ) → left st ≡ each Store i n → i + n ≤ length buffer → Filled st buffer i replies
-unfolding fitOf fitAt after stateAfter bufferAfter
+pub fills : (replies : List Reply) (st : List ℕ) (i n : ℕ) (buffer : List ℕ) → left st ≡ indexed Store i n → i + n ≤ length buffer → Filled st buffer i replies
+unfolding fitOf afterCall stateAfter bufferAfter
 fills [] st i n buffer e h = over-none buffer i
 fills (a ∷ replies) st i n buffer e h =
     let k = changed st (length buffer) in
     subst (λ (l : List Step). FilledBy (cond k Unfit (fitsNext l a)) st buffer i replies) (sym e)
     (fills-by replies (fills replies) st k i n buffer a e h)
+    ∙ ap (λ (l : List ℕ). over buffer i (l ++ came (stateAfter st a (length buffer)) (lending (stateAfter st a (length buffer)) (bufferAfter st a buffer) replies))) (sym (came-taken st a (length buffer)))

@@ -1,4 +1,4 @@
--- Bytes laid over a list, and what they make there: the 33 bytes of an exchange, the 278 of a session. Assumes nothing.
+-- Bytes laid over a list, and what they make there: the 33 bytes of an exchange, the 279 of a session. Assumes nothing.
 use Prim.Native.Nat.{ℕ, suc, zero, _+_, _-_, _*_, _≤_, _<_, min}
 use mathlib.Core.Path.{_≡_, refl, sym, ap, ap₂, _∙_}
 use mathlib.Core.Bool.{Bool, cond}
@@ -11,7 +11,6 @@ use Rattle.laws.proofs.Copies.{over-behind}
 use Rattle.laws.proofs.Lists.{take-shown}
 use borrow.Author.Tests.{lt-ltb, eq-eqb}
 use Rattle.exchange.specs.declared.Step.{Step}
-use Rattle.exchange.specs.declared.Step.the-variants.{Write, Read, Update, Match, Chunk, Store}
 use Rattle.exchange.specs.declared.Exchange.{Exchange}
 use Rattle.exchange.specs.Steps.{exchange, memoryAddress, chunk, stepBytes}
 use Rattle.exchange.specs.State.{at, headOf, Begun, begunBytes, begunIn, pushed}
@@ -82,21 +81,21 @@ uploaded address first start n offset len image part bytes e a f g p q i =
 -- ---- the bytes of a session
 
 -- its four parts laid one behind the other are a session without steps
-pub begun-laid : (st : List ℕ) (b : Begun) (first second third fourth : List ℕ) → length st ≡ 278 → length (b .image) ≡ 100 → length (b .handed) ≡ 37
-    → first ≡ over st 0 (headOf (b .address) (b .reads) (b .room) 0) → second ≡ over first 16 (b .image)
-    → third ≡ over second 116 (b .handed) → fourth ≡ over third 153 (replicate 125 0)
+pub begun-laid : (st : List ℕ) (b : Begun) (first second third fourth : List ℕ) → length st ≡ 279 → length (b .image) ≡ 100 → length (b .«record») ≡ 37
+    → first ≡ over st 0 (headOf b 0) → second ≡ over first 17 (b .image)
+    → third ≡ over second 117 (b .«record») → fourth ≡ over third 154 (replicate 125 0)
     → fourth ≡ begunIn st b []
 unfolding begunIn
 begun-laid st b first second third fourth l m n p q r s =
-    let head : List ℕ = headOf (b .address) (b .reads) (b .room) 0 in
+    let head : List ℕ = headOf b 0 in
     let none : List ℕ = replicate 125 0 in
-    s ∙ ap (λ (x : List ℕ). over x 153 none) (r ∙ ap (λ (x : List ℕ). over x 116 (b .handed)) (q ∙ ap (λ (x : List ℕ). over x 16 (b .image)) p))
-    ∙ over-filled st head (b .image) (b .handed) none 16 116 153 refl (omega arith) (omega arith) l
-    ∙ ap (λ (x : List ℕ). x ++ none) (sym (append-nil (head ++ b .image ++ b .handed)))
+    s ∙ ap (λ (x : List ℕ). over x 154 none) (r ∙ ap (λ (x : List ℕ). over x 117 (b .«record»)) (q ∙ ap (λ (x : List ℕ). over x 17 (b .image)) p))
+    ∙ over-filled st head (b .image) (b .«record») none 17 117 154 refl (omega arith) (omega arith) l
+    ∙ ap (λ (x : List ℕ). x ++ none) (sym (append-nil (head ++ b .image ++ b .«record»)))
     ∙ sym (ap (λ (t : Bool). cond t (begunBytes b []) st) (eq-eqb _ _ l))
 
 -- a step pushed where there is room
-pub pushed-more : (st : List ℕ) (x : Step) → length st ≡ 278 → at st 6 < 25
-    → pushed st x ≡ over (set st 6 (at st 6 + 1)) (153 + 5 * at st 6) (stepBytes x)
+pub pushed-more : (st : List ℕ) (x : Step) → length st ≡ 279 → at st 6 < 25
+    → pushed st x ≡ over (set st 6 (at st 6 + 1)) (154 + 5 * at st 6) (stepBytes x)
 unfolding pushed
 pushed-more st x l h = simp (eq-eqb _ _ l, lt-ltb _ _ h)

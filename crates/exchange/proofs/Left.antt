@@ -1,64 +1,76 @@
 -- The steps that are left of a session, by what its bytes say. Assumes nothing.
 use Prim.Native.Nat.{ℕ, suc, zero, _+_, _-_, _≤_, _<_}
 use mathlib.Core.Path.{_≡_, refl, sym, ap, _∙_, subst}
-use mathlib.Core.Bool.{Bool, true, false, cond, not, _&&_}
+use mathlib.Core.Bool.{Bool, true, false, cond, _&&_, and-false}
 use mathlib.Core.List.{List, [], _∷_}
-use native.Mathlib.Decide.{decLe}
 use native.Mathlib.Omega.{arith}
-use lib.Dec.{eqb}
+use lib.Dec.{leb}
 use lib.ListN.{length, drop}
-use borrow.Author.Tests.{lt-ltb, le-ltb, eq-eqb, ne-eqb, eqb-true, eqb-false}
+use borrow.Author.Tests.{lt-ltb, le-ltb, eq-eqb, ne-eqb}
 use Rattle.exchange.specs.declared.Step.{Step}
 use Rattle.exchange.specs.declared.Step.the-variants.{Store}
 use Rattle.exchange.specs.declared.Slot.{Slot}
 use Rattle.exchange.specs.declared.Slot.the-variants.{Idle, At}
-use Rattle.exchange.specs.State.{at, isSession, madeIn, stepCount, readCount, encodedStep, stepIn, each, plan, left, slotOf}
-use Rattle.exchange.specs.Turn.{going}
+use Rattle.exchange.specs.State.{at, isSession, isOpen, madeIn, stepCount, readCount, encodedStep, stepIn, indexed, plan, left, completed, slotOf}
 
--- ---- `each`
+-- ---- `indexed`
 
-pub each-same : {A : Type 0} (f : ℕ → A) (i j n m : ℕ) → i ≡ j → n ≡ m → each f i n ≡ each f j m
-each-same f i j n m e h = ap (λ (k : ℕ). each f k n) e ∙ ap (each f j) h
+pub indexed-same : {A : Type 0} (f : ℕ → A) (i j n m : ℕ) → i ≡ j → n ≡ m → indexed f i n ≡ indexed f j m
+indexed-same f i j n m e h = ap (λ (k : ℕ). indexed f k n) e ∙ ap (indexed f j) h
 
 -- without the first k, it starts k later
-pub drop-each : {A : Type 0} (f : ℕ → A) (k i n : ℕ) → drop k (each f i n) ≡ each f (i + k) (n - k)
-drop-each f zero i n = each-same f i (i + zero) n (n - zero) (omega arith) (omega arith)
-drop-each f (suc k) i zero = each-same f (i + suc k) (i + suc k) zero (zero - suc k) refl (omega arith)
-drop-each f (suc k) i (suc n) = drop-each f k (suc i) n ∙ each-same f (suc i + k) (i + suc k) (n - k) (suc n - suc k) (omega arith) (omega arith)
+pub drop-indexed : {A : Type 0} (f : ℕ → A) (k i n : ℕ) → drop k (indexed f i n) ≡ indexed f (i + k) (n - k)
+drop-indexed f zero i n = indexed-same f i (i + zero) n (n - zero) (omega arith) (omega arith)
+drop-indexed f (suc k) i zero = indexed-same f (i + suc k) (i + suc k) zero (zero - suc k) refl (omega arith)
+drop-indexed f (suc k) i (suc n) = drop-indexed f k (suc i) n ∙ indexed-same f (suc i + k) (i + suc k) (n - k) (suc n - suc k) (omega arith) (omega arith)
 
 -- ---- `left`
 
--- bytes of another number have no step left
-pub left-no-session : (st : List ℕ) → (length st ≡ 278 → ⊥) → left st ≡ []
+-- bytes of another length are no open session, nor are those of another stage
+pub no-session : (st : List ℕ) → (length st ≡ 279 → ⊥) → isOpen st ≡ false
+no-session st h = simp (ne-eqb _ _ h)
+
+pub not-begun : (st : List ℕ) → (at st 1 ≡ 1 → ⊥) → isOpen st ≡ false
+not-begun st h = ap (λ (t : Bool). isSession st && t) (ne-eqb _ _ h) ∙ and-false (isSession st)
+
+pub opened : (st : List ℕ) → length st ≡ 279 → at st 1 ≡ 1 → isOpen st ≡ true
+opened st l h = simp (eq-eqb _ _ l, eq-eqb _ _ h)
+
+-- no step is left of one that is not open, and it is not completed
+pub left-closed : (st : List ℕ) → isOpen st ≡ false → left st ≡ []
 unfolding left
-left-no-session st h = simp (ne-eqb _ _ h)
+left-closed st h = ap (λ (t : Bool). cond t (drop (madeIn st) (plan st)) []) h
 
--- nor has a session that was broken off
-pub left-broken : (st : List ℕ) → 0 < at st 1 → left st ≡ []
-unfolding left
-left-broken st h = ap (λ (t : Bool). cond (isSession st && not t) (drop (madeIn st) (plan st)) []) (lt-ltb 0 (at st 1) h) ∙ go (isSession st) where
-  go : (t : Bool) → cond (t && false) (drop (madeIn st) (plan st)) [] ≡ []
-  go true = refl
-  go false = refl
+pub closed : (st : List ℕ) → isOpen st ≡ false → (left st ≡ []) × (completed st ≡ false)
+unfolding completed
+closed st h = (left-closed st h, ap (λ (t : Bool). t && leb (stepCount st + readCount st) (madeIn st)) h)
 
--- what is left of a session that was not broken off
-pub left-rest : (st : List ℕ) → length st ≡ 278 → at st 1 ≤ 0 → left st ≡ each (stepIn st) (madeIn st) (stepCount st + readCount st - madeIn st)
-unfolding left
-left-rest st l h =
-    simp (eq-eqb _ _ l, le-ltb _ _ h)
-    (drop-each (stepIn st) (madeIn st) 0 (stepCount st + readCount st)
-    ∙ each-same (stepIn st) (0 + madeIn st) (madeIn st) (stepCount st + readCount st - madeIn st) (stepCount st + readCount st - madeIn st) (omega arith) refl)
+module _ (st : List ℕ) (o : isOpen st ≡ true) where
+  -- what is left of one that is open
+  left-rest : left st ≡ indexed (stepIn st) (madeIn st) (stepCount st + readCount st - madeIn st)
+  unfolding left
+  left-rest =
+      ap (λ (t : Bool). cond t (drop (madeIn st) (plan st)) []) o
+      ∙ drop-indexed (stepIn st) (madeIn st) 0 (stepCount st + readCount st)
+      ∙ indexed-same (stepIn st) (0 + madeIn st) (madeIn st) (stepCount st + readCount st - madeIn st) (stepCount st + readCount st - madeIn st) (omega arith) refl
 
--- where all were made, none is left
-pub left-none : (st : List ℕ) → length st ≡ 278 → at st 1 ≤ 0 → stepCount st + readCount st ≤ madeIn st → left st ≡ []
-left-none st l h n = left-rest st l h ∙ each-same (stepIn st) (madeIn st) (madeIn st) (stepCount st + readCount st - madeIn st) zero refl (omega arith)
+  -- where all were made, none is left
+  pub left-none : stepCount st + readCount st ≤ madeIn st → left st ≡ []
+  left-none n = left-rest ∙ indexed-same (stepIn st) (madeIn st) (madeIn st) (stepCount st + readCount st - madeIn st) zero refl (omega arith)
 
--- else one is, and those behind it
-pub left-next : (st : List ℕ) → length st ≡ 278 → at st 1 ≤ 0 → madeIn st < stepCount st + readCount st →
-    left st ≡ stepIn st (madeIn st) ∷ each (stepIn st) (suc (madeIn st)) (stepCount st + readCount st - suc (madeIn st))
-left-next st l h n =
-    left-rest st l h
-    ∙ each-same (stepIn st) (madeIn st) (madeIn st) (stepCount st + readCount st - madeIn st) (suc (stepCount st + readCount st - suc (madeIn st))) refl (omega arith)
+  -- else one is, and those behind it
+  left-next : madeIn st < stepCount st + readCount st →
+      left st ≡ stepIn st (madeIn st) ∷ indexed (stepIn st) (suc (madeIn st)) (stepCount st + readCount st - suc (madeIn st))
+  left-next n =
+      left-rest
+      ∙ indexed-same (stepIn st) (madeIn st) (madeIn st) (stepCount st + readCount st - madeIn st) (suc (stepCount st + readCount st - suc (madeIn st))) refl (omega arith)
+
+  -- an encoded step comes next, or a memory read
+  pub slot-encoded : madeIn st < stepCount st → At (encodedStep st (madeIn st)) ≡ slotOf (left st)
+  slot-encoded k = sym (ap slotOf (left-next (omega (arith, k))) ∙ ap (λ (t : Bool). At (cond t (encodedStep st (madeIn st)) (Store (madeIn st - stepCount st)))) (lt-ltb _ _ k))
+
+  pub slot-store : stepCount st ≤ madeIn st → madeIn st < stepCount st + readCount st → At (Store (madeIn st - stepCount st)) ≡ slotOf (left st)
+  slot-store k n = sym (ap slotOf (left-next n) ∙ ap (λ (t : Bool). At (cond t (encodedStep st (madeIn st)) (Store (madeIn st - stepCount st)))) (le-ltb _ _ k))
 
 -- ---- where a session stands
 
@@ -78,11 +90,3 @@ at-some (y ∷ xs) x e = ap (λ (s : Slot). first s ∷ xs) e where
   first : Slot → Step
   first Idle = y
   first (At z) = z
-
--- an encoded step comes next, or a memory read
-pub slot-encoded : (st : List ℕ) → length st ≡ 278 → at st 1 ≤ 0 → madeIn st < stepCount st → At (encodedStep st (madeIn st)) ≡ slotOf (left st)
-slot-encoded st l h k = sym (ap slotOf (left-next st l h (omega (arith, k))) ∙ ap (λ (t : Bool). At (cond t (encodedStep st (madeIn st)) (Store (madeIn st - stepCount st)))) (lt-ltb _ _ k))
-
-pub slot-store : (st : List ℕ) → length st ≡ 278 → at st 1 ≤ 0 → stepCount st ≤ madeIn st → madeIn st < stepCount st + readCount st
-    → At (Store (madeIn st - stepCount st)) ≡ slotOf (left st)
-slot-store st l h k n = sym (ap slotOf (left-next st l h n) ∙ ap (λ (t : Bool). At (cond t (encodedStep st (madeIn st)) (Store (madeIn st - stepCount st)))) (le-ltb _ _ k))

@@ -1,8 +1,12 @@
 pub mod Answers
 pub mod Begins
+pub mod Cases
+pub mod Comes
+pub mod Effects
 pub mod Ends
 pub mod Fills
 pub mod Keeps
+pub mod Latest
 pub mod Laid
 pub mod Left
 pub mod Moves

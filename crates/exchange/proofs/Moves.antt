@@ -3,18 +3,20 @@
 use Prim.Native.Nat.{ℕ, _+_, _<_, min}
 use native.Mathlib.Omega.{arith}
 use mathlib.Core.Path.{_≡_, refl, sym, _∙_, ap}
-use mathlib.Core.Bool.{Bool, true, false, cond, not, _&&_}
+use mathlib.Core.Bool.{Bool, true, false, cond, _&&_}
 use mathlib.Core.List.{List, [], _∷_, _++_, cons-ne-nil}
-use lib.Dec.{ltb}
+use lib.Dec.{ltb, eqb}
 use lib.ListN.{length, take, drop, length-drop}
 use lib.Seq.{getD-drop, drop-drop}
-use borrow.Author.Tests.{eq-eqb, eqb-true, ltb-true}
+use borrow.Author.Tests.{eq-eqb, eqb-true}
+use Rattle.laws.specs.Copied.{over}
 use Rattle.exchange.specs.declared.Step.{Step}
 use Rattle.exchange.specs.declared.Step.the-variants.{Store}
-use Rattle.exchange.specs.State.{at, isSession, addressIn, brokenIn, madeIn, countIn, stepCount, readCount, imageIn, recordIn, bytesRead, stepIn, each, plan, left}
+use Rattle.exchange.specs.State.{at, isSession, isOpen, addressIn, madeIn, countIn, stepCount, readCount, purposeIn, imageIn, recordIn, stepIn, indexed, plan, left}
 use Rattle.exchange.specs.Turn.{going, moved}
-use Rattle.exchange.proofs.Left as steps
-use Rattle.exchange.proofs.Plan.{length-each, stepAt, plan-parts}
+use Rattle.exchange.proofs.Latest.{bytesRead}
+use Rattle.exchange.proofs.Left.{left-closed}
+use Rattle.exchange.proofs.Plan.{length-indexed, stepAt, plan-parts}
 
 -- ---- states that differ before byte 6 only
 
@@ -27,63 +29,76 @@ module _ (s t : List ℕ) (e : drop 6 s ≡ drop 6 t) where
   at-same n = sym (getD-drop 6 s n 0) ∙ ap (λ (l : List ℕ). at l n) e ∙ getD-drop 6 t n 0
 
   image-same : imageIn s ≡ imageIn t
-  image-same = ap (take 100) (later-same 10)
+  image-same = ap (take 100) (later-same 11)
 
   record-same : recordIn s ≡ recordIn t
-  record-same = ap (take 37) (later-same 110)
+  record-same = ap (take 37) (later-same 111)
 
   plan-same : plan s ≡ plan t
   plan-same =
       plan-parts s
-      ∙ (λ j. each (stepAt (later-same 147 j)) 0 (min (at-same 0 j) 25) ++ each Store 0 (min (at-same 1 j) 100))
+      ∙ (λ j. indexed (stepAt (later-same 148 j)) 0 (min (at-same 0 j) 25) ++ indexed Store 0 (min (at-same 1 j) 100))
       ∙ sym (plan-parts t)
 
 -- ---- a state after a move
 
+-- the last three bytes read, with those that came, are three
+abbrev pub latest : List ℕ → List ℕ → List ℕ
+latest st came = take 3 (came ++ (at st 3 ∷ at st 4 ∷ at st 5 ∷ []))
+
+three : (st came : List ℕ) → latest st came ≡ at (latest st came) 0 ∷ at (latest st came) 1 ∷ at (latest st came) 2 ∷ []
+three st [] = refl
+three st (a ∷ []) = refl
+three st (a ∷ b ∷ []) = refl
+three st (a ∷ b ∷ c ∷ l) = refl
+
 -- byte by byte
-moved-bytes : (st : List ℕ) (w x y z : ℕ) → length st ≡ 278 → moved st w x y z ≡ at st 0 ∷ w ∷ (madeIn st + 1) ∷ x ∷ y ∷ z ∷ drop 6 st
-moved-bytes [] w x y z e = absurd (omega (arith, e))
-moved-bytes (a ∷ st) w x y z e = refl
+moved-bytes : (st : List ℕ) (w m x y z : ℕ) → length st ≡ 279 → over st 1 (w ∷ m ∷ x ∷ y ∷ z ∷ []) ≡ at st 0 ∷ w ∷ m ∷ x ∷ y ∷ z ∷ drop 6 st
+moved-bytes [] w m x y z e = absurd (omega (arith, e))
+moved-bytes (a ∷ st) w m x y z e = refl
 
 -- what stays, and what is another
-pub record Moved (st t : List ℕ) (w x : ℕ) : Type 0 where
+pub record Moved (st t : List ℕ) (w : ℕ) (came : List ℕ) : Type 0 where
   pub address : addressIn t ≡ addressIn st
-  pub broken : brokenIn t ≡ ltb 0 w
-  pub read : at t 3 ≡ x
+  pub stage : at t 1 ≡ w
+  pub last : at t 3 ≡ at (latest st came) 0
+  pub shows : bytesRead t ≡ latest st came
   pub image : imageIn t ≡ imageIn st
-  pub handed : recordIn t ≡ recordIn st
-  pub session : isSession t ≡ isSession st
+  pub purpose : purposeIn t ≡ purposeIn st
+  pub «record» : recordIn t ≡ recordIn st
+  pub session : isSession t ≡ true
   pub made : madeIn t ≡ madeIn st + 1
-  pub count : countIn t ≡ countIn st + 1
+  pub reads : readCount t ≡ readCount st
   pub steps : plan t ≡ plan st
 
 -- a move does that
-pub moves : (st : List ℕ) (w x y z : ℕ) → isSession st ≡ true → Moved st (moved st w x y z) w x
-moves st w x y z s =
-    let e : length st ≡ 278 = eqb-true _ _ s in
-    let t = moved st w x y z in
-    let m = moved-bytes st w x y z e in
+pub moves : (st : List ℕ) (w : ℕ) (came : List ℕ) → isSession st ≡ true → Moved st (moved st w came) w came
+moves st w came s =
+    let e : length st ≡ 279 = eqb-true _ _ s in
+    let t = moved st w came in
+    let l = three st came in
+    let m = ap (λ (k : List ℕ). over st 1 (w ∷ (madeIn st + 1) ∷ k)) l ∙ moved-bytes st w (madeIn st + 1) _ _ _ e in
     let d : drop 6 t ≡ drop 6 st = ap (drop 6) m in
-    let n : length t ≡ 278 = ap length m ∙ simp length-drop (omega arith) in
-    let l : isSession t ≡ true = eq-eqb _ _ n in
+    let n : length t ≡ 279 = ap length m ∙ simp length-drop (omega arith) in
+    let h : isSession t ≡ true = eq-eqb _ _ n in
     let k : madeIn t ≡ madeIn st + 1 = ap madeIn m in
     record {
       address = ap addressIn m;
-      broken = ap brokenIn m;
-      read = ap (λ (l : List ℕ). at l 3) m;
+      stage = ap (λ (l : List ℕ). at l 1) m;
+      last = ap (λ (l : List ℕ). at l 3) m;
+      shows = rw h ((λ j. at (m j) 3 ∷ at (m j) 4 ∷ at (m j) 5 ∷ []) ∙ sym l);
       image = image-same t st d;
-      handed = record-same t st d;
-      session = l ∙ sym s;
+      purpose = at-same t st d 10;
+      «record» = record-same t st d;
+      session = h;
       made = k;
-      count = (λ j. cond (l j) (k j) 0) ∙ ap (λ (b : Bool). cond b (madeIn st) 0 + 1) (sym s);
+      reads = ap (λ (n : ℕ). min n 100) (at-same t st d 1);
       steps = plan-same t st d;
     }
 
--- the bytes read last are those moved in
-pub moves-read : (st : List ℕ) (w x y z : ℕ) → isSession st ≡ true → bytesRead (moved st w x y z) ≡ x ∷ y ∷ z ∷ []
-moves-read st w x y z s =
-    let m = moved-bytes st w x y z (eqb-true _ _ s) in
-    rw (moves st w x y z s .session ∙ s) (λ j. at (m j) 3 ∷ at (m j) 4 ∷ at (m j) 5 ∷ [])
+-- of a session that was begun it is counted
+pub counts-more : (st t : List ℕ) (w : ℕ) (came : List ℕ) → Moved st t w came → isSession st ≡ true → at st 1 ≡ 1 → ltb 0 w ≡ true → countIn t ≡ countIn st + 1
+counts-more st t w came m s h k = rw (m .session, m .stage, k, s, h) (m .made)
 
 -- ---- the steps left
 
@@ -91,26 +106,28 @@ moves-read st w x y z s =
 tail-of : {A : Type 0} (l : List A) (n : ℕ) (x : A) (xs : List A) → drop n l ≡ x ∷ xs → drop (n + 1) l ≡ xs
 tail-of l n x xs e = sym (drop-drop 1 n l) ∙ ap (drop 1) e
 
--- what it takes to have these steps left
+-- a session with a step left is open, and has the steps
 pub record Going (st : List ℕ) (l : List Step) : Type 0 where
   pub session : isSession st ≡ true
-  pub unbroken : brokenIn st ≡ false
+  pub stage : at st 1 ≡ 1
   pub steps : drop (madeIn st) (plan st) ≡ l
 
--- a session with a step left has its size, and is not broken off
 pub left-going : (st : List ℕ) (x : Step) (xs : List Step) → left st ≡ x ∷ xs → Going st (x ∷ xs)
 unfolding left
-left-going st x xs e = go (isSession st) (brokenIn st) refl refl e
+left-going st x xs e = go (isSession st) (eqb (at st 1) 1) refl refl e
   where
-    go : (s b : Bool) → isSession st ≡ s → brokenIn st ≡ b → cond (s && not b) (drop (madeIn st) (plan st)) [] ≡ x ∷ xs → Going st (x ∷ xs)
+    go : (s b : Bool) → isSession st ≡ s → eqb (at st 1) 1 ≡ b → cond (s && b) (drop (madeIn st) (plan st)) [] ≡ x ∷ xs → Going st (x ∷ xs)
     go false b p q e = absurd (cons-ne-nil _ _ (sym e))
-    go true true p q e = absurd (cons-ne-nil _ _ (sym e))
-    go true false p q e = record { session = p; unbroken = q; steps = e }
+    go true false p q e = absurd (cons-ne-nil _ _ (sym e))
+    go true true p q e = record { session = p; stage = eqb-true _ _ q; steps = e }
 
 -- and the other way
+pub going-open : (st : List ℕ) (l : List Step) → Going st l → isOpen st ≡ true
+going-open st l g = rw (g .session, g .stage)
+
 pub going-left : (st : List ℕ) (l : List Step) → Going st l → left st ≡ l
 unfolding left
-going-left st l g = rw (g .session, g .unbroken) (g .steps)
+going-left st l g = rw (g .session, g .stage) (g .steps)
 
 -- a list that has something behind its first m is longer
 longer : {A : Type 0} (l : List A) (m : ℕ) (x : A) (xs : List A) → drop m l ≡ x ∷ xs → m < length l
@@ -121,20 +138,26 @@ pub left-counts : (st : List ℕ) (x : Step) (xs : List Step) → left st ≡ x 
 left-counts st x xs e =
     let g = left-going st x xs e in
     let h = longer (plan st) (madeIn st) x xs (g .steps) in
-    (eqb-true _ _ (g .session), omega (arith, length-each (stepIn st) 0 (stepCount st + readCount st)))
+    (eqb-true _ _ (g .session), omega (arith, length-indexed (stepIn st) 0 (stepCount st + readCount st)))
 
-module _ (st : List ℕ) (x : Step) (xs : List Step) (e : left st ≡ x ∷ xs) where
+module _ (st : List ℕ) (x : Step) (xs : List Step) (e : left st ≡ x ∷ xs) (came : List ℕ) where
   -- a move goes on to the next step
-  pub left-moved : (a b c : ℕ) → left (moved st 0 a b c) ≡ xs
-  left-moved a b c =
+  pub goes-on : Going (moved st 1 came) xs
+  goes-on =
       let g = left-going st x xs e in
-      let m = moves st 0 a b c (g .session) in
-      going-left (moved st 0 a b c) xs (record {
-        session = m .session ∙ g .session;
-        unbroken = m .broken;
+      let m = moves st 1 came (g .session) in
+      record {
+        session = m .session;
+        stage = m .stage;
         steps = (λ j. drop (m .made j) (m .steps j)) ∙ tail-of (plan st) (madeIn st) x xs (g .steps);
-      })
+      }
+
+  pub left-moved : left (moved st 1 came) ≡ xs
+  left-moved = going-left (moved st 1 came) xs goes-on
 
   -- or breaks the session off
-  pub left-broken : (a b c : ℕ) → left (moved st 1 a b c) ≡ []
-  left-broken a b c = steps.left-broken (moved st 1 a b c) (ltb-true 0 _ (moves st 1 a b c (left-going st x xs e .session) .broken))
+  pub breaks-off : isOpen (moved st 2 came) ≡ false
+  breaks-off = let m = moves st 2 came (left-going st x xs e .session) in rw (m .session, m .stage)
+
+  pub left-broken : left (moved st 2 came) ≡ []
+  left-broken = left-closed (moved st 2 came) breaks-off

@@ -12,16 +12,16 @@ use borrow.Author.Tests.{lt-ltb, le-ltb}
 use Rattle.exchange.specs.declared.Step.{Step}
 use Rattle.exchange.specs.declared.Step.the-variants.{Write, Read, Update, Match, Chunk, Store}
 use Rattle.exchange.specs.Steps.{stepOf, stepBytes}
-use Rattle.exchange.specs.State.{at, stepCount, readCount, encodedStep, stepIn, each, plan, joinedSteps}
+use Rattle.exchange.specs.State.{at, stepCount, readCount, encodedStep, stepIn, indexed, plan, joinedSteps}
 
 -- ---- numbered steps
 
 -- f from i on is g from k on, where they agree
-each-same : {A : Type 0} (f g : ℕ → A) (i k n : ℕ) → ((j : ℕ) → j < n → f (i + j) ≡ g (k + j)) → each f i n ≡ each g k n
-each-same f g i k zero h = refl
-each-same f g i k (suc n) h =
+indexed-same : {A : Type 0} (f g : ℕ → A) (i k n : ℕ) → ((j : ℕ) → j < n → f (i + j) ≡ g (k + j)) → indexed f i n ≡ indexed g k n
+indexed-same f g i k zero h = refl
+indexed-same f g i k (suc n) h =
     let p : f i ≡ g k = simp add-zero at (h 0 (omega arith)) in
-    let q = each-same f g (suc i) (suc k) n later in
+    let q = indexed-same f g (suc i) (suc k) n later in
     λ t. p t ∷ q t
   where
     later : (j : ℕ) → j < n → f (suc i + j) ≡ g (suc k + j)
@@ -31,17 +31,17 @@ each-same f g i k (suc n) h =
         rw (a, b) (h (suc j) (omega arith))
 
 -- the first n, and m behind them
-each-append : {A : Type 0} (f : ℕ → A) (i n m : ℕ) → each f i (n + m) ≡ each f i n ++ each f (i + n) m
-each-append f i zero m = rw (zero-add, add-zero)
-each-append f i (suc n) m =
+indexed-append : {A : Type 0} (f : ℕ → A) (i n m : ℕ) → indexed f i (n + m) ≡ indexed f i n ++ indexed f (i + n) m
+indexed-append f i zero m = rw (zero-add, add-zero)
+indexed-append f i (suc n) m =
     let a : suc n + m ≡ suc (n + m) = omega arith in
     let b : i + suc n ≡ suc i + n = omega arith in
-    rw (a, b) (ap (λ (l : List _). f i ∷ l) (each-append f (suc i) n m))
+    rw (a, b) (ap (λ (l : List _). f i ∷ l) (indexed-append f (suc i) n m))
 
 -- n are n
-pub length-each : {A : Type 0} (f : ℕ → A) (i n : ℕ) → length (each f i n) ≡ n
-length-each f i zero = refl
-length-each f i (suc n) = ap suc (length-each f (suc i) n)
+pub length-indexed : {A : Type 0} (f : ℕ → A) (i n : ℕ) → length (indexed f i n) ≡ n
+length-indexed f i zero = refl
+length-indexed f i (suc n) = ap suc (length-indexed f (suc i) n)
 
 -- ---- steps in bytes
 
@@ -83,23 +83,23 @@ step-later x l i =
     ∙ ap (λ (m : List ℕ). stepAt m i) (drop-at (stepBytes x) l 5 (length-step x))
 
 -- the bytes of steps hold the steps
-pub joined-steps : (xs : List Step) (l : List ℕ) → each (stepAt (joinedSteps xs ++ l)) 0 (length xs) ≡ xs
+pub joined-steps : (xs : List Step) (l : List ℕ) → indexed (stepAt (joinedSteps xs ++ l)) 0 (length xs) ≡ xs
 joined-steps [] l = refl
 joined-steps (x ∷ xs) l =
     let m = joinedSteps xs ++ l in
-    let p = each-same (stepAt (stepBytes x ++ m)) (stepAt m) 1 0 (length xs) (λ j h. step-later x m j ∙ ap (stepAt m) (sym (zero-add j))) in
+    let p = indexed-same (stepAt (stepBytes x ++ m)) (stepAt m) 1 0 (length xs) (λ j h. step-later x m j ∙ ap (stepAt m) (sym (zero-add j))) in
     let q = p ∙ joined-steps xs l in
-    ap (λ (k : List ℕ). each (stepAt k) 0 (suc (length xs))) (append-assoc (stepBytes x) (joinedSteps xs) l)
+    ap (λ (k : List ℕ). indexed (stepAt k) 0 (suc (length xs))) (append-assoc (stepBytes x) (joinedSteps xs) l)
     ∙ (λ t. step-first x m t ∷ q t)
 
 -- ---- the steps of a session
 
 module _ (st : List ℕ) where
   -- a step that is encoded
-  encoded : (i : ℕ) → i < stepCount st → stepIn st i ≡ stepAt (drop 153 st) i
+  encoded : (i : ℕ) → i < stepCount st → stepIn st i ≡ stepAt (drop 154 st) i
   encoded i h =
       ap (λ (b : Bool). cond b (encodedStep st i) (Store (i - stepCount st))) (lt-ltb i (stepCount st) h)
-      ∙ step-drop st 153 i _ _ _ _ _ (omega arith) (omega arith) (omega arith) (omega arith) (omega arith)
+      ∙ step-drop st 154 i _ _ _ _ _ (omega arith) (omega arith) (omega arith) (omega arith) (omega arith)
 
   -- a memory read behind them
   behind : (i : ℕ) → stepIn st (stepCount st + i) ≡ Store i
@@ -109,10 +109,10 @@ module _ (st : List ℕ) where
       ap (λ (b : Bool). cond b (encodedStep st (n + i)) (Store (n + i - n))) (le-ltb (n + i) n (omega arith)) ∙ ap Store k
 
   -- the plan is the one, and then the other
-  pub plan-parts : plan st ≡ each (stepAt (drop 153 st)) 0 (stepCount st) ++ each Store 0 (readCount st)
+  pub plan-parts : plan st ≡ indexed (stepAt (drop 154 st)) 0 (stepCount st) ++ indexed Store 0 (readCount st)
   plan-parts =
       let n = stepCount st in
       let m = readCount st in
-      let p = each-same (stepIn st) (stepAt (drop 153 st)) 0 0 n (λ j h. encoded (0 + j) (omega arith)) in
-      let q = each-same (stepIn st) Store (0 + n) 0 m (λ j h. ap (λ (k : ℕ). stepIn st (k + j)) (zero-add n) ∙ behind j ∙ ap Store (sym (zero-add j))) in
-      each-append (stepIn st) 0 n m ∙ (λ t. p t ++ q t)
+      let p = indexed-same (stepIn st) (stepAt (drop 154 st)) 0 0 n (λ j h. encoded (0 + j) (omega arith)) in
+      let q = indexed-same (stepIn st) Store (0 + n) 0 m (λ j h. ap (λ (k : ℕ). stepIn st (k + j)) (zero-add n) ∙ behind j ∙ ap Store (sym (zero-add j))) in
+      indexed-append (stepIn st) 0 n m ∙ (λ t. p t ++ q t)

@@ -35,16 +35,16 @@ zeros-more n h =
     let k : 5 + (125 - 5 * (n + 1)) ≡ 125 - 5 * n = omega arith in
     sym (replicate-append-replicate {A = ℕ} 5 (125 - 5 * (n + 1)) 0 ∙ ap (λ (m : ℕ). replicate m 0) k)
 
--- bytes of another number take no step
+-- bytes of another length take no step
 push-none : (ys : List Step) (st : List ℕ) → isSession st ≡ false → pushedAll st ys ≡ st
 unfolding pushed
 push-none [] st s = refl
 push-none (y ∷ ys) st s = rw s (push-none ys st s)
 
-module _ (b : Begun) (image : length (b .image) ≡ 100) (handed : length (b .handed) ≡ 37) where
+module _ (b : Begun) (image : length (b .image) ≡ 100) (recorded : length (b .«record») ≡ 37) where
   -- what stands before the steps, where there are n
   abbrev front : ℕ → List ℕ
-  front n = headOf (b .address) (b .reads) (b .room) n ++ b .image ++ b .handed
+  front n = headOf b n ++ b .image ++ b .«record»
 
   -- one step more
   push-one : (xs : List Step) (x : Step) → length xs < 25 → pushed (begunBytes b xs) x ≡ begunBytes b (xs ++ (x ∷ []))
@@ -52,13 +52,13 @@ module _ (b : Begun) (image : length (b .image) ≡ 100) (handed : length (b .ha
   push-one xs x h =
       let n = length xs in
       let p = front (n + 1) ++ joinedSteps xs in
-      let e : length p ≡ 153 + 5 * n = simp (length-append, length-joined, image, handed) (omega arith) in
+      let e : length p ≡ 154 + 5 * n = simp (length-append, length-joined, image, recorded) (omega arith) in
       let m : n + 1 ≡ length (xs ++ (x ∷ [])) = sym (length-append xs (x ∷ [])) in
-      let k = ap (λ (z : List ℕ). over (p ++ z) (153 + 5 * n) (stepBytes x)) (zeros-more n h) in
-      let o = over-at p (replicate 5 0) (zeros (n + 1)) (stepBytes x) (153 + 5 * n) e (sym (length-step x)) in
+      let k = ap (λ (z : List ℕ). over (p ++ z) (154 + 5 * n) (stepBytes x)) (zeros-more n h) in
+      let o = over-at p (replicate 5 0) (zeros (n + 1)) (stepBytes x) (154 + 5 * n) e (sym (length-step x)) in
       let a = append-assoc (front (n + 1)) (joinedSteps xs) (stepBytes x) in
       let j = sym (joined-more xs x) in
-      rw (eq-eqb _ _ (size b xs (omega arith) image handed), lt-ltb _ _ h) (k ∙ o ∙ (λ t. a t ++ zeros (n + 1)) ∙ (λ t. front (m t) ++ j t ++ zeros (m t)))
+      rw (eq-eqb _ _ (size b xs (omega arith) image recorded), lt-ltb _ _ h) (k ∙ o ∙ (λ t. a t ++ zeros (n + 1)) ∙ (λ t. front (m t) ++ j t ++ zeros (m t)))
 
   -- one after another
   push-more : (ys xs : List Step) → length (xs ++ ys) ≤ 25 → pushedAll (begunBytes b xs) ys ≡ begunBytes b (xs ++ ys)
@@ -70,11 +70,11 @@ module _ (b : Begun) (image : length (b .image) ≡ 100) (handed : length (b .ha
       ∙ ap (begunBytes b) e
 
 -- also where the bytes are no session
-pub pushes : (st : List ℕ) (b : Begun) (xs ys : List Step) → length (b .image) ≡ 100 → length (b .handed) ≡ 37 → length (xs ++ ys) ≤ 25 →
+pub pushes : (st : List ℕ) (b : Begun) (xs ys : List Step) → length (b .image) ≡ 100 → length (b .«record») ≡ 37 → length (xs ++ ys) ≤ 25 →
     pushedAll (begunIn st b xs) ys ≡ begunIn st b (xs ++ ys)
 unfolding begunIn
-pushes st b xs ys image handed h = go (isSession st) refl
+pushes st b xs ys image recorded h = go (isSession st) refl
   where
     go : (s : Bool) → isSession st ≡ s → pushedAll (cond s (begunBytes b xs) st) ys ≡ cond s (begunBytes b (xs ++ ys)) st
-    go true e = push-more b image handed ys xs h
+    go true e = push-more b image recorded ys xs h
     go false e = push-none ys st e

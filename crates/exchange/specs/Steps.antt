@@ -3,6 +3,7 @@ use Prim.Native.Nat.{ℕ, _+_, _-_, _%_, min}
 use mathlib.Core.List.{List, [], _∷_, _++_}
 use lib.ListN.{length, take, drop, getD, replicate}
 use Rattle.field.specs.Field.{withOf}
+use Rattle.registers.specs.Addresses.{addressOf}
 use Rattle.exchange.specs.declared.Step.{Step}
 use Rattle.exchange.specs.declared.Step.the-variants.{Write, Read, Update, Match, Chunk, Store}
 use Rattle.exchange.specs.declared.Exchange.{Exchange}
@@ -13,7 +14,7 @@ exchange address bytes wanted = record { address = address; bytes = bytes ++ rep
 
 -- "from address 84 (hexadecimal)"
 abbrev pub memoryAddress : ℕ → ℕ
-memoryAddress i = (0x84 + i) % 256
+memoryAddress i = (addressOf "SNP_MEM_0" + i) % 256
 
 -- "in chunks of 32"
 abbrev pub chunk : List ℕ → ℕ → ℕ → List ℕ

@@ -1,10 +1,10 @@
 -- What a session hands out, and what an answer of the bus does to it: document 01, 'Exchanges' and 'Who can cause which answer'.
 use Prim.Native.Nat.{ℕ, _+_, _<_}
 use mathlib.Core.Path.{_≡_}
-use mathlib.Core.Bool.{Bool, cond, not, _&&_}
-use mathlib.Core.List.{List, [], _∷_}
+use mathlib.Core.Bool.{Bool, true, false, cond, not, _&&_}
+use mathlib.Core.List.{List, [], _∷_, _++_}
 use lib.Dec.{ltb, eqb}
-use lib.ListN.{length, set}
+use lib.ListN.{length, take, set}
 use Rattle.errors.specs.Number.{answerNumber, busCode}
 use Rattle.errors.specs.declared.Answer.{Answer}
 use Rattle.laws.specs.Copied.{over}
@@ -31,20 +31,31 @@ pendingOf st = pendingFor st (left st)
 
 -- ---- how an answer fits a step: done fits a write, a byte fits a read, a failure fits either
 
+abbrev pub wantsByte : Step → Bool
+wantsByte x = eqb (exchangeFor 0 0 [] x .wanted) 1
+
+-- what a step asks of the byte that it reads: the value that it must be, if any, and its index in the lent buffer, if it has one
+pub record Asks : Type 0 where
+  pub must : List ℕ
+  pub index : List ℕ
+
+abbrev pub asks : Step → Asks
+asks (Write register value) = record { must = []; index = [] }
+asks (Read register) = record { must = []; index = [] }
+asks (Update register shift width value) = record { must = []; index = [] }
+asks (Match register value) = record { must = value ∷ []; index = [] }
+asks (Chunk offset len) = record { must = []; index = [] }
+asks (Store i) = record { must = []; index = i ∷ [] }
+
+abbrev pub byteFit : List ℕ → List ℕ → ℕ → Fit
+byteFit [] [] b = Got b
+byteFit [] (i ∷ is) b = Kept i b
+byteFit (value ∷ values) is b = cond (eqb b value) (Got b) (Wrong b)
+
 abbrev pub fittingOf : Step → Reply → Fit
 fittingOf x (Failed code) = Broke code
-fittingOf (Write register value) Done = Went
-fittingOf (Update register shift width value) Done = Went
-fittingOf (Chunk offset len) Done = Went
-fittingOf (Read register) Done = Unfit
-fittingOf (Match register value) Done = Unfit
-fittingOf (Store index) Done = Unfit
-fittingOf (Write register value) (Byte b) = Unfit
-fittingOf (Update register shift width value) (Byte b) = Unfit
-fittingOf (Chunk offset len) (Byte b) = Unfit
-fittingOf (Read register) (Byte b) = Got b
-fittingOf (Match register value) (Byte b) = cond (eqb b value) (Got b) (Wrong b)
-fittingOf (Store index) (Byte b) = Kept index b
+fittingOf x Done = cond (wantsByte x) Unfit Went
+fittingOf x (Byte b) = cond (wantsByte x) (byteFit (asks x .must) (asks x .index) b) Unfit
 
 -- "a read buffer whose length has changed since the start"
 abbrev pub changed : List ℕ → ℕ → Bool
@@ -62,70 +73,64 @@ fitOf st a n = cond (changed st n) Unfit (fitsNext (left st) a)
 
 -- a session that has a step left has its size, and can count one more
 abbrev pub going : List ℕ → Type 0
-going st = (length st ≡ 278) × (madeIn st < 125)
+going st = (length st ≡ 279) × (madeIn st < 125)
 
--- the state with another count, and the last three bytes read; broken off or not
-abbrev pub moved : List ℕ → ℕ → ℕ → ℕ → ℕ → List ℕ
-moved st broken one two three = over st 1 (broken ∷ (madeIn st + 1) ∷ one ∷ two ∷ three ∷ [])
+-- what an answer does
+pub record Effect : Type 0 where
+  -- the number of the refusal or 0, and the bus's own code
+  pub number : ℕ
+  pub code : ℕ
+  -- whether the exchange counts as made, the session's stage then, and the byte that came
+  pub made : Bool
+  pub stage : ℕ
+  pub came : List ℕ
+  -- the lent buffer afterwards
+  pub buffer : List ℕ → List ℕ
 
--- "A refusal hands back the session as it came in"; 16 and 17 end it
-abbrev pub stateBy : List ℕ → Fit → List ℕ
-stateBy st Unfit = st
-stateBy st (Broke code) = moved st 1 (at st 3) (at st 4) (at st 5)
-stateBy st Went = moved st 0 (at st 3) (at st 4) (at st 5)
-stateBy st (Got b) = moved st 0 b (at st 3) (at st 4)
-stateBy st (Kept i b) = moved st 0 b (at st 3) (at st 4)
-stateBy st (Wrong b) = moved st 1 b (at st 3) (at st 4)
+abbrev pub effect : ℕ → ℕ → Bool → ℕ → List ℕ → (List ℕ → List ℕ) → Effect
+effect number code made stage came buffer = record { number = number; code = code; made = made; stage = stage; came = came; buffer = buffer }
+
+-- 16 and 17 end the session; "Each byte read is stored at its own index in the buffer lent with that answer, and that call changes no other byte"
+abbrev pub effectOf : Fit → Effect
+effectOf Unfit = effect 19 0 false 1 [] (λ l. l)
+effectOf (Broke code) = effect 17 code true 2 [] (λ l. l)
+effectOf Went = effect 0 0 true 1 [] (λ l. l)
+effectOf (Got b) = effect 0 0 true 1 (b ∷ []) (λ l. l)
+effectOf (Kept i b) = effect 0 0 true 1 (b ∷ []) (λ l. set l i b)
+effectOf (Wrong b) = effect 16 0 true 2 (b ∷ []) (λ l. l)
+
+-- the state with another count and stage, and the last three bytes read
+abbrev pub moved : List ℕ → ℕ → List ℕ → List ℕ
+moved st stage came = over st 1 (stage ∷ (madeIn st + 1) ∷ take 3 (came ++ (at st 3 ∷ at st 4 ∷ at st 5 ∷ [])))
+
+-- "A refusal hands back the session as it came in"
+abbrev pub stateBy : List ℕ → Effect → List ℕ
+stateBy st e = cond (e .made) (moved st (e .stage) (e .came)) st
 
 unfoldable pub stateAfter : List ℕ → Reply → ℕ → List ℕ
-stateAfter st a n = stateBy st (fitOf st a n)
-
--- "Each byte read is stored at its own index in the buffer lent with that answer, and that call changes no other byte"
-abbrev pub bufferBy : Fit → List ℕ → List ℕ
-bufferBy Unfit buffer = buffer
-bufferBy (Broke code) buffer = buffer
-bufferBy Went buffer = buffer
-bufferBy (Got b) buffer = buffer
-bufferBy (Kept i b) buffer = set buffer i b
-bufferBy (Wrong b) buffer = buffer
+stateAfter st a n = stateBy st (effectOf (fitOf st a n))
 
 unfoldable pub bufferAfter : List ℕ → Reply → List ℕ → List ℕ
-bufferAfter st a buffer = bufferBy (fitOf st a (length buffer)) buffer
+bufferAfter st a l = effectOf (fitOf st a (length l)) .buffer l
 
 -- ---- what is answered
 
 -- the number of a refusal or 0, the bus's own code, the count, and whether the session has ended
-pub record Told : Type 0 where
+pub record Report : Type 0 where
   pub number : ℕ
   pub code : ℕ
   pub made : ℕ
   pub ended : Bool
 
-abbrev pub numberBy : Fit → ℕ
-numberBy Unfit = 19
-numberBy (Broke code) = 17
-numberBy Went = 0
-numberBy (Got b) = 0
-numberBy (Kept i b) = 0
-numberBy (Wrong b) = 16
+abbrev pub reportBy : List ℕ → Effect → Report
+reportBy st e = record { number = e .number; code = e .code; made = countIn (stateBy st e); ended = noneLeft (left (stateBy st e)) }
 
-abbrev pub codeBy : Fit → ℕ
-codeBy (Broke code) = code
-codeBy Unfit = 0
-codeBy Went = 0
-codeBy (Got b) = 0
-codeBy (Kept i b) = 0
-codeBy (Wrong b) = 0
-
-abbrev pub toldBy : List ℕ → Fit → Told
-toldBy st f = record { number = numberBy f; code = codeBy f; made = countIn (stateBy st f); ended = noneLeft (left (stateBy st f)) }
-
-unfoldable pub toldOf : List ℕ → Reply → ℕ → Told
-toldOf st a n = toldBy st (fitOf st a n)
+unfoldable pub reportOf : List ℕ → Reply → ℕ → Report
+reportOf st a n = reportBy st (effectOf (fitOf st a n))
 
 -- a turn in document 01's numbers
-abbrev pub turnTold : Turn → Told
-turnTold t = record { number = answerNumber (t .answer); code = busCode (t .answer); made = t .made; ended = t .ended }
+abbrev pub turnReport : Turn → Report
+turnReport t = record { number = answerNumber (t .answer); code = busCode (t .answer); made = t .made; ended = t .ended }
 
 abbrev pub turnIn : List ℕ → Answer → Turn
 turnIn st a = record { answer = a; made = countIn st; ended = noneLeft (left st) }

@@ -2,9 +2,9 @@
 // exchange of one step after the other, takes back the bus's answer, and ends. Its state is bytes that the caller lends, so that
 // firmware can hold it across an await; the layout stands in specs/State.antt. Left out: the bus itself and its waiting.
 //
-// Proved: each function equals its definition for every state, answer and buffer. Bytes of another number than 278 are a session that
-// has ended, and any 278 bytes are some session. proofs/Session.antt: over every list of answers the exchanges are those of the
-// steps, in order, and the count is true.
+// Proved: each function equals its definition for every state, answer and buffer. Bytes of another length than 279, or whose stage is not
+// that of a session that was begun, have no step left and are not completed. proofs/Session.antt: over every list of answers the
+// exchanges are those of the steps, in order, and the count is true.
 ghost use mathlib.Core.Path.{_≡_};
 ghost use mathlib.Core.Bool.{cond};
 ghost use Prim.Native.Nat.{_+_, _*_, _≤_, _<_, min};
@@ -12,15 +12,48 @@ ghost use mathlib.Core.List.{[], _∷_};
 ghost use lib.ListN.{length, set};
 ghost use Rattle.laws.specs.Copied.{over};
 ghost use Rattle.exchange.specs.Steps.{exchange, memoryAddress, chunk, exchangeFor, stepBytes, stepOf};
-ghost use Rattle.exchange.specs.State.{at, addressIn, countIn, roomIn, imageIn, encodedStep, bytesRead, memoryReads, left, noneLeft, slotOf, completed, headOf, begun, begunIn, pushed};
-ghost use Rattle.exchange.specs.Turn.{pendingOf, fittingOf, changed, fitOf, going, moved, stateAfter, bufferAfter, toldOf, turnTold, turnIn};
+ghost use Rattle.exchange.specs.State.{at, addressIn, countIn, roomIn, imageIn, encodedStep, left, noneLeft, slotOf, completed, headOf, begunWith, begunIn, pushed};
+ghost use Rattle.exchange.specs.Turn.{pendingOf, fittingOf, changed, fitOf, going, moved, stateAfter, bufferAfter, reportOf, turnReport, turnIn};
 use errors::Answer;
 use errors::Error;
+use registers::Register;
 
-pub const SESSION_SIZE: usize = 278;
+pub const SESSION_SIZE: usize = 279;
 
-// How many bytes a record has that a session hands back.
+// How many bytes the record has that an operation is for.
 pub const RECORD_SIZE: usize = 37;
+
+// What stands where in a session.
+const ADDRESS: usize = 0;
+
+const STAGE: usize = 1;
+
+const MADE: usize = 2;
+
+pub const LAST: usize = 3;
+
+const STEPS: usize = 6;
+
+pub const READS: usize = 7;
+
+const ROOM: usize = 8;
+
+pub const PURPOSE: usize = 16;
+
+const IMAGE: usize = 17;
+
+pub const RECORD: usize = 117;
+
+pub const PLAN: usize = 154;
+
+// The stage of a session that was begun, and of one that was broken off.
+const BEGUN: u8 = 1;
+
+const BROKEN_OFF: u8 = 2;
+
+const MOST_STEPS: u8 = 25;
+
+const MOST_READS: u8 = 100;
 
 pub enum Step {
     // The register and what is written.
@@ -81,24 +114,25 @@ pub fn begin(
     address: u8,
     reads: u8,
     room: usize,
+    purpose: u8,
     image: [u8; 100],
-    handed: [u8; RECORD_SIZE],
+    record: [u8; RECORD_SIZE],
 )
-    ensures { λ _. ⌜ now (session .exit) ≡ begunIn (now (session .entry)) (begun address reads room image handed) [] ⌝ }
+    ensures { λ _. ⌜ now (session .exit) ≡ begunIn (now (session .entry)) (begunWith address reads room purpose image «record») [] ⌝ }
 {
     if session.len() == SESSION_SIZE {
-        let head = heading(address, reads, room);
+        let head = heading(address, reads, room, purpose);
         let none = [0u8; 125];
         lay(session, 0, &head);
-        lay(session, 16, &image);
-        lay(session, 116, &handed);
-        lay(session, 153, &none);
+        lay(session, IMAGE, &image);
+        lay(session, RECORD, &record);
+        lay(session, PLAN, &none);
     }
 }
 
-// The first sixteen bytes; the last eight are the length of the read buffer, least byte first.
-fn heading(address: u8, reads: u8, room: usize) -> [u8; 16]
-    ensures { λ r. ⌜ r ≡ headOf address reads room 0 ⌝ }
+// The first seventeen bytes; eight of them are the length of the read buffer, least byte first.
+fn heading(address: u8, reads: u8, room: usize, purpose: u8) -> [u8; 17]
+    ensures { λ r. ⌜ r ≡ headOf (begunWith address reads room purpose [] []) 0 ⌝ }
 {
     let q1 = room / 256;
     let q2 = q1 / 256;
@@ -109,7 +143,7 @@ fn heading(address: u8, reads: u8, room: usize) -> [u8; 16]
     let q7 = q6 / 256;
     [
         address,
-        0,
+        BEGUN,
         0,
         0,
         0,
@@ -124,6 +158,7 @@ fn heading(address: u8, reads: u8, room: usize) -> [u8; 16]
         (q5 % 256) as u8,
         (q6 % 256) as u8,
         (q7 % 256) as u8,
+        purpose,
     ]
 }
 
@@ -140,11 +175,11 @@ pub fn push(session: &mut [u8], step: Step)
     ensures { λ _. ⌜ now (session .exit) ≡ pushed (now (session .entry)) step ⌝ }
 {
     if session.len() == SESSION_SIZE {
-        let n = session[6];
-        if n < 25 {
+        let n = session[STEPS];
+        if n < MOST_STEPS {
             let bytes = step_bytes(step);
-            session[6] = n + 1;
-            lay(session, 153 + 5 * (n as usize), &bytes);
+            session[STEPS] = n + 1;
+            lay(session, PLAN + 5 * (n as usize), &bytes);
         }
     }
 }
@@ -188,12 +223,12 @@ fn current(session: &[u8]) -> Slot
     if session.len() != SESSION_SIZE {
         return Slot::Idle;
     }
-    if 0 < session[1] {
+    if session[STAGE] != BEGUN {
         return Slot::Idle;
     }
-    let made = session[2];
-    let steps = least(session[6], 25);
-    let all = steps + least(session[7], 100);
+    let made = session[MADE];
+    let steps = least(session[STEPS], MOST_STEPS);
+    let all = steps + least(session[READS], MOST_READS);
     if all <= made {
         return Slot::Idle;
     }
@@ -206,16 +241,16 @@ fn current(session: &[u8]) -> Slot
 
 // The i-th encoded step.
 fn step_at(session: &[u8], i: u8) -> Step
-    requires { ⌜ (length (now session) ≡ 278) × (i < 25) ⌝ }
+    requires { ⌜ (length (now session) ≡ 279) × (i < 25) ⌝ }
     ensures { λ r. ⌜ r ≡ encodedStep (now (session .entry)) i ⌝ }
 {
     let k = 5 * (i as usize);
     step_of(
-        session[153 + k],
-        session[154 + k],
-        session[155 + k],
-        session[156 + k],
-        session[157 + k],
+        session[PLAN + k],
+        session[PLAN + k + 1],
+        session[PLAN + k + 2],
+        session[PLAN + k + 3],
+        session[PLAN + k + 4],
     )
 }
 
@@ -230,19 +265,19 @@ pub fn pending(session: &[u8]) -> Exchange
 }
 
 fn exchange_for(session: &[u8], step: Step) -> Exchange
-    requires { ⌜ length (now session) ≡ 278 ⌝ }
+    requires { ⌜ length (now session) ≡ 279 ⌝ }
     ensures { λ r. ⌜ r ≡ exchangeFor (addressIn (now (session .entry))) (at (now (session .entry)) 3) (imageIn (now (session .entry))) step ⌝ }
 {
-    let address = session[0];
+    let address = session[ADDRESS];
     match step {
         Step::Write(register, value) => writing(address, register, value),
         Step::Read(register) => reading(address, register),
         Step::Update(register, shift, width, value) => {
-            let updated = field::with(session[3], shift, width, value);
+            let updated = field::with(session[LAST], shift, width, value);
             writing(address, register, updated)
         }
         Step::Match(register, _) => reading(address, register),
-        Step::Chunk(offset, len) => uploading(address, &session[16..116], offset, len),
+        Step::Chunk(offset, len) => uploading(address, &session[IMAGE..RECORD], offset, len),
         Step::Store(index) => reading(address, memory_address(index)),
     }
 }
@@ -308,57 +343,70 @@ fn uploading(address: u8, image: &[u8], offset: u8, len: u8) -> Exchange
 fn memory_address(index: u8) -> u8
     ensures { λ r. ⌜ r ≡ memoryAddress index ⌝ }
 {
-    ((0x84 + index as u16) % 256) as u8
+    let first = Register::SNP_MEM_0.address();
+    ((first as u16 + index as u16) % 256) as u8
 }
 
 // Takes back what the bus answered, with the buffer that a memory read fills (any, where the operation reads none).
 pub fn answer(session: &mut [u8], reply: Reply, buffer: &mut [u8]) -> Turn
-    ensures { λ r. ⌜ turnTold r ≡ toldOf (now (session .entry)) reply (length (now (buffer .entry))) ⌝ }
+    ensures { λ r. ⌜ turnReport r ≡ reportOf (now (session .entry)) reply (length (now (buffer .entry))) ⌝ }
     ensures { λ _. ⌜ now (session .exit) ≡ stateAfter (now (session .entry)) reply (length (now (buffer .entry))) ⌝ }
     ensures { λ _. ⌜ now (buffer .exit) ≡ bufferAfter (now (session .entry)) reply (now (buffer .entry)) ⌝ }
 {
     match judge(session, reply, buffer.len()) {
         Fit::Unfit => tell(session, Answer::Refused(Error::OutOfTurn)),
         Fit::Broke(code) => {
-            go_on(session, 1);
+            go_on(session, BROKEN_OFF);
             tell(session, Answer::Refused(Error::I2c(code)))
         }
         Fit::Went => {
-            go_on(session, 0);
+            go_on(session, BEGUN);
             tell(session, Answer::Done)
         }
         Fit::Got(b) => {
-            take_in(session, 0, b);
+            take_in(session, BEGUN, b);
             tell(session, Answer::Done)
         }
         Fit::Kept(i, b) => {
             store(buffer, i, b);
-            take_in(session, 0, b);
+            take_in(session, BEGUN, b);
             tell(session, Answer::Done)
         }
         Fit::Wrong(b) => {
-            take_in(session, 1, b);
+            take_in(session, BROKEN_OFF, b);
             tell(session, Answer::Refused(Error::VariantMismatch))
         }
     }
 }
 
-// An exchange more, without a byte read; broken off or not.
-fn go_on(session: &mut [u8], broken: u8)
+// An exchange more, without a byte read; the session goes on, or is broken off.
+fn go_on(session: &mut [u8], stage: u8)
     requires { ⌜ going (now session) ⌝ }
-    ensures { λ _. ⌜ now (session .exit) ≡ moved (now (session .entry)) broken (at (now (session .entry)) 3) (at (now (session .entry)) 4) (at (now (session .entry)) 5) ⌝ }
+    ensures { λ _. ⌜ now (session .exit) ≡ moved (now (session .entry)) stage [] ⌝ }
 {
-    let bytes = [broken, session[2] + 1, session[3], session[4], session[5]];
-    lay(session, 1, &bytes);
+    let bytes = [
+        stage,
+        session[MADE] + 1,
+        session[LAST],
+        session[LAST + 1],
+        session[LAST + 2],
+    ];
+    lay(session, STAGE, &bytes);
 }
 
 // An exchange more, with the byte that was read.
-fn take_in(session: &mut [u8], broken: u8, b: u8)
+fn take_in(session: &mut [u8], stage: u8, b: u8)
     requires { ⌜ going (now session) ⌝ }
-    ensures { λ _. ⌜ now (session .exit) ≡ moved (now (session .entry)) broken b (at (now (session .entry)) 3) (at (now (session .entry)) 4) ⌝ }
+    ensures { λ _. ⌜ now (session .exit) ≡ moved (now (session .entry)) stage (b ∷ []) ⌝ }
 {
-    let bytes = [broken, session[2] + 1, b, session[3], session[4]];
-    lay(session, 1, &bytes);
+    let bytes = [
+        stage,
+        session[MADE] + 1,
+        b,
+        session[LAST],
+        session[LAST + 1],
+    ];
+    lay(session, STAGE, &bytes);
 }
 
 // A byte goes to its own index, if the buffer has one.
@@ -381,12 +429,14 @@ fn tell(session: &[u8], answer: Answer) -> Turn
     }
 }
 
-// How many exchanges were made.
+// How many exchanges were made; none of a session that was not begun.
 pub fn made(session: &[u8]) -> u8
     ensures { λ r. ⌜ r ≡ countIn (now (session .entry)) ⌝ }
 {
     if session.len() == SESSION_SIZE {
-        return session[2];
+        if 0 < session[STAGE] {
+            return session[MADE];
+        }
     }
     0
 }
@@ -408,10 +458,10 @@ pub fn is_completed(session: &[u8]) -> bool
     if session.len() != SESSION_SIZE {
         return false;
     }
-    if 0 < session[1] {
+    if session[STAGE] != BEGUN {
         return false;
     }
-    least(session[6], 25) + least(session[7], 100) <= session[2]
+    least(session[STEPS], MOST_STEPS) + least(session[READS], MOST_READS) <= session[MADE]
 }
 
 // How an answer fits the session, with n bytes lent.
@@ -465,10 +515,10 @@ fn fitting(step: Step, reply: Reply) -> Fit
 
 // Whether the read buffer's length is another than at the start.
 fn is_changed(session: &[u8], n: usize) -> bool
-    requires { ⌜ length (now session) ≡ 278 ⌝ }
+    requires { ⌜ length (now session) ≡ 279 ⌝ }
     ensures { λ r. ⌜ r ≡ changed (now (session .entry)) n ⌝ }
 {
-    if session[7] < 1 {
+    if session[READS] < 1 {
         return false;
     }
     n != room(session)
@@ -476,11 +526,21 @@ fn is_changed(session: &[u8], n: usize) -> bool
 
 // The length that the read buffer had at the start.
 fn room(session: &[u8]) -> usize
-    requires { ⌜ length (now session) ≡ 278 ⌝ }
+    requires { ⌜ length (now session) ≡ 279 ⌝ }
     ensures { λ r. ⌜ r ≡ roomIn (now (session .entry)) ⌝ }
 {
-    let low = word(session[8], session[9], session[10], session[11]);
-    let high = word(session[12], session[13], session[14], session[15]);
+    let low = word(
+        session[ROOM],
+        session[ROOM + 1],
+        session[ROOM + 2],
+        session[ROOM + 3],
+    );
+    let high = word(
+        session[ROOM + 4],
+        session[ROOM + 5],
+        session[ROOM + 6],
+        session[ROOM + 7],
+    );
     low + 4294967296 * high
 }
 
@@ -488,24 +548,4 @@ fn word(a: u8, b: u8, c: u8, d: u8) -> usize
     ensures { λ r. ⌜ (r ≡ a + 256 * b + 65536 * c + 16777216 * d) × (r < 4294967296) ⌝ }
 {
     a as usize + 256 * (b as usize) + 65536 * (c as usize) + 16777216 * (d as usize)
-}
-
-// The byte read last, the one before it, and the one before that.
-pub fn bytes_read(session: &[u8]) -> [u8; 3]
-    ensures { λ r. ⌜ r ≡ bytesRead (now (session .entry)) ⌝ }
-{
-    if session.len() == SESSION_SIZE {
-        return [session[3], session[4], session[5]];
-    }
-    [0, 0, 0]
-}
-
-// How many bytes of memory the operation reads.
-pub fn memory_reads(session: &[u8]) -> u8
-    ensures { λ r. ⌜ r ≡ memoryReads (now (session .entry)) ⌝ }
-{
-    if session.len() == SESSION_SIZE {
-        return least(session[7], 100);
-    }
-    0
 }

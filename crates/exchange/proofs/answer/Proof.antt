@@ -1,14 +1,15 @@
 -- `answer` meets its contract: each way in which an answer fits, by one law. Assumes nothing.
 use borrow.Author.Needs.{needs}
 use mathlib.Core.Path.{_≡_, refl, sym, _∙_}
+use mathlib.Core.Bool.{true}
 use denote.Ref.{now}
 use lib.ListN.{length}
 use Rattle.errors.specs.declared.Answer.the-variants as answer
 use Rattle.errors.specs.declared.Error.the-variants.{I2c, VariantMismatch, OutOfTurn}
 use Rattle.exchange.specs.declared.Fit.{Fit}
 use Rattle.exchange.specs.declared.Fit.the-variants.{Unfit, Broke, Went, Got, Kept, Wrong}
-use Rattle.exchange.specs.Turn.{fitOf, going}
-use Rattle.exchange.proofs.Answers.{Fits, fits-going, answered}
+use Rattle.exchange.specs.Turn.{fitOf, effectOf, going}
+use Rattle.exchange.proofs.Answers.{fits-going, answered}
 use Rattle.exchange.proofs.answer.Statement.{statement}
 use Rattle.exchange.proofs.answer.Tie as tie
 
@@ -19,25 +20,25 @@ found : (j : tie.After-judge) (f : Fit) → j .judge .result ≡ f →
 found j f e = sym (j .judge .ensures) ∙ e
 
 -- where it fits, the session is going
-goes : (j : tie.After-judge) (f : Fit) → j .judge .result ≡ f → Fits f → going (now (j .before .before .before .before .args .session))
+goes : (j : tie.After-judge) (f : Fit) → j .judge .result ≡ f → effectOf f .made ≡ true → going (now (j .before .before .before .before .args .session))
 goes j f e h =
     let a = j .before .before .before .before .args in
     fits-going (now (a .session)) (a .reply) (length (now (a .buffer))) f (found j f e) h
 
 go-on-requires : tie.Need-go-on-requires
-go-on-requires c κs = goes (c .before .before .before .before) (Broke _) (c .before .before .code .given .1) tt
+go-on-requires c κs = goes (c .before .before .before .before) (Broke _) (c .before .before .code .given .1) refl
 
 go-on-requires-2 : tie.Need-go-on-requires-2
-go-on-requires-2 c κs = goes (c .before .before .before) Went (c .before .enum-told2 .given .1) tt
+go-on-requires-2 c κs = goes (c .before .before .before) Went (c .before .enum-told2 .given .1) refl
 
 take-in-requires : tie.Need-take-in-requires
-take-in-requires c κs = goes (c .before .before .before .before) (Got _) (c .before .before .b .given .1) tt
+take-in-requires c κs = goes (c .before .before .before .before) (Got _) (c .before .before .b .given .1) refl
 
 take-in-requires-2 : tie.Need-take-in-requires-2
-take-in-requires-2 c κs = goes (c .before .before .before .before .before .before .before .before) (Kept _ _) (c .before .before .before .before .before .before .i .given .1) tt
+take-in-requires-2 c κs = goes (c .before .before .before .before .before .before .before .before) (Kept _ _) (c .before .before .before .before .before .before .i .given .1) refl
 
 take-in-requires-3 : tie.Need-take-in-requires-3
-take-in-requires-3 c κs = goes (c .before .before .before .before) (Wrong _) (c .before .before .b2 .given .1) tt
+take-in-requires-3 c κs = goes (c .before .before .before .before) (Wrong _) (c .before .before .b2 .given .1) refl
 
 returns : tie.Need-returns
 returns c =

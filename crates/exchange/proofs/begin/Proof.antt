@@ -4,7 +4,7 @@ use mathlib.Core.Path.{ap, _∙_}
 use denote.Ref.{now}
 use borrow.Author.Tests.{ne-eqb}
 use Rattle.laws.specs.Copied.{over}
-use Rattle.exchange.specs.State.{begun, begunIn}
+use Rattle.exchange.specs.State.{begunWith, begunIn}
 use Rattle.exchange.proofs.Laid.{begun-laid}
 use Rattle.exchange.proofs.begin.Statement.{statement}
 use Rattle.exchange.proofs.begin.Tie as tie
@@ -18,9 +18,9 @@ returns c =
     let h = g .before .before .before in
     let s = h .before .before .before in
     let a = s .args in
-    begun-laid (now (a .session)) (begun (a .address) (a .reads) (a .room) (a .t5) (a .t6)) _ _ _ _ (h .before .if1 .taken)
-    (s .good .1 .1 .1 .1 .0 .1 .0 .1)
+    begun-laid (now (a .session)) (begunWith (a .address) (a .reads) (a .room) (a .purpose) (a .t6) (a .t7)) _ _ _ _ (h .before .if1 .taken)
     (s .good .1 .1 .1 .1 .1 .0 .1 .0 .1)
+    (s .good .1 .1 .1 .1 .1 .1 .0 .1 .0 .1)
     (g .lay .ensures ∙ ap (over (now (a .session)) 0) (h .heading .ensures))
     (f .lay2 .ensures) (e .lay3 .ensures) (d .lay4 .ensures)
 

@@ -8,15 +8,15 @@ use denote.Ref.{now}
 use Rattle.exchange.specs.declared.Slot.the-variants.{At}
 use Rattle.exchange.specs.declared.Step.the-variants.{Store}
 use Rattle.exchange.specs.State.{madeIn, stepCount, readCount, slotOf}
-use Rattle.exchange.proofs.Left.{left-no-session, left-broken, left-none, slot-encoded, slot-store}
+use Rattle.exchange.proofs.Left.{no-session, not-begun, opened, left-closed, left-none, slot-encoded, slot-store}
 use Rattle.exchange.proofs.current.Statement.{statement}
 use Rattle.exchange.proofs.current.Tie as tie
 
 returns : tie.Need-returns
-returns c = sym (ap slotOf (left-no-session (now (c .before .before .args .session)) (c .if1 .taken)))
+returns c = let st = now (c .before .before .args .session) in sym (ap slotOf (left-closed st (no-session st (c .if1 .taken))))
 
 returns-2 : tie.Need-returns-2
-returns-2 c = sym (ap slotOf (left-broken (now (c .before .before .before .before .args .session)) (c .if2 .taken)))
+returns-2 c = let st = now (c .before .before .before .before .args .session) in sym (ap slotOf (left-closed st (not-begun st (c .if2 .taken))))
 
 returns-3 : tie.Need-returns-3
 returns-3 c =
@@ -24,7 +24,7 @@ returns-3 c =
     let e = l .before .before .before .before .before in
     let st : List ℕ = now (e .before .before .args .session) in
     let k : stepCount st + readCount st ≤ madeIn st = omega (arith, c .if3 .taken, l .least .ensures, c .before .least2 .ensures) in
-    sym (ap slotOf (left-none st (e .if1 .left) (l .before .before .before .if2 .left) k))
+    sym (ap slotOf (left-none st (opened st (e .if1 .left) (l .before .before .before .if2 .left)) k))
 
 returns-4 : tie.Need-returns-4
 returns-4 c =
@@ -32,7 +32,7 @@ returns-4 c =
     let e = l .before .before .before .before .before in
     let st : List ℕ = now (e .before .before .args .session) in
     let k : madeIn st < stepCount st = omega (arith, c .before .if4 .taken, l .least .ensures) in
-    ap At (c .step-at .ensures) ∙ slot-encoded st (e .if1 .left) (l .before .before .before .if2 .left) k
+    ap At (c .step-at .ensures) ∙ slot-encoded st (opened st (e .if1 .left) (l .before .before .before .if2 .left)) k
 
 returns-5 : tie.Need-returns-5
 returns-5 c =
@@ -41,7 +41,7 @@ returns-5 c =
     let st : List ℕ = now (e .before .before .args .session) in
     let k : stepCount st ≤ madeIn st = omega (arith, c .if4 .left, l .least .ensures) in
     let n : madeIn st < stepCount st + readCount st = omega (arith, c .before .if3 .left, l .least .ensures, c .before .before .least2 .ensures) in
-    ap (λ (i : ℕ). At (Store (madeIn st - i))) (l .least .ensures) ∙ slot-store st (e .if1 .left) (l .before .before .before .if2 .left) k n
+    ap (λ (i : ℕ). At (Store (madeIn st - i))) (l .least .ensures) ∙ slot-store st (opened st (e .if1 .left) (l .before .before .before .if2 .left)) k n
 
 pub current-spec : {M : Type 1} → statement M
 current-spec =

@@ -22,7 +22,7 @@ abbrev counted : List ℕ → List ℕ
 counted st = set st 6 (at st 6 + 1)
 
 -- five bytes more fit
-room-for : (st bytes : List ℕ) (x : Step) → length st ≡ 278 → at st 6 < 25 → bytes ≡ stepBytes x → 153 + 5 * at st 6 + length bytes ≤ length (counted st)
+room-for : (st bytes : List ℕ) (x : Step) → length st ≡ 279 → at st 6 < 25 → bytes ≡ stepBytes x → 154 + 5 * at st 6 + length bytes ≤ length (counted st)
 room-for st bytes x l h e =
     let k : length bytes ≡ 5 = ap length e ∙ length-step x in
     simp length-set (omega arith)
@@ -39,7 +39,7 @@ same-length c =
     let a = b .before .before .before .before .before .args in
     let st : List ℕ = now (a .session) in
     ap length (c .before .before .lay .ensures)
-    ∙ length-over (counted st) (b .step-bytes .result) (153 + 5 * at st 6) (room-for st (b .step-bytes .result) (a .step) (b .before .before .before .if1 .taken) (b .before .if2 .taken) (b .step-bytes .ensures))
+    ∙ length-over (counted st) (b .step-bytes .result) (154 + 5 * at st 6) (room-for st (b .step-bytes .result) (a .step) (b .before .before .before .if1 .taken) (b .before .if2 .taken) (b .step-bytes .ensures))
     ∙ length-set st 6 (at st 6 + 1)
 
 returns : tie.Need-returns
@@ -48,7 +48,7 @@ returns c =
     let a = b .before .before .before .before .before .args in
     let st : List ℕ = now (a .session) in
     c .before .before .lay .ensures
-    ∙ ap (over (counted st) (153 + 5 * at st 6)) (b .step-bytes .ensures)
+    ∙ ap (over (counted st) (154 + 5 * at st 6)) (b .step-bytes .ensures)
     ∙ sym (pushed-more st (a .step) (b .before .before .before .if1 .taken) (b .before .if2 .taken))
 
 returns-2 : tie.Need-returns-2
