@@ -1,7 +1,7 @@
 -- Document 01, 'Rust forms without a counterpart': "the record in and out by value"; the layout is ours.
 -- The driver record as 37 bytes: chip address, variant, 1 for a record without settings or 2 where settings are stored, then the
--- settings. Numbers of two bytes have the least byte first; choices are their codes. Bytes of another number are a record without
--- settings; where byte 2 is 0 a session has no record to hand back.
+-- settings. Numbers of two bytes have the least byte first; choices are their codes. Bytes of another length are a record without
+-- settings.
 --   3 actuator type, 4 nominal mV, 6 absolute mV, 8 current mA, 10 impedance mOhm, 12 inductance µH, 14 frequency Hz,
 --   16 PID words given, 17 Kp, 19 Ki, 21 operation mode, 22 driving mode, 23 27 31 three triggers, 35 acceleration, 36 rapid stop;
 --   a trigger: given, sequence number, polarity, mode
@@ -56,10 +56,6 @@ settingsBytes (Given a d) = 2 ∷ (actuatorBytes a ++ deviceBytes d)
 unfoldable pub recordBytes : DA728x → List ℕ
 recordBytes r = r .address ∷ variantCode (r .variant) ∷ settingsBytes (r .settings)
 
--- in place of a record, where an operation changes none
-unfoldable pub noRecord : List ℕ
-noRecord = replicate 37 0
-
 -- ---- from bytes to a record
 
 abbrev pub byte : List ℕ → ℕ → ℕ
@@ -110,3 +106,7 @@ recordAt l =
     cond (eqb (length l) 37)
     (record { address = byte l 0; variant = variantAt (byte l 1); settings = settingsAt l })
     (record { address = 0; variant = DA7280; settings = Absent })
+
+-- its chip alone: address and variant
+abbrev pub chipAt : List ℕ → DA728x
+chipAt l = record { address = recordAt l .address; variant = recordAt l .variant; settings = Absent }

@@ -3,10 +3,10 @@
 // Proved: each function equals its definition in specs/Record.antt, for any bytes; proofs/Kept.antt: a record is what its bytes give back.
 // Left out: the bus, which stays the caller's; the operations are in `driver`.
 ghost use mathlib.Core.Path.{_≡_};
-ghost use mathlib.Core.List.{_∷_, _++_};
-ghost use Prim.Native.Nat.{_<_, _/_, _%_};
+ghost use mathlib.Core.List.{[], _∷_, _++_};
+ghost use Prim.Native.Nat.{_<_, _+_, _*_, _/_, _%_};
 ghost use lib.ListN.{getD, replicate};
-ghost use Rattle.da728x.specs.Record.{recordBytes, recordAt, actuatorBytes, deviceBytes, pidBytes, triggerBytes, settingsAt, actuatorConfigAt, deviceConfigAt, pidAt, triggerAt, twoAt};
+ghost use Rattle.da728x.specs.Record.{recordBytes, recordAt, chipAt, actuatorBytes, deviceBytes, pidBytes, triggerBytes, settingsAt, actuatorConfigAt, deviceConfigAt, pidAt, triggerAt, twoAt};
 use config::ActuatorConfig;
 use config::ActuatorType;
 use config::DeviceConfig;
@@ -59,6 +59,24 @@ impl DA728x {
             variant: Variant::DA7280,
             settings: Settings::Absent,
         }
+    }
+}
+
+// The chip of a record's bytes, for what looks at no settings.
+pub fn chip(bytes: &[u8]) -> DA728x
+    ensures { λ r. ⌜ r ≡ chipAt (now (bytes .entry)) ⌝ }
+{
+    if bytes.len() == RECORD_SIZE {
+        return DA728x {
+            address: byte_at(bytes, 0),
+            variant: Variant::from_code(byte_at(bytes, 1)),
+            settings: Settings::Absent,
+        };
+    }
+    DA728x {
+        address: 0,
+        variant: Variant::DA7280,
+        settings: Settings::Absent,
     }
 }
 
@@ -232,11 +250,25 @@ fn trigger_at(bytes: &[u8], i: usize) -> Trigger
     requires { ⌜ i < 128 ⌝ }
     ensures { λ r. ⌜ r ≡ triggerAt (now (bytes .entry)) i ⌝ }
 {
-    if 0 < byte_at(bytes, i) {
-        let polarity = TriggerPolarity::from_code(byte_at(bytes, i + 2));
-        let mode = TriggerMode::from_code(byte_at(bytes, i + 3));
+    if i + 3 < bytes.len() {
+        return trigger(bytes[i], bytes[i + 1], bytes[i + 2], bytes[i + 3]);
+    }
+    trigger(
+        byte_at(bytes, i),
+        byte_at(bytes, i + 1),
+        byte_at(bytes, i + 2),
+        byte_at(bytes, i + 3),
+    )
+}
+
+fn trigger(given: u8, sequence_id: u8, polarity: u8, mode: u8) -> Trigger
+    ensures { λ r. ⌜ r ≡ triggerAt (given ∷ «sequence_id» ∷ polarity ∷ mode ∷ []) 0 ⌝ }
+{
+    if 0 < given {
+        let polarity = TriggerPolarity::from_code(polarity);
+        let mode = TriggerMode::from_code(mode);
         let t = TriggerConfig {
-            sequence_id: byte_at(bytes, i + 1),
+            sequence_id: sequence_id,
             polarity: polarity,
             mode: mode,
         };
@@ -249,7 +281,17 @@ fn two_at(bytes: &[u8], i: usize) -> u16
     requires { ⌜ i < 256 ⌝ }
     ensures { λ r. ⌜ r ≡ twoAt (now (bytes .entry)) i ⌝ }
 {
-    byte_at(bytes, i) as u16 + 256 * (byte_at(bytes, i + 1) as u16)
+    if i + 1 < bytes.len() {
+        return word(bytes[i], bytes[i + 1]);
+    }
+    word(byte_at(bytes, i), byte_at(bytes, i + 1))
+}
+
+// The least byte first.
+fn word(low: u8, high: u8) -> u16
+    ensures { λ r. ⌜ r ≡ low + 256 * high ⌝ }
+{
+    low as u16 + 256 * (high as u16)
 }
 
 // A byte past the end counts as 0.

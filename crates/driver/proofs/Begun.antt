@@ -2,29 +2,26 @@
 use Prim.Native.Nat.{ℕ, suc, zero, _^_, _≤_, _<_, min}
 use native.Mathlib.Omega.{arith}
 use mathlib.Core.Path.{_≡_, refl, sym, _∙_, ap, subst}
-use mathlib.Core.Bool.{Bool, true, false, cond, not, _&&_, and-true, and-false}
-use mathlib.Core.List.{List, [], _∷_, _++_, append-nil}
-use lib.Dec.{ltb, eqb, eqb·zero-suc, eqb·suc-suc}
+use mathlib.Core.Bool.{Bool, true, false, cond, not, _&&_, true≢false}
+use mathlib.Core.List.{List, [], _∷_, _++_, append-nil, reverse, reverseAux-eq}
+use lib.Dec.{eqb, eqb·zero-suc, eqb·suc-suc}
 use lib.ListN.{length, take, drop, getD, length-replicate}
+use lib.Seq.{take-all}
 use borrow.Author.Tests.{eqb-true}
-use Rattle.config.specs.declared.ActuatorConfig.{ActuatorConfig}
-use Rattle.config.specs.declared.DeviceConfig.{DeviceConfig}
-use Rattle.checks.specs.Checks.{configureNumber}
 use Rattle.exchange.specs.declared.Step.{Step}
 use Rattle.exchange.specs.declared.Step.the-variants.{Store}
-use Rattle.exchange.specs.State.{at, isSession, addressIn, brokenIn, countIn, imageIn, recordIn, bytesRead, each, left, noneLeft, completed, Begun, begun, begunIn}
-use Rattle.exchange.specs.Session.{Call, final, sent, came, brokenOff, exchangesOf}
+use Rattle.exchange.specs.declared.Exchange.{Exchange}
+use Rattle.exchange.specs.State.{at, isSession, isOpen, addressIn, countIn, readCount, purposeIn, imageIn, recordIn, indexed, left, noneLeft, completed, Begun, begunIn}
+use Rattle.exchange.specs.Session.{AnswerCall, final, sent, came, brokenOff, exchangesOf}
+use Rattle.exchange.proofs.Latest.{bytesRead, bytesWanted}
+use Rattle.exchange.proofs.Begins.{begins as begun}
+use Rattle.exchange.proofs.Comes.{comes}
+use Rattle.exchange.proofs.Keeps.{keeps}
 use Rattle.exchange.proofs.Session.{session}
-use Rattle.plans.specs.Configure.{configureSteps}
-use Rattle.plans.proofs.Lengths.{at-most}
-use Rattle.da728x.specs.declared.DA728x.{DA728x}
-use Rattle.da728x.specs.declared.Settings.{Settings}
-use Rattle.da728x.specs.declared.Settings.the-variants.{Absent, Given}
-use Rattle.da728x.specs.Record.{recordBytes, noRecord, byte, recordAt, settingsBytes}
-use Rattle.da728x.proofs.Kept.{record-kept, record-length}
-use Rattle.driver.specs.declared.Handed.the-variants as handed
-use Rattle.driver.specs.Operations as operation
-use Rattle.driver.specs.Operations.{begins, startedIn, unless, noImage, blank, handing, configured, handedBy}
+use Rattle.sessions.specs.Sessions.{noImage, blankRecord}
+use Rattle.outcome.specs.Outcome.{bigEndian, valueIn, outcomeOf}
+use Rattle.driver.specs.Operations.{Start, declines, begins}
+use Rattle.driver.specs.Theorems.{allSteps, Answered}
 
 -- ---- what stands in place of an image, and of a record
 
@@ -32,11 +29,15 @@ pub no-image : length noImage ≡ 100
 unfolding noImage
 no-image = length-replicate {A = ℕ} 100 0
 
-pub no-record : length noRecord ≡ 37
-unfolding noRecord
+pub no-record : length blankRecord ≡ 37
+unfolding blankRecord
 no-record = length-replicate {A = ℕ} 37 0
 
 -- ---- what a session holds
+
+-- what a session can be begun with
+abbrev pub Fits : Begun → List Step → Type 0
+Fits b xs = (length xs ≤ 25) × (b .room < 2 ^ 64) × (length (b .image) ≡ 100) × (length (b .«record») ≡ 37)
 
 -- these steps and all else that it was begun with, and none made
 pub record Holds (s : List ℕ) (b : Begun) (xs : List Step) : Type 0 where
@@ -44,57 +45,43 @@ pub record Holds (s : List ℕ) (b : Begun) (xs : List Step) : Type 0 where
   pub address : addressIn s ≡ b .address
   pub last : at s 3 ≡ 0
   pub image : imageIn s ≡ b .image
-  pub handed : recordIn s ≡ b .handed
+  pub «record» : recordIn s ≡ b .«record»
+  pub purpose : purposeIn s ≡ b .purpose
+  pub reads : readCount s ≡ min (b .reads) 100
   pub count : countIn s ≡ 0
   pub session : isSession s ≡ true
-  pub unbroken : brokenIn s ≡ false
+  pub opened : isOpen s ≡ true
+  pub bytes : bytesRead s ≡ 0 ∷ 0 ∷ 0 ∷ []
+
+-- an open session has its size
+open-session : (s : List ℕ) → isOpen s ≡ true → isSession s ≡ true
+open-session s o = go (isSession s) (eqb (at s 1) 1) o
+  where
+    go : (a b : Bool) → a && b ≡ true → a ≡ true
+    go true b e = refl
+    go false b e = absurd (true≢false (sym e))
 
 -- the byte read last, of three
 last-read : (s : List ℕ) → isSession s ≡ true → bytesRead s ≡ 0 ∷ 0 ∷ 0 ∷ [] → at s 3 ≡ 0
 last-read s e h = ap (λ (l : List ℕ). getD l 0 0) (rw e at h)
 
--- a session that was begun does, with the memory reads behind the steps
-pub holds : (st : List ℕ) (b : Begun) (xs : List Step) → isSession st ≡ true → length xs ≤ 25 → b .room < 2 ^ 64 →
-    length (b .image) ≡ 100 → length (b .handed) ≡ 37 → Holds (begunIn st b xs) b (xs ++ each Store 0 (min (b .reads) 100))
-holds st b xs s few room image handed =
-    let k = session .begins st b xs s few room image handed in
+pub holds : (st : List ℕ) (b : Begun) (xs : List Step) → isSession st ≡ true → Fits b xs → Holds (begunIn st b xs) b (allSteps b xs)
+holds st b xs s f =
+    let k = begun st b xs s (f .0) (f .1) (f .2) (f .3) in
+    let o = open-session (begunIn st b xs) (k .8) in
     record {
       steps = k .0;
       address = k .1;
-      last = last-read (begunIn st b xs) (k .6) (k .8);
+      last = last-read (begunIn st b xs) o (k .9);
       image = k .4;
-      handed = k .5;
+      «record» = k .5;
+      purpose = k .6;
+      reads = k .7;
       count = k .2;
-      session = k .6;
-      unbroken = k .7;
+      session = o;
+      opened = k .8;
+      bytes = k .9;
     }
-
--- one without memory reads holds its steps alone
-pub holds-steps : (st : List ℕ) (address : ℕ) (image next : List ℕ) (xs : List Step) → isSession st ≡ true → length xs ≤ 25 →
-    length image ≡ 100 → length next ≡ 37 → Holds (begunIn st (begun address 0 0 image next) xs) (begun address 0 0 image next) xs
-holds-steps st address image next xs s few i n =
-    let b = begun address 0 0 image next in
-    subst (Holds (begunIn st b xs) b) (append-nil xs) (holds st b xs s few (omega arith) i n)
-
--- so does one that only runs them, and one that has a record to hand back
-pub holds-runs : (st : List ℕ) (address : ℕ) (xs : List Step) → isSession st ≡ true → length xs ≤ 25 → Holds (begunIn st (blank address) xs) (blank address) xs
-holds-runs st address xs s few = holds-steps st address noImage noRecord xs s few no-image no-record
-
-pub holds-makes : (st : List ℕ) (next : DA728x) (xs : List Step) → isSession st ≡ true → length xs ≤ 25 → Holds (begunIn st (handing next) xs) (handing next) xs
-holds-makes st next xs s few = holds-steps st (next .address) noImage (recordBytes next) xs s few no-image (record-length next)
-
--- it is the same after checks of which none failed
-pub holds-unless : (n : ℕ) (st : List ℕ) (b : Begun) (xs ys : List Step) → n ≡ 0 → Holds (begunIn st b xs) b ys →
-    Holds (startedIn st (unless n (begins b xs))) b ys
-holds-unless n st b xs ys e h = subst (λ (k : ℕ). Holds (startedIn st (unless k (begins b xs))) b ys) (sym e) h
-
--- so what an accepted `configure` begins
-pub holds-configure : (r : DA728x) (a : ActuatorConfig) (d : DeviceConfig) (st : List ℕ) →
-    configureNumber (r .variant) a d ≡ 0 → isSession st ≡ true →
-    Holds (startedIn st (operation.configure r a d)) (handing (configured r a d)) (configureSteps a d)
-holds-configure r a d st none e =
-    holds-unless (configureNumber (r .variant) a d) st (handing (configured r a d)) (configureSteps a d) (configureSteps a d) none
-    (holds-makes st (configured r a d) (configureSteps a d) e (at-most a d))
 
 -- ---- what follows
 
@@ -105,32 +92,29 @@ none-past [] (suc k) h = absurd (omega arith)
 none-past (x ∷ xs) zero h = sym (eqb·zero-suc (length xs))
 none-past (x ∷ xs) (suc k) h = none-past xs k (omega arith) ∙ sym (eqb·suc-suc k (length xs))
 
--- bytes that are a record say so
-tagged : (r : DA728x) → ltb 0 (byte (recordBytes r) 2) ≡ true
-unfolding recordBytes
-tagged r = go (r .settings) where
-  go : (s : Settings) → ltb 0 (byte (settingsBytes s) 0) ≡ true
-  go Absent = refl
-  go (Given a d) = refl
+-- as many exchanges as steps
+length-exchanges : (xs : List Step) (address last : ℕ) (image bytes : List ℕ) → length (exchangesOf address last image xs bytes) ≡ length xs
+length-exchanges [] address last image bytes = refl
+length-exchanges (x ∷ xs) address last image bytes = ap suc (length-exchanges xs address _ image _)
 
--- bytes that stand in place of one do not
-untagged : (b : Bool) → b && ltb 0 (byte noRecord 2) ≡ false
-unfolding noRecord
-untagged b = and-false b
+and-both : (a b : Bool) → a && b ≡ true → (a ≡ true) × (b ≡ true)
+and-both true b e = (refl, e)
+and-both false b e = absurd (true≢false (sym e))
 
--- what is handed back, where these bytes were to be
-handed-from : (s next : List ℕ) (cs : List Call) → isSession s ≡ true → recordIn s ≡ next →
-    handedBy (final s cs) ≡ cond (completed (final s cs) && ltb 0 (byte next 2)) (handed.Given (recordAt next)) handed.Absent
-handed-from s next cs e h =
-    ap (λ (l : List ℕ). cond (completed (final s cs) && ltb 0 (byte l 2)) (handed.Given (recordAt l)) handed.Absent) (session .hands s cs e .1 ∙ h)
+not-true : (b : Bool) → not b ≡ true → b ≡ false
+not-true true e = absurd (true≢false (sym e))
+not-true false e = refl
 
--- none where none was to be
-pub hands-none : (s : List ℕ) (cs : List Call) → isSession s ≡ true → recordIn s ≡ noRecord → handedBy (final s cs) ≡ handed.Absent
-hands-none s cs e h =
-    handed-from s noRecord cs e h
-    ∙ ap (λ (b : Bool). cond b (handed.Given (recordAt noRecord)) handed.Absent) (untagged (completed (final s cs)))
+-- what the bytes read last say once these came
+abbrev shown : List ℕ → List ℕ
+shown bytes = take 3 (reverse bytes ++ (0 ∷ 0 ∷ 0 ∷ []))
 
-module _ {s : List ℕ} {b : Begun} {xs : List Step} (h : Holds s b xs) (cs : List Call) where
+abbrev pub valueOf : ℕ → List ℕ → ℕ → ℕ
+valueOf purpose bytes reads =
+    let l = shown bytes in
+    getD (0 ∷ 0 ∷ 0 ∷ getD l 0 0 ∷ bigEndian 0 (getD l 2 0 ∷ getD l 1 0 ∷ getD l 0 0 ∷ []) ∷ reads ∷ []) purpose 0
+
+module _ {s : List ℕ} {b : Begun} {xs : List Step} (h : Holds s b xs) (cs : List AnswerCall) where
   -- the exchanges are those of the steps, in order
   pub in-order : sent s cs ≡ take (length (sent s cs)) (exchangesOf (b .address) 0 (b .image) xs (came s cs))
   in-order =
@@ -148,21 +132,44 @@ module _ {s : List ℕ} {b : Begun} {xs : List Step} (h : Holds s b xs) (cs : Li
   -- completed, exactly where all were made and none failed
   pub completes : completed (final s cs) ≡ not (brokenOff s cs) && eqb (length (sent s cs)) (length xs)
   completes =
-      session .whole s cs (h .session) (h .unbroken)
+      session .whole s cs (h .opened)
       ∙ ap (λ (l : List Step). not (brokenOff s cs) && noneLeft (drop (length (sent s cs)) l)) (h .steps)
       ∙ ap (λ (k : Bool). not (brokenOff s cs) && k) (none-past xs (length (sent s cs)) within)
 
-  -- so all were made where it is completed
+  -- so all were made where it is completed, and as many bytes came as they want
   pub all-made : completed (final s cs) ≡ true → length (sent s cs) ≡ length xs
-  all-made e = go (not (brokenOff s cs)) (sym completes ∙ e) where
-    go : (b : Bool) → b && eqb (length (sent s cs)) (length xs) ≡ true → length (sent s cs) ≡ length xs
-    go true e = eqb-true _ _ e
-    go false e = let z : _≡_ {A = ℕ} 0 1 = cc in absurd (omega arith)
+  all-made e = eqb-true _ _ (and-both (not (brokenOff s cs)) _ (sym completes ∙ e) .1)
 
--- a record that was to be handed back is, exactly there
-pub hands-back : {s : List ℕ} {xs : List Step} (next : DA728x) (cs : List Call) → Holds s (handing next) xs →
-    handedBy (final s cs) ≡ cond (not (brokenOff s cs) && eqb (length (sent s cs)) (length xs)) (handed.Given next) handed.Absent
-hands-back {s} {xs} next cs h =
-    handed-from s (recordBytes next) cs (h .session) (h .handed)
-    ∙ (λ i. cond (completes h cs i && tagged next i) (handed.Given (record-kept next i)) handed.Absent)
-    ∙ ap (λ (b : Bool). cond b (handed.Given next) handed.Absent) (and-true (not (brokenOff s cs) && eqb (length (sent s cs)) (length xs)))
+  pub all-sent : completed (final s cs) ≡ true → sent s cs ≡ exchangesOf (b .address) 0 (b .image) xs (came s cs)
+  all-sent e =
+      let es = exchangesOf (b .address) 0 (b .image) xs (came s cs) in
+      in-order ∙ take-all (length (sent s cs)) es (omega (arith, all-made e, length-exchanges xs (b .address) 0 (b .image) (came s cs)))
+
+  pub all-came : completed (final s cs) ≡ true → length (came s cs) ≡ bytesWanted (exchangesOf (b .address) 0 (b .image) xs (came s cs))
+  all-came e =
+      comes cs s (not-true (brokenOff s cs) (and-both (not (brokenOff s cs)) _ (sym completes ∙ e) .0))
+      ∙ ap bytesWanted (all-sent e)
+
+  -- what the session answers
+  pub value-as : valueIn (final s cs) ≡ valueOf (b .purpose) (came s cs) (min (b .reads) 100)
+  value-as =
+      let k = keeps cs s (h .session) in
+      let l : at (final s cs) 3 ∷ at (final s cs) 4 ∷ at (final s cs) 5 ∷ [] ≡ shown (came s cs) =
+      (rw (k .session) at (k .shows ∙ ap (take 3) (reverseAux-eq (came s cs) (bytesRead s)))) ∙ ap (λ (m : List ℕ). take 3 (reverse (came s cs) ++ m)) (h .bytes) in
+      (λ i. getD (0 ∷ 0 ∷ 0 ∷ getD (l i) 0 0 ∷ bigEndian 0 (getD (l i) 2 0 ∷ getD (l i) 1 0 ∷ getD (l i) 0 0 ∷ []) ∷ (k .reads ∙ h .reads) i ∷ []) ((k .purpose ∙ h .purpose) i) 0)
+
+  -- all of it, where the result is this
+  pub answered : (result : List ℕ → ℕ) →
+      ((bytes : List ℕ) → length bytes ≡ bytesWanted (exchangesOf (b .address) 0 (b .image) xs bytes) → valueOf (b .purpose) bytes (min (b .reads) 100) ≡ result bytes) →
+      Answered s b xs result cs
+  unfolding outcomeOf
+  answered result g = record {
+    order = in-order;
+    completes = completes;
+    whole = all-sent;
+    outcome = λ i. record { made = counted i; completed = completed (final s cs); value = go (completed (final s cs)) refl i };
+  }
+    where
+      go : (k : Bool) → completed (final s cs) ≡ k → cond k (valueIn (final s cs)) 0 ≡ cond k (result (came s cs)) 0
+      go true e = value-as ∙ g (came s cs) (all-came e)
+      go false e = refl

@@ -15,7 +15,8 @@ use Rattle.memory.specs.declared.WaveformMemory.{WaveformMemory}
 use Rattle.exchange.specs.declared.Step.{Step}
 use Rattle.exchange.specs.declared.Step.the-variants.{Write, Read, Update, Match, Chunk, Store}
 use Rattle.exchange.specs.Steps.{chunk}
-use Rattle.driver.specs.Operations.{chunkStep, chunkSteps, lockSteps, sendSteps, uploadSteps}
+use Rattle.sessions.specs.Sessions.{chunkStep, chunkSteps, lockSteps, sendSteps}
+use Rattle.driver.specs.Operations.{uploadSteps}
 use Rattle.driver.specs.Theorems.{payload}
 
 -- ---- how many

@@ -1,5 +1,6 @@
--- What is stored, how many exchanges are made, and which: document 01, 'Exchanges'. All speak of the definitions that the contracts cite.
-use Prim.Native.Nat.{ℕ, suc, _^_, _≤_, _<_, min}
+-- What every operation sends, answers and stores: document 01, 'Exchanges'; for every session's bytes, every list of answers and every record.
+-- All speak of the definitions that the contracts cite.
+use Prim.Native.Nat.{ℕ, _^_, _≤_, _<_, min}
 use mathlib.Core.Path.{_≡_}
 use mathlib.Core.Bool.{Bool, true, false, cond, not, _&&_}
 use mathlib.Core.List.{List, [], _∷_, _++_}
@@ -9,7 +10,6 @@ use lib.ListN.{length, take}
 use Rattle.config.specs.declared.ActuatorConfig.{ActuatorConfig}
 use Rattle.config.specs.declared.DeviceConfig.{DeviceConfig}
 use Rattle.config.specs.declared.Variant.{Variant}
-use Rattle.checks.specs.Checks.{configureNumber}
 use Rattle.memory.specs.declared.WaveformMemory.{WaveformMemory}
 use Rattle.memory.specs.declared.WaveformMemoryTimebase.{WaveformMemoryTimebase}
 use Rattle.laws.specs.Copied.{over}
@@ -17,65 +17,110 @@ use Rattle.exchange.specs.declared.Step.{Step}
 use Rattle.exchange.specs.declared.Step.the-variants.{Write, Read, Update, Match, Chunk, Store}
 use Rattle.exchange.specs.declared.Reply.{Reply}
 use Rattle.exchange.specs.Steps.{chunk}
-use Rattle.exchange.specs.State.{isSession, countIn, completed, each, Begun, begunIn}
-use Rattle.exchange.specs.Session.{Call, final, sent, came, brokenOff, exchangesOf, lending, filled}
-use Rattle.plans.specs.Configure.{configureSteps}
+use Rattle.exchange.specs.State.{isSession, countIn, completed, indexed, left, Begun, begunIn}
+use Rattle.exchange.specs.Turn.{reportOf}
+use Rattle.exchange.specs.Session.{AnswerCall, afterCall, final, sent, came, brokenOff, exchangesOf, lending, filled}
+use Rattle.checks.specs.Checks.{configureNumber}
 use Rattle.da728x.specs.declared.DA728x.{DA728x}
-use Rattle.driver.specs.declared.Handed.the-variants.{Absent, Given}
+use Rattle.outcome.specs.declared.Outcome.{Outcome}
+use Rattle.outcome.specs.Outcome.{isChipOf, outcomeOf}
 use Rattle.driver.specs.Operations as operation
-use Rattle.driver.specs.Operations.{Start, refuses, begins, startedIn, configured, newRecord, noImage, handedBy, recordAfter}
+use Rattle.driver.specs.Operations.{Start, declines, begins, startedIn, Operation, newRecord, revision, configured, recordAfter}
 
--- an operation that hands back no record: a refused one leaves the session as it was; one that begins hands back none under any answers
-abbrev pub HandsNone : Start → Type 0
-HandsNone (refuses number) = (st : List ℕ) → startedIn st (refuses number) ≡ st
-HandsNone (begins b xs) = (st : List ℕ) (cs : List Call) → isSession st ≡ true → handedBy (final (begunIn st b xs) cs) ≡ Absent
+-- ---- all eighteen operations
 
--- settings are stored exactly where the last exchange of `configure` was made without a failure; else the record is as before
-pub record Stored : Type 0 where
-  pub configures : (r : DA728x) (a : ActuatorConfig) (d : DeviceConfig) (st : List ℕ) (cs : List Call) →
+-- the sixteen that leave the record
+pub record Others (P : Operation → Type 0) : Type 0 where
+  pub get-chip-rev : (r : DA728x) → P (operation.getChipRev r)
+  pub get-events : (r : DA728x) → P (operation.getEvents r)
+  pub get-status : (r : DA728x) → P (operation.getStatus r)
+  pub set-frequency : (r : DA728x) (hz : ℕ) → P (operation.setFrequency r hz)
+  pub set-override-value : (r : DA728x) (value : ℤ) → P (operation.setOverrideValue r value)
+  pub set-timebase : (r : DA728x) (timebase : WaveformMemoryTimebase) → P (operation.setTimebase r timebase)
+  pub enable : (r : DA728x) → P (operation.enable r)
+  pub disable : (r : DA728x) → P (operation.disable r)
+  pub set-custom-drive-waveform : (r : DA728x) → P (operation.setCustomDriveWaveform r)
+  pub unlock-waveform-memory : (r : DA728x) → P (operation.unlockWaveformMemory r)
+  pub lock-waveform-memory : (r : DA728x) → P (operation.lockWaveformMemory r)
+  pub upload-waveform-memory : (r : DA728x) (m : WaveformMemory) (lockAfter : Bool) → length (m .«data») ≡ 100 → P (operation.uploadWaveformMemory r m lockAfter)
+  pub read-waveform-memory : (r : DA728x) (len room : ℕ) → room < 2 ^ 64 → P (operation.readWaveformMemory r len room)
+  pub select-sequence : (r : DA728x) (id loops : ℕ) → P (operation.selectSequence r id loops)
+  pub start-sequence : (r : DA728x) → P (operation.startSequence r)
+  pub play-sequence : (r : DA728x) (id loops : ℕ) → P (operation.playSequence r id loops)
+
+pub record Each (P : Operation → Type 0) : Type 0 where
+  pub new : (address : ℕ) (variant : Variant) → P (operation.new address variant)
+  pub configure : (r : DA728x) (a : ActuatorConfig) (d : DeviceConfig) → P (operation.configure r a d)
+  pub others : Others P
+
+-- ---- what is sent and answered
+
+-- of a session begun as `s` with these steps, under a list of answers, where the operation's result is `result` of the bytes that came
+pub record Answered (s : List ℕ) (b : Begun) (xs : List Step) (result : List ℕ → ℕ) (cs : List AnswerCall) : Type 0 where
+  -- demand 2's exchanges: those of the steps, in order from the first, with the bytes read substituted
+  pub order : sent s cs ≡ take (length (sent s cs)) (exchangesOf (b .address) 0 (b .image) xs (came s cs))
+  -- completed exactly where no answer broke it off and as many were made as there are steps; then they are all that is to be sent
+  pub completes : completed (final s cs) ≡ not (brokenOff s cs) && eqb (length (sent s cs)) (length xs)
+  pub whole : completed (final s cs) ≡ true → sent s cs ≡ exchangesOf (b .address) 0 (b .image) xs (came s cs)
+  -- the count, completed or not, and once completed what the operation answers
+  pub outcome : outcomeOf (final s cs)
+      ≡ record { made = length (sent s cs); completed = completed (final s cs); value = cond (completed (final s cs)) (result (came s cs)) 0 }
+
+-- the steps, and behind them a memory read for each index
+abbrev pub allSteps : Begun → List Step → List Step
+allSteps b xs = xs ++ indexed Store 0 (min (b .reads) 100)
+
+abbrev pub AnswersAs : Operation → Type 0
+AnswersAs o = (b : Begun) (xs : List Step) → o .start ≡ begins b xs → (st : List ℕ) → isSession st ≡ true → (cs : List AnswerCall) →
+    Answered (begunIn st b xs) b (allSteps b xs) (o .answers) cs
+
+pub record Answers : Type 0 where
+  pub each : Each AnswersAs
+  -- "refuses only by the listed numbers": a start that is refused before its first exchange tells one of 11 to 15
+  pub listed : Each (λ o. (number : ℕ) → o .start ≡ declines number → (11 ≤ number) × (number ≤ 15))
+  -- "`configure` makes at most 25, at least 14 if none fails"
+  pub counts : (r : DA728x) (a : ActuatorConfig) (d : DeviceConfig) (st : List ℕ) (cs : List AnswerCall) →
       configureNumber (r .variant) a d ≡ 0 → isSession st ≡ true →
-      recordAfter r (final (startedIn st (operation.configure r a d)) cs)
-      ≡ cond
-      (not (brokenOff (startedIn st (operation.configure r a d)) cs) && eqb (length (sent (startedIn st (operation.configure r a d)) cs)) (length (configureSteps a d)))
-      (configured r a d) r
-  -- refused settings store nothing, and write nothing
-  pub refuses : (r : DA728x) (a : ActuatorConfig) (d : DeviceConfig) (st : List ℕ) (n : ℕ) →
-      configureNumber (r .variant) a d ≡ suc n → startedIn st (operation.configure r a d) ≡ st
-  -- `new` makes a record exactly where its one exchange was made without a failure, and CHIP_REV read what it must (`brokenOff` is 16 or 17)
-  pub creates : (address : ℕ) (variant : Variant) (st : List ℕ) (cs : List Call) → isSession st ≡ true →
-      handedBy (final (startedIn st (operation.new address variant)) cs)
-      ≡ cond
-      (not (brokenOff (startedIn st (operation.new address variant)) cs) && eqb (length (sent (startedIn st (operation.new address variant)) cs)) 1)
-      (Given (newRecord address variant)) Absent
-  -- no other operation hands back a record, whatever the bus answers
-  pub get-chip-rev : (r : DA728x) → HandsNone (operation.getChipRev r)
-  pub get-events : (r : DA728x) → HandsNone (operation.getEvents r)
-  pub get-status : (r : DA728x) → HandsNone (operation.getStatus r)
-  pub set-frequency : (r : DA728x) (hz : ℕ) → HandsNone (operation.setFrequency r hz)
-  pub set-override-value : (r : DA728x) (value : ℤ) → HandsNone (operation.setOverrideValue r value)
-  pub set-timebase : (r : DA728x) (timebase : WaveformMemoryTimebase) → HandsNone (operation.setTimebase r timebase)
-  pub enable : (r : DA728x) → HandsNone (operation.enable r)
-  pub disable : (r : DA728x) → HandsNone (operation.disable r)
-  pub set-custom-drive-waveform : (r : DA728x) → HandsNone (operation.setCustomDriveWaveform r)
-  pub unlock-waveform-memory : (r : DA728x) → HandsNone (operation.unlockWaveformMemory r)
-  pub lock-waveform-memory : (r : DA728x) → HandsNone (operation.lockWaveformMemory r)
-  pub upload-waveform-memory : (r : DA728x) (m : WaveformMemory) (lockAfter : Bool) → length (m .«data») ≡ 100 →
-      HandsNone (operation.uploadWaveformMemory r m lockAfter)
-  pub read-waveform-memory : (r : DA728x) (len room : ℕ) → HandsNone (operation.readWaveformMemory r len room)
-  pub select-sequence : (r : DA728x) (id loops : ℕ) → HandsNone (operation.selectSequence r id loops)
-  pub start-sequence : (r : DA728x) → HandsNone (operation.startSequence r)
-  pub play-sequence : (r : DA728x) (id loops : ℕ) → HandsNone (operation.playSequence r id loops)
+      (countIn (final (startedIn st (operation.configure r a d .start)) cs) ≤ 25)
+      × (completed (final (startedIn st (operation.configure r a d .start)) cs) ≡ true → 14 ≤ countIn (final (startedIn st (operation.configure r a d .start)) cs))
 
--- "`configure` makes at most 25, at least 14 if none fails", and the count is the definition's steps
-pub record Counts : Type 0 where
-  pub most : (r : DA728x) (a : ActuatorConfig) (d : DeviceConfig) (st : List ℕ) (cs : List Call) →
-      configureNumber (r .variant) a d ≡ 0 → isSession st ≡ true → countIn (final (startedIn st (operation.configure r a d)) cs) ≤ 25
-  pub least : (r : DA728x) (a : ActuatorConfig) (d : DeviceConfig) (st : List ℕ) (cs : List Call) →
-      configureNumber (r .variant) a d ≡ 0 → isSession st ≡ true → completed (final (startedIn st (operation.configure r a d)) cs) ≡ true →
-      14 ≤ countIn (final (startedIn st (operation.configure r a d)) cs)
-  pub steps : (r : DA728x) (a : ActuatorConfig) (d : DeviceConfig) (st : List ℕ) (cs : List Call) →
-      configureNumber (r .variant) a d ≡ 0 → isSession st ≡ true → completed (final (startedIn st (operation.configure r a d)) cs) ≡ true →
-      countIn (final (startedIn st (operation.configure r a d)) cs) ≡ length (configureSteps a d)
+-- ---- what is stored
+
+-- the record after these answers, where it was lent with each
+abbrev pub recordFinal : List ℕ → List AnswerCall → DA728x → DA728x
+recordFinal st [] r = r
+recordFinal st (c ∷ cs) r = recordFinal (afterCall st c) cs (recordAfter st (c .reply) (length (c .buffer)) r)
+
+-- whether the one byte that came is this
+abbrev pub cameOnly : List ℕ → ℕ → Bool
+cameOnly [] value = false
+cameOnly (b ∷ []) value = eqb b value
+cameOnly (b ∷ c ∷ bytes) value = false
+
+-- for every record lent, every session's bytes (old, foreign, forged) and every list of answers
+pub record Stored : Type 0 where
+  -- an answer that is refused (16, 17, 19) or is not the last leaves the record
+  pub refused : (st : List ℕ) (a : Reply) (n : ℕ) (r : DA728x) → eqb (reportOf st a n .number) 0 ≡ false → recordAfter st a n r ≡ r
+  pub before : (st : List ℕ) (a : Reply) (n : ℕ) (r : DA728x) → reportOf st a n .ended ≡ false → recordAfter st a n r ≡ r
+  -- so do all answers to a session that has ended, that was never begun, or of another length
+  pub ended : (st : List ℕ) (cs : List AnswerCall) (r : DA728x) → left st ≡ [] → recordFinal st cs r ≡ r
+  -- a start that is refused is as if it was not called: the record is only lent to be read, and what the session was begun with before stands
+  pub declined : (s : Start) (number : ℕ) (st : List ℕ) → s ≡ declines number → startedIn st s ≡ st
+  -- `new` makes a record exactly if the one byte that came from CHIP_REV is the variant's
+  pub creates : (address : ℕ) (variant : Variant) (st : List ℕ) (cs : List AnswerCall) (r : DA728x) → isSession st ≡ true →
+      recordFinal (startedIn st (operation.new address variant .start)) cs r
+      ≡ cond (cameOnly (came (startedIn st (operation.new address variant .start)) cs) (revision variant)) (newRecord address variant) r
+  -- `configure` stores its settings exactly if it is completed, in the record that it began with; a record of another chip stays
+  pub configures : (r : DA728x) (a : ActuatorConfig) (d : DeviceConfig) (st : List ℕ) (cs : List AnswerCall) → configureNumber (r .variant) a d ≡ 0 → isSession st ≡ true →
+      recordFinal (startedIn st (operation.configure r a d .start)) cs r
+      ≡ cond (completed (final (startedIn st (operation.configure r a d .start)) cs)) (configured r a d) r
+  pub foreign : (r s : DA728x) (a : ActuatorConfig) (d : DeviceConfig) (st : List ℕ) (cs : List AnswerCall) → configureNumber (r .variant) a d ≡ 0 → isSession st ≡ true →
+      isChipOf r s ≡ false → recordFinal (startedIn st (operation.configure r a d .start)) cs s ≡ s
+  -- no other operation changes it
+  pub others : Others (λ o. (b : Begun) (xs : List Step) → o .start ≡ begins b xs → (st : List ℕ) (cs : List AnswerCall) (r : DA728x) → isSession st ≡ true →
+      recordFinal (begunIn st b xs) cs r ≡ r)
+
+-- ---- what is uploaded and read
 
 -- the bytes of an image that a list of steps sends
 abbrev pub payload : List ℕ → List Step → List ℕ
@@ -87,31 +132,12 @@ payload image (Update register shift width value ∷ xs) = payload image xs
 payload image (Match register value ∷ xs) = payload image xs
 payload image (Store index ∷ xs) = payload image xs
 
--- demand 2's exchanges, for the operations: those of the steps, in order from the first, with the bytes read substituted
 pub record Exchanges : Type 0 where
-  -- whatever is begun: its steps, and behind them a memory read for each index
-  pub begun : (b : Begun) (xs : List Step) (st : List ℕ) (cs : List Call) → isSession st ≡ true → length xs ≤ 25 → b .room < 2 ^ 64 →
-      length (b .image) ≡ 100 → length (b .handed) ≡ 37 →
-      sent (startedIn st (begins b xs)) cs
-      ≡ take (length (sent (startedIn st (begins b xs)) cs))
-      (exchangesOf (b .address) 0 (b .image) (xs ++ each Store 0 (min (b .reads) 100)) (came (startedIn st (begins b xs)) cs))
-  pub runs : (r : DA728x) (xs : List Step) (st : List ℕ) (cs : List Call) → isSession st ≡ true → length xs ≤ 25 →
-      sent (startedIn st (operation.runs r xs)) cs
-      ≡ take (length (sent (startedIn st (operation.runs r xs)) cs)) (exchangesOf (r .address) 0 noImage xs (came (startedIn st (operation.runs r xs)) cs))
-  pub configures : (r : DA728x) (a : ActuatorConfig) (d : DeviceConfig) (st : List ℕ) (cs : List Call) →
-      configureNumber (r .variant) a d ≡ 0 → isSession st ≡ true →
-      sent (startedIn st (operation.configure r a d)) cs
-      ≡ take (length (sent (startedIn st (operation.configure r a d)) cs))
-      (exchangesOf (r .address) 0 noImage (configureSteps a d) (came (startedIn st (operation.configure r a d)) cs))
-  pub uploads : (r : DA728x) (m : WaveformMemory) (lockAfter : Bool) (st : List ℕ) (cs : List Call) → isSession st ≡ true → length (m .«data») ≡ 100 →
-      sent (startedIn st (operation.uploadWaveformMemory r m lockAfter)) cs
-      ≡ take (length (sent (startedIn st (operation.uploadWaveformMemory r m lockAfter)) cs))
-      (exchangesOf (r .address) 0 (m .«data») (operation.uploadSteps m lockAfter) (came (startedIn st (operation.uploadWaveformMemory r m lockAfter)) cs))
   -- "Upload sends what `WaveformMemory::as_bytes` shows"
   pub shown : (m : WaveformMemory) (lockAfter : Bool) → length (m .«data») ≡ 100 →
       payload (m .«data») (operation.uploadSteps m lockAfter) ≡ take (m .len) (m .«data»)
   -- a read fills the front of the buffer with the bytes that came, and changes no other byte
   pub reads : (r : DA728x) (len : ℕ) (buffer : List ℕ) (st : List ℕ) (replies : List Reply) → isSession st ≡ true → length buffer < 2 ^ 64 →
-      filled (startedIn st (operation.readWaveformMemory r len (length buffer))) buffer replies
-      ≡ over buffer 0 (came (startedIn st (operation.readWaveformMemory r len (length buffer)))
-      (lending (startedIn st (operation.readWaveformMemory r len (length buffer))) buffer replies))
+      filled (startedIn st (operation.readWaveformMemory r len (length buffer) .start)) buffer replies
+      ≡ over buffer 0 (came (startedIn st (operation.readWaveformMemory r len (length buffer) .start))
+      (lending (startedIn st (operation.readWaveformMemory r len (length buffer) .start)) buffer replies))

@@ -1,0 +1,237 @@
+-- What every operation sends and answers, and by which numbers it is refused before its first exchange. Assumes nothing.
+use Prim.Native.Nat.{ℕ, suc, zero, _^_, _≤_, _<_, min}
+use native.Mathlib.Omega.{arith}
+use mathlib.Core.Path.{_≡_, refl, sym, _∙_, ap, subst}
+use mathlib.Core.Bool.{Bool, true, false, cond, not, _&&_}
+use mathlib.Core.List.{List, [], _∷_, _++_, append-nil}
+use lib.Dec.{ltb, eqb}
+use lib.IntN.{ℤ}
+use lib.ListN.{length}
+use Rattle.config.specs.declared.ActuatorConfig.{ActuatorConfig}
+use Rattle.config.specs.declared.DeviceConfig.{DeviceConfig}
+use Rattle.config.specs.Codes.{drivingCode}
+use Rattle.config.specs.declared.DrivingMode.the-variants.{«CUSTOM_WAVEFORM»}
+use Rattle.checks.specs.Checks.{Check, check, firstFailing, configureChecks, configureNumber, outsideBand}
+use Rattle.exchange.specs.declared.Step.{Step}
+use Rattle.exchange.specs.declared.Step.the-variants.{Write, Read}
+use Rattle.registers.specs.Addresses.{addressOf}
+use Rattle.exchange.specs.State.{isSession, countIn, completed, Begun, begunIn}
+use Rattle.exchange.specs.Session.{AnswerCall, final, exchangesOf}
+use Rattle.plans.specs.Configure.{configureSteps, frequencySteps}
+use Rattle.plans.proofs.Lengths.{at-least, at-most, frequency}
+use Rattle.da728x.specs.declared.DA728x.{DA728x}
+use Rattle.da728x.specs.declared.Settings.{Settings}
+use Rattle.da728x.specs.declared.Settings.the-variants.{Absent, Given}
+use Rattle.da728x.proofs.Kept.{record-length}
+use Rattle.convert.specs.Convert.{overrideByte}
+use Rattle.memory.specs.Timebase.{timebaseBit}
+use Rattle.registers_control.specs.Table.{top-ctl1, seq-ctl1}
+use Rattle.plans.specs.Fields.{put, updated}
+use Rattle.sessions.specs.Sessions.{noImage, blank, carrying, enabled, selectStep, startSteps, unlockStep}
+use Rattle.outcome.specs.declared.Change.the-variants.{Same, To}
+use Rattle.driver.specs.Operations as operation
+use Rattle.outcome.specs.Outcome.{bigEndian, changeFor, recordBy}
+use Rattle.driver.specs.Operations.{Start, declines, begins, startedIn, unless, withSettings, runs, Operation, negative, isDro, configured}
+use Rattle.driver.specs.Theorems.{Others, Each, AnswersAs, Answers, allSteps}
+use Rattle.driver.proofs.Begun.{Fits, Holds, holds, no-image, no-record, valueOf, answered, counted, within, all-made}
+use Rattle.exchange.proofs.Latest.{bytesWanted}
+use Rattle.driver.proofs.Upload.{few}
+
+-- ---- which numbers
+
+-- none, or one of 11 to 15
+abbrev Small : ℕ → Type 0
+Small zero = Unit
+Small (suc n) = (11 ≤ suc n) × (suc n ≤ 15)
+
+abbrev AllSmall : List Check → Type 0
+AllSmall [] = Unit
+AllSmall (c ∷ cs) = Small (c .number) × AllSmall cs
+
+first-small : (cs : List Check) → AllSmall cs → Small (firstFailing cs)
+first-small [] h = tt
+first-small (c ∷ cs) h = go (c .fails) (first-small cs (h .1))
+  where
+    go : (b : Bool) → Small (firstFailing cs) → Small (cond b (c .number) (firstFailing cs))
+    go true k = h .0
+    go false k = k
+
+s11 : Small 11
+s11 = (omega arith, omega arith)
+
+s12 : Small 12
+s12 = (omega arith, omega arith)
+
+s14 : Small 14
+s14 = (omega arith, omega arith)
+
+configure-small : (r : DA728x) (a : ActuatorConfig) (d : DeviceConfig) → Small (configureNumber (r .variant) a d)
+configure-small r a d =
+    first-small (configureChecks (r .variant) a d)
+    (s12, ((omega arith, omega arith), (s14, (s11, (s11, (s11, (s11, (s11, (s11, (s11, (s11, (s11, (s14, tt)))))))))))))
+
+-- ---- what an operation is begun with
+
+-- one of these numbers, or a beginning of which this holds
+abbrev By : (Begun → List Step → Type 0) → Start → Type 0
+By Q (declines number) = (11 ≤ number) × (number ≤ 15)
+By Q (begins b xs) = Q b xs
+
+by-unless : (Q : Begun → List Step → Type 0) (n : ℕ) (s : Start) → Small n → By Q s → By Q (unless n s)
+by-unless Q zero s h q = q
+by-unless Q (suc n) s h q = h
+
+by-settings : (Q : Begun → List Step → Type 0) (s : Settings) (f : ActuatorConfig → DeviceConfig → Start) →
+    ((a : ActuatorConfig) (d : DeviceConfig) → By Q (f a d)) → By Q (withSettings s f)
+by-settings Q Absent f q = (omega arith, omega arith)
+by-settings Q (Given a d) f q = q a d
+
+-- its session answers as its result says
+abbrev Gives : (List ℕ → ℕ) → Begun → List Step → Type 0
+Gives result b xs = (bytes : List ℕ) → length bytes ≡ bytesWanted (exchangesOf (b .address) 0 (b .image) (allSteps b xs) bytes) →
+    valueOf (b .purpose) bytes (min (b .reads) 100) ≡ result bytes
+
+abbrev Sound : (List ℕ → ℕ) → Begun → List Step → Type 0
+Sound result b xs = Fits b xs × Gives result b xs
+
+abbrev pub SoundOperation : Operation → Type 0
+SoundOperation o = By (Sound (o .answers)) (o .start)
+
+-- and leaves the record
+abbrev Quiet : (List ℕ → ℕ) → Begun → List Step → Type 0
+Quiet result b xs = Fits b xs × Gives result b xs × ((next r : DA728x) → recordBy r (changeFor (b .purpose) next r) ≡ r)
+
+abbrev pub QuietOperation : Operation → Type 0
+QuietOperation o = By (Quiet (o .answers)) (o .start)
+
+quiet-runs : (r : DA728x) (xs : List Step) → length xs ≤ 25 → By (Quiet (λ bytes. 0)) (runs r xs)
+quiet-runs r xs h = ((h, omega arith, no-image, no-record), λ bytes e. refl, λ next s. refl)
+
+-- so its session holds what it was begun with
+pub quiet-holds : (o : Operation) → QuietOperation o → (b : Begun) (xs : List Step) → o .start ≡ begins b xs → (st : List ℕ) → isSession st ≡ true →
+    Holds (begunIn st b xs) b (allSteps b xs) × ((next r : DA728x) → recordBy r (changeFor (b .purpose) next r) ≡ r)
+quiet-holds o q b xs e st s = let g = subst (λ (x : Start). By (Quiet (o .answers)) x) e q in (holds st b xs s (g .0), g .2)
+
+-- ---- the sixteen
+
+one-byte : (r : DA728x) (xs : List Step) → length xs ≤ 25 →
+    ((bytes : List ℕ) → length bytes ≡ bytesWanted (exchangesOf (r .address) 0 noImage (allSteps (blank 3 (r .address)) xs) bytes) → length bytes ≡ 1) →
+    By (Quiet (bigEndian 0)) (begins (blank 3 (r .address)) xs)
+one-byte r xs h w = ((h, omega arith, no-image, no-record), λ bytes e. go bytes (w bytes e), λ next s. refl)
+  where
+    go : (bytes : List ℕ) → length bytes ≡ 1 → valueOf 3 bytes (min 0 100) ≡ bigEndian 0 bytes
+    go [] e = absurd (omega (arith, e))
+    go (b ∷ []) e = omega arith
+    go (b ∷ c ∷ bytes) e = absurd (omega (arith, e))
+
+three-bytes : (bytes : List ℕ) → length bytes ≡ 3 → valueOf 4 bytes (min 0 100) ≡ bigEndian 0 bytes
+three-bytes [] e = absurd (omega (arith, e))
+three-bytes (a ∷ []) e = absurd (omega (arith, e))
+three-bytes (a ∷ b ∷ []) e = absurd (omega (arith, e))
+three-bytes (a ∷ b ∷ c ∷ []) e = refl
+three-bytes (a ∷ b ∷ c ∷ d ∷ bytes) e = absurd (omega (arith, e))
+
+abbrev numbers-checked : ℕ → ℕ → ℕ
+numbers-checked id loops = firstFailing (check (ltb 15 id) 11 ∷ check (ltb 15 loops) 11 ∷ [])
+
+numbers-small : (id loops : ℕ) → Small (numbers-checked id loops)
+numbers-small id loops = first-small (check (ltb 15 id) 11 ∷ check (ltb 15 loops) 11 ∷ []) (s11, (s11, tt))
+
+pub quiet : Others QuietOperation
+quiet = record {
+  get-chip-rev = λ r. one-byte r (Read (addressOf "CHIP_REV") ∷ []) (omega arith) (λ bytes e. e);
+  get-events = λ r. ((omega arith, omega arith, no-image, no-record), λ bytes e. three-bytes bytes e, λ next s. refl);
+  get-status = λ r. one-byte r (Read (addressOf "IRQ_STATUS1") ∷ []) (omega arith) (λ bytes e. e);
+  set-frequency = λ r hz. by-settings _ (r .settings) _ (λ a d.
+      by-unless _ (firstFailing (check (outsideBand (d .«driving_mode») hz) 11 ∷ [])) _
+      (first-small (check (outsideBand (d .«driving_mode») hz) 11 ∷ []) (s11, tt))
+      (quiet-runs r (frequencySteps hz) (omega (arith, frequency hz))));
+  set-override-value = λ r value. by-settings _ (r .settings) _ (λ a d.
+      let cs = check (d .acceleration && negative value) 11 ∷ check (not (isDro (d .«operation_mode»))) 12 ∷ [] in
+      by-unless _ (firstFailing cs) _ (first-small cs (s11, (s12, tt))) (quiet-runs r (Write (addressOf "TOP_CTL2") (overrideByte value) ∷ []) (omega arith)));
+  set-timebase = λ r timebase.
+      quiet-runs r (Read (addressOf "SEQ_CTL1") ∷ updated (addressOf "SEQ_CTL1") seq-ctl1 (put "FREQ_WAVEFORM_TIMEBASE" (timebaseBit timebase)) ∷ []) (omega arith);
+  enable = λ r. by-settings _ (r .settings) _ (λ a d. quiet-runs r (Write (addressOf "TOP_CTL1") (enabled (d .«operation_mode»)) ∷ []) (omega arith));
+  disable = λ r. by-settings _ (r .settings) _ (λ a d.
+      quiet-runs r (Read (addressOf "TOP_CTL1") ∷ updated (addressOf "TOP_CTL1") top-ctl1 (put "OPERATION_MODE" 0) ∷ []) (omega arith));
+  set-custom-drive-waveform = λ r. by-settings _ (r .settings) _ (λ a d. custom (eqb (drivingCode (d .«driving_mode»)) (drivingCode «CUSTOM_WAVEFORM»)));
+  unlock-waveform-memory = λ r. quiet-runs r (unlockStep true ∷ []) (omega arith);
+  lock-waveform-memory = λ r. quiet-runs r (unlockStep false ∷ []) (omega arith);
+  upload-waveform-memory = λ r m lockAfter e. ((few m lockAfter, omega arith, e, no-record), λ bytes h. refl, λ next s. refl);
+  read-waveform-memory = λ r len room h. ((omega arith, h, no-image, no-record), λ bytes e. omega arith, λ next s. refl);
+  select-sequence = λ r id loops. by-unless _ (numbers-checked id loops) _ (numbers-small id loops) (quiet-runs r (selectStep id loops ∷ []) (omega arith));
+  start-sequence = λ r. quiet-runs r startSteps (omega arith);
+  play-sequence = λ r id loops. by-unless _ (numbers-checked id loops) _ (numbers-small id loops) (quiet-runs r (selectStep id loops ∷ startSteps) (omega arith));
+}
+  where
+    custom : (b : Bool) → (11 ≤ cond b 14 12) × (cond b 14 12 ≤ 15)
+    custom true = (omega arith, omega arith)
+    custom false = (omega arith, omega arith)
+
+-- ---- from one claim on all of them to another
+
+pub each-others : {P Q : Operation → Type 0} → ((o : Operation) → P o → Q o) → Others P → Others Q
+each-others f e = record {
+  get-chip-rev = λ r. f _ (e .get-chip-rev r);
+  get-events = λ r. f _ (e .get-events r);
+  get-status = λ r. f _ (e .get-status r);
+  set-frequency = λ r hz. f _ (e .set-frequency r hz);
+  set-override-value = λ r value. f _ (e .set-override-value r value);
+  set-timebase = λ r timebase. f _ (e .set-timebase r timebase);
+  enable = λ r. f _ (e .enable r);
+  disable = λ r. f _ (e .disable r);
+  set-custom-drive-waveform = λ r. f _ (e .set-custom-drive-waveform r);
+  unlock-waveform-memory = λ r. f _ (e .unlock-waveform-memory r);
+  lock-waveform-memory = λ r. f _ (e .lock-waveform-memory r);
+  upload-waveform-memory = λ r m lockAfter h. f _ (e .upload-waveform-memory r m lockAfter h);
+  read-waveform-memory = λ r len room h. f _ (e .read-waveform-memory r len room h);
+  select-sequence = λ r id loops. f _ (e .select-sequence r id loops);
+  start-sequence = λ r. f _ (e .start-sequence r);
+  play-sequence = λ r id loops. f _ (e .play-sequence r id loops);
+}
+
+-- ---- all eighteen
+
+pub fits-new : (address : ℕ) (variant : _) → SoundOperation (operation.new address variant)
+fits-new address variant = ((omega arith, omega arith, no-image, record-length _), λ bytes e. refl)
+
+pub fits-configure : (r : DA728x) (a : ActuatorConfig) (d : DeviceConfig) → Fits (carrying 2 (configured r a d)) (configureSteps a d)
+fits-configure r a d = (at-most a d, omega arith, no-image, record-length (configured r a d))
+
+sound : Each SoundOperation
+sound = record {
+  new = fits-new;
+  configure = λ r a d. by-unless _ (configureNumber (r .variant) a d) _ (configure-small r a d) (fits-configure r a d, λ bytes e. refl);
+  others = each-others (λ o q. go (o .answers) (o .start) q) quiet;
+}
+  where
+    go : (result : List ℕ → ℕ) (s : Start) → By (Quiet result) s → By (Sound result) s
+    go result (declines number) q = q
+    go result (begins b xs) q = (q .0, q .1)
+
+each-sound : {Q : Operation → Type 0} → ((o : Operation) → SoundOperation o → Q o) → Each Q
+each-sound f = record {
+  new = λ address variant. f _ (sound .new address variant);
+  configure = λ r a d. f _ (sound .configure r a d);
+  others = each-others f (sound .others);
+}
+
+-- what an accepted `configure` begins
+pub holds-configure : (r : DA728x) (a : ActuatorConfig) (d : DeviceConfig) (st : List ℕ) → configureNumber (r .variant) a d ≡ 0 → isSession st ≡ true →
+    Holds (startedIn st (operation.configure r a d .start)) (carrying 2 (configured r a d)) (allSteps (carrying 2 (configured r a d)) (configureSteps a d))
+holds-configure r a d st none s =
+    let b = carrying 2 (configured r a d) in
+    subst (λ (k : ℕ). Holds (startedIn st (unless k (begins b (configureSteps a d)))) b (allSteps b (configureSteps a d))) (sym none)
+    (holds st b (configureSteps a d) s (fits-configure r a d))
+
+pub answers : Answers
+answers = record {
+  each = each-sound (λ o f b xs e st s cs.
+      let g = subst (λ (x : Start). By (Sound (o .answers)) x) e f in
+      answered (holds st b xs s (g .0)) cs (o .answers) (g .1));
+  listed = each-sound (λ o f number e. subst (λ (x : Start). By (Sound (o .answers)) x) e f);
+  counts = λ r a d st cs none s.
+      let h = holds-configure r a d st none s in
+      let n = ap length (append-nil (configureSteps a d)) in
+      (omega (arith, counted h cs, within h cs, at-most a d, n), λ done. omega (arith, counted h cs, all-made h cs done, at-least a d, n));
+}

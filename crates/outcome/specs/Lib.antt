@@ -1,0 +1,2 @@
+-- The definitions that the contracts of `outcome` cite.
+pub mod Outcome
