@@ -75,10 +75,10 @@ uint8_t da728x_point_amplitude(uint8_t byte);
  * is the function to use; the other functions of this section show parts of the same work.
  *
  * A list is made of records of four bytes: a code, two arguments a and b, and a byte that is
- * ignored; so is an argument that a call does not have (write 0). Every function runs the calls in order on the same four
- * builders: one snippet, one frame, one sequence and one waveform memory. Each call is accepted
- * (its answer is 0) or refused (its answer is the number of the refusal). The calls after a
- * refused one still run.
+ * ignored; so is an argument that a call does not have (write 0). Every function runs the calls
+ * in order on the same four builders: one snippet, one frame, one sequence and one waveform
+ * memory. Each call is accepted (its answer is 0) or refused (its answer is the number of the
+ * refusal). The calls after a refused one still run.
  *
  * A list begins with an empty snippet, an empty sequence, an empty memory, and no frame.
  * FRAME_NEW or SILENCE begins a frame. An accepted add uses up what it added: after ADD_FRAME
@@ -238,8 +238,7 @@ size_t da728x_replace_trigger(uint8_t byte, uint8_t value, uint8_t *out, size_t 
  * as it likes: polling, by interrupt or in a task; the session keeps no pointer.
  *
  * A session and a record are bytes that the caller keeps and lends. Treat a session as opaque
- * bytes. One of another length than DA728X_SESSION counts as ended; one of zeros, which was
- * never begun, counts as ended with nothing to hand back.
+ * bytes.
  *
  *     uint8_t session[DA728X_SESSION], bytes[33];
  *     uint8_t refused = da728x_enable(record, DA728X_RECORD, session, sizeof session);
@@ -251,21 +250,59 @@ size_t da728x_replace_trigger(uint8_t byte, uint8_t value, uint8_t *out, size_t 
  *             (next >> 16), then read a byte in the same transaction (a repeated start, no
  *             stop in between): kind = DA728X_BYTE, and the byte. If the bus fails:
  *             kind = DA728X_FAILED, and byte = its code ...
- *         told = da728x_answer(session, sizeof session, kind, byte, NULL, 0);
+ *         told = da728x_answer(record, DA728X_RECORD, session, sizeof session, kind, byte,
+ *                              NULL, 0);
  *         if (told & 255) return told & 255;
  *     }
- *     if (!da728x_result(session, sizeof session)) return DA728X_NOT_DONE;
+ *     if (!(da728x_result(session, sizeof session) >> 32)) return DA728X_NOT_DONE;
  *
- * (DA728X_NOT_DONE is the caller's own: it tells a session of a wrong length. After
- * da728x_new or da728x_configure the record is then taken by da728x_record.) Run one session
- * at a time on a chip: some operations write back a byte that they read before.
+ * (DA728X_NOT_DONE is the caller's own, for a session of a wrong length.)
  *
  * The usual order is da728x_new, da728x_configure, da728x_upload_waveform_memory,
  * da728x_enable, da728x_play_sequence, each a session that is run to its end. One that fails
- * is begun anew from the record that is in force.
+ * is begun anew.
  *
- * A record is made by da728x_new and by da728x_configure, and da728x_record then hands
- * it back; every other operation leaves the caller's in force. It is:
+ * The record says what the driver knows of a chip: keep one for each chip, and lend it with the
+ * start of every session of that chip, which only reads it, and with each answer. The answer that
+ * completes da728x_new makes the record; the answer that completes da728x_configure stores the
+ * settings in it. No other call writes to it, so the bytes that you keep are always the record
+ * in force: nothing is fetched from a session afterwards.
+ *
+ * What a wrong use gives:
+ *   a refused start, ignored     the session is as it was before. If it had ended, nothing is
+ *                                pending, every answer is refused with 19, and da728x_result is
+ *                                still that of the operation before: NO sign but the number
+ *                                that the start returned. If it was under way, its own exchanges
+ *                                go on. The refused settings are stored nowhere
+ *   an old session               once it has ended, every answer is refused with 19 and the
+ *                                record stays: it brings back no settings. One that was left
+ *                                half-way, or a copy of its bytes that was kept, goes on where it
+ *                                stopped, also after others: NO refusal
+ *   two sessions at a time on    NO refusal: one may write back a byte that it read before the
+ *   a chip                       other changed it
+ *   one session buffer for two   fine, one session after the other. A start replaces a session
+ *   chips                        that is under way: NO refusal, and the exchanges that were left
+ *                                are not made
+ *   another chip's record, lent  the operation goes to that other chip: NO refusal
+ *   with the start
+ *   another chip's record, lent  NO refusal, and the record stays as it is if its address or its
+ *   with the last answer of      variant is another: the chip is set up, but its record has no
+ *   da728x_configure             new settings. Run da728x_configure again. (Chips on two buses
+ *                                may have the same address and variant: then the settings are
+ *                                stored in the record that is lent)
+ *   another chip's record, lent  NO refusal: these bytes become the record of the new chip
+ *   with the answer of
+ *   da728x_new
+ *   a record of another length   lent with a start: it has no settings, address 0, and is a DA7280.
+ *   than DA728X_RECORD           Lent with an answer: NO refusal, and it is never written
+ *   a session of another length  a start answers as for any session, but begins nothing; nothing is
+ *   than DA728X_SESSION          pending, every answer is refused with 19, the result is 0
+ *   a session of zeros           was never begun: nothing is pending, every answer is refused
+ *                                with 19, the result is 0
+ *   a result not looked at       a session that failed has nothing pending, as one that is
+ *                                completed: bit 32 of da728x_result tells them apart
+ *
+ * A record is:
  *    0      chip address, of 7 bits, handed to the bus as it is (0x4A by the datasheet)
  *    1      variant: 0 DA7280, 1 DA7281, 2 DA7282
  *    2      2 if settings are stored, else 1 (0 counts as 1) and the rest is 0
@@ -292,21 +329,23 @@ size_t da728x_replace_trigger(uint8_t byte, uint8_t value, uint8_t *out, size_t 
  * Missing bytes of settings count as 0 and further ones are ignored. A code past the
  * last counts as the last; a flag is set unless it is 0. DRO plays the override value, PWM an
  * input pin, RTWM a sequence that is started over the bus, ETWM one that a trigger starts. */
-#define DA728X_SESSION 278
+#define DA728X_SESSION 279
 #define DA728X_RECORD 37
 #define DA728X_SETTINGS 34
 
 /* Each of these starts an operation from a record: 0, and the session is begun. Or the
- * number of the refusal; the session is then unchanged, and keeps its record and result if it
- * was begun before. A session of another length stays in either case.
+ * number of the refusal; the session is then unchanged. A session of another length stays in
+ * either case.
  *
  * Reads CHIP_REV, which has to be that of the variant (0xBA, 0xCA, 0xDA; da728x_answer tells
- * 16 otherwise); the record that it makes has no settings. Never refused. */
+ * 16 otherwise). The answer makes the record, whatever its bytes were: it has this address and
+ * variant and no settings. Never refused. */
 uint8_t da728x_new(uint8_t address, uint8_t variant,
                    uint8_t *session, size_t session_len);
 
-/* Sets the chip up, in 14 to 25 exchanges; the record that it makes has the settings stored.
- * If one of them fails, the chip has a part of the settings and no record is made.
+/* Sets the chip up, in 14 to 25 exchanges; the last answer stores the settings in the record
+ * that is lent with it, if that is of the same address and variant as the one lent here. If an
+ * exchange fails, the chip has a part of the settings and the record stays as it was.
  * Refused with the first that holds: 12 for acceleration or rapid stop when not tracking;
  * 13 for no trigger in ETWM mode, 14 for more than one on the DA7281; 11 for a value
  * outside the ranges above (of a trigger's sequence number in ETWM mode only); 14 for
@@ -405,26 +444,27 @@ uint32_t da728x_pending(const uint8_t *session, size_t session_len,
  *   19  the answer does not fit, the session has ended, or it reads memory and buffer_len is
  *       not what was said at its start: nothing changes, and the exchange is still pending;
  *   17  the bus failed, and 16  the chip is of another variant (in da728x_new only): the
- *       session has ended, what was sent stands, and the record that it was started from is
- *       in force (da728x_new has none);
+ *       session has ended, what was sent stands, and the record stays as it was;
  *    0  the exchange was made. A byte of memory is stored at its own index of buffer; no
  *       other byte of buffer changes, and none in any other case.
+ * If it was the last exchange of da728x_new, the record is made; if it was the last of
+ * da728x_configure, the settings are stored in the record, where it is of the chip that the
+ * session was started for (a variant code above 2 is then written as 2). In every other case,
+ * and if record_len is not DA728X_RECORD, no byte of record changes.
  * Where no memory is read buffer may be of any length. */
-uint32_t da728x_answer(uint8_t *session, size_t session_len, uint8_t kind, uint8_t byte,
-                       uint8_t *buffer, size_t buffer_len);
+uint32_t da728x_answer(uint8_t *record, size_t record_len, uint8_t *session, size_t session_len,
+                       uint8_t kind, uint8_t byte, uint8_t *buffer, size_t buffer_len);
 
-/* 1, and the record to go on with is written, if the session is one of da728x_new or
- * da728x_configure, every exchange of it was made without 16 or 17, and record_len is
- * DA728X_RECORD. Else 0, and record stays: after any other operation too. */
-uint8_t da728x_record(const uint8_t *session, size_t session_len,
-                      uint8_t *record, size_t record_len);
-
-/* 0 unless every exchange of the session was made without 16 or 17; also 0 for a session of
- * another length. Else 2^32, plus the byte read last, plus 256 times the one before, plus
- * 65536 times the one before that (0 where there is none), plus 2^24 times how many bytes of
- * memory the operation reads. So da728x_get_events gives IRQ_EVENT1 in bits 16..23,
- * IRQ_EVENT_WARNING_DIAG in 8..15 and IRQ_EVENT_SEQ_DIAG in 0..7; a session that was never
- * begun gives 2^32. */
+/* The result of the operation that was accepted last in these bytes (a refused start leaves it),
+ * at any time:
+ *   bits 0..23   what it answers, once it is completed: the byte that da728x_get_chip_rev or
+ *                da728x_get_status read; the three of da728x_get_events, IRQ_EVENT1 in bits
+ *                16..23, IRQ_EVENT_WARNING_DIAG in 8..15, IRQ_EVENT_SEQ_DIAG in 0..7; how many
+ *                bytes da728x_read_waveform_memory read. 0 for every other operation, and 0
+ *                before
+ *   bits 24..31  how many exchanges were made, failed ones included, completed or not
+ *   bit 32       1 if it is completed: every exchange was made, without 16 or 17
+ * 0 for a session of zeros or of another length. */
 uint64_t da728x_result(const uint8_t *session, size_t session_len);
 
 #ifdef __cplusplus

@@ -1,3 +1,4 @@
 pub mod Puts
 pub mod Starts
+pub mod Telling
 pub mod Uploads

@@ -9,12 +9,11 @@ use lib.Seq.{take-all}
 use borrow.Author.Tests.{eq-eqb, ne-eqb}
 use Rattle.laws.specs.Copied.{copied}
 use Rattle.exchange.proofs.Laid.{drop-replicate}
-use Rattle.field.specs.Field.{codeOf}
 use Rattle.da728x.specs.declared.DA728x.{DA728x}
 use Rattle.da728x.specs.Record.{recordBytes}
 use Rattle.da728x.proofs.Kept.{record-length}
-use Rattle.driver.specs.declared.Handed.the-variants.{Given}
-use Rattle.capi_driver.specs.Words.{handedFlag, recordOut}
+use Rattle.outcome.specs.declared.Change.the-variants.{To}
+use Rattle.capi_driver.specs.Words.{recordOut}
 
 -- bytes as long as the buffer are all of it
 all-copied : (l bytes : List ℕ) → length bytes ≡ length l → copied l bytes ≡ bytes
@@ -23,16 +22,13 @@ all-copied l bytes e =
     ∙ ap (λ (x : List ℕ). bytes ++ x) (drop-of-length-le l {i = length bytes} (omega (arith, e)))
     ∙ append-nil bytes
 
-pub put-written : (l now : List ℕ) (r : DA728x) {bytes : List ℕ} → length l ≡ 37 → now ≡ copied l bytes → bytes ≡ recordBytes r →
-    (1 ≡ handedFlag (length l) (Given r)) × (now ≡ recordOut l (Given r))
-put-written l now r {bytes} e h k =
-    let f : length bytes ≡ length l = ap length k ∙ record-length r ∙ sym e in (
-      ap codeOf (sym (eq-eqb (length l) 37 e)),
-      h ∙ all-copied l bytes f ∙ k ∙ ap (λ (b : Bool). cond b (recordBytes r) l) (sym (eq-eqb (length l) 37 e)),
-    )
+pub written : (l now : List ℕ) (r : DA728x) {bytes : List ℕ} → length l ≡ 37 → now ≡ copied l bytes → bytes ≡ recordBytes r → now ≡ recordOut l (To r)
+written l now r {bytes} e h k =
+    let f : length bytes ≡ length l = ap length k ∙ record-length r ∙ sym e in
+    h ∙ all-copied l bytes f ∙ k ∙ ap (λ (b : Bool). cond b (recordBytes r) l) (sym (eq-eqb (length l) 37 e))
 
-pub put-refused : (l : List ℕ) (r : DA728x) → (length l ≡ 37 → ⊥) → (0 ≡ handedFlag (length l) (Given r)) × (l ≡ recordOut l (Given r))
-put-refused l r h = (ap codeOf (sym (ne-eqb (length l) 37 h)), ap (λ (b : Bool). cond b (recordBytes r) l) (sym (ne-eqb (length l) 37 h)))
+pub unwritten : (l : List ℕ) (r : DA728x) → (length l ≡ 37 → ⊥) → l ≡ recordOut l (To r)
+unwritten l r h = ap (λ (b : Bool). cond b (recordBytes r) l) (sym (ne-eqb (length l) 37 h))
 
 -- an image shorter than the memory, over zeros
 pub loaded-image : (image : List ℕ) → length image ≤ 100 → copied (replicate 100 0) image ≡ image ++ replicate (100 - length image) 0

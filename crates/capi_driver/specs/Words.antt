@@ -3,7 +3,7 @@
 use Prim.Native.Nat.{ℕ, _+_, _-_, _*_}
 use mathlib.Core.Bool.{Bool, cond}
 use mathlib.Core.List.{List, [], _∷_, _++_}
-use lib.Dec.{ltb, eqb}
+use lib.Dec.{eqb}
 use lib.ListN.{length, getD, replicate}
 use Rattle.field.specs.Field.{codeOf}
 use Rattle.memory.specs.Memory.{loaded}
@@ -12,12 +12,11 @@ use Rattle.da728x.specs.Record.{recordBytes}
 use Rattle.exchange.specs.declared.Exchange.{Exchange}
 use Rattle.exchange.specs.declared.Reply.{Reply}
 use Rattle.exchange.specs.declared.Reply.the-variants.{Done, Byte, Failed}
-use Rattle.exchange.specs.Turn.{Told}
-use Rattle.driver.specs.declared.Handed.{Handed}
-use Rattle.driver.specs.declared.Handed.the-variants as handed
-use Rattle.driver.specs.declared.Outcome.{Outcome}
-use Rattle.driver.specs.declared.Outcome.the-variants.{Unfinished, Finished}
-use Rattle.driver.specs.Operations.{Start, refuses, uploadWaveformMemory}
+use Rattle.exchange.specs.Turn.{Report}
+use Rattle.outcome.specs.declared.Change.{Change}
+use Rattle.outcome.specs.declared.Change.the-variants.{Same, To}
+use Rattle.outcome.specs.declared.Outcome.{Outcome}
+use Rattle.driver.specs.Operations.{Start, unless, uploadWaveformMemory}
 
 -- the exchange to be made: how many bytes are sent, the chip's address, how many are wanted
 abbrev pub exchangeWord : Exchange → ℕ
@@ -28,26 +27,20 @@ abbrev pub replyOf : ℕ → ℕ → Reply
 replyOf kind byte = getD (Done ∷ Byte byte ∷ []) kind (Failed byte)
 
 -- the number of the refusal, the bus's own code, the count, and whether the session has ended
-unfoldable pub toldWord : Told → ℕ
-toldWord t = t .number + 256 * t .code + 65536 * t .made + 16777216 * codeOf (t .ended)
+unfoldable pub reportWord : Report → ℕ
+reportWord t = t .number + 256 * t .code + 65536 * t .made + 16777216 * codeOf (t .ended)
 
--- 1 where a record was written
-abbrev pub handedFlag : ℕ → Handed → ℕ
-handedFlag n handed.Absent = 0
-handedFlag n (handed.Given r) = codeOf (eqb n 37)
+-- the caller's record afterwards: bytes of another length stay as they are
+abbrev pub recordOut : List ℕ → Change → List ℕ
+recordOut l Same = l
+recordOut l (To r) = cond (eqb (length l) 37) (recordBytes r) l
 
--- the caller's record afterwards: bytes of another number stay as they are
-abbrev pub recordOut : List ℕ → Handed → List ℕ
-recordOut l handed.Absent = l
-recordOut l (handed.Given r) = cond (eqb (length l) 37) (recordBytes r) l
+-- what the operation answers, the count, and whether every exchange was made
+unfoldable pub resultWord : Outcome → ℕ
+resultWord o = o .value + 16777216 * o .made + 4294967296 * codeOf (o .completed)
 
--- the byte read last, the one before, the one before that, how many bytes of memory; 0 where not every exchange was made
-abbrev pub resultWord : Outcome → ℕ
-resultWord Unfinished = 0
-resultWord (Finished first second last reads) = last + 256 * second + 65536 * first + 16777216 * reads + 4294967296
-
--- an upload of bytes: 8 for more than a hundred
+-- an upload of bytes: refused as `from_bytes` refuses them, with 8 for more than a hundred
 unfoldable pub uploadOf : DA728x → List ℕ → Bool → Start
 uploadOf r image lockAfter =
-    cond (ltb 100 (length image)) (refuses 8)
-    (uploadWaveformMemory r (loaded (image ++ replicate (100 - length image) 0) (length image) 0 0 .builder) lockAfter)
+    unless (loaded (image ++ replicate (100 - length image) 0) (length image) 0 0 .number)
+    (uploadWaveformMemory r (loaded (image ++ replicate (100 - length image) 0) (length image) 0 0 .builder) lockAfter .start)

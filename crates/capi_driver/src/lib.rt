@@ -1,8 +1,9 @@
 // The functions exported for C that drive the chip (lib.rs; document 01, 'Exchanges' and 'Rust forms without a counterpart'), on numbers
 // and byte slices; include/da728x.h declares and explains each. The caller lends the session's bytes and the record's; `da728x_pending`
-// and `da728x_answer` run the session, `da728x_record` hands back the record. Every one is total: any bytes, any lengths.
+// and `da728x_answer` run the session, and the answer that completes it changes the record. Every one is total: any bytes, any lengths.
 // Proved: the answer and every lent byte are those of the definitions of `driver` and `exchange` for the record that the bytes hold; how
-// an answer is one number is specs/Words.antt. Left out: nothing; `set_custom_drive_waveform` is always refused, as document 01 says.
+// an answer is one number is specs/Words.antt, and proofs/Telling.antt: each word gives back its parts.
+// Left out: nothing; `set_custom_drive_waveform` is always refused, as document 01 says.
 ghost use mathlib.Core.Path.{_≡_};
 ghost use lib.Dec.{ltb};
 ghost use lib.ListN.{length, take};
@@ -11,25 +12,27 @@ ghost use Rattle.field.specs.Field.{codeOf};
 ghost use Rattle.config.specs.Codes.{variantAt};
 ghost use Rattle.memory.specs.Timebase.{memoryTimebaseAt};
 ghost use Rattle.da728x.specs.Record.{recordAt, actuatorConfigAt, deviceConfigAt};
-ghost use Rattle.exchange.specs.Turn.{pendingOf, toldOf, turnTold, stateAfter, bufferAfter};
+ghost use Rattle.exchange.specs.Turn.{pendingOf, reportOf, turnReport, stateAfter, bufferAfter};
+ghost use Rattle.outcome.specs.declared.Change.the-variants.{To};
+ghost use Rattle.outcome.specs.Outcome.{changeBy, outcomeOf};
 ghost use Rattle.driver.specs.Operations as spec;
-ghost use Rattle.driver.specs.declared.Handed.the-variants.{Given};
-ghost use Rattle.driver.specs.declared.Outcome.the-variants.{Finished};
-ghost use Rattle.capi_driver.specs.Words.{exchangeWord, replyOf, toldWord, handedFlag, recordOut, resultWord, uploadOf};
+ghost use Rattle.capi_driver.specs.Words.{exchangeWord, replyOf, reportWord, recordOut, resultWord, uploadOf};
 use config::Variant;
 use da728x::DA728x;
-use driver::Handed;
-use driver::Outcome;
+use errors::Answer;
+use errors::Error;
 use exchange::Exchange;
 use exchange::Reply;
 use exchange::Turn;
 use memory::WaveformMemory;
 use memory::WaveformMemoryTimebase;
+use outcome::Change;
+use outcome::Outcome;
 
 #[no_mangle]
 pub extern "C" fn da728x_new(address: u8, variant: u8, session: &mut [u8]) -> u8
-    ensures { λ r. ⌜ r ≡ spec.startNumber (spec.new address (variantAt variant)) ⌝ }
-    ensures { λ _. ⌜ now (session .exit) ≡ spec.startedIn (now (session .entry)) (spec.new address (variantAt variant)) ⌝ }
+    ensures { λ r. ⌜ r ≡ spec.startNumber (spec.new address (variantAt variant) .start) ⌝ }
+    ensures { λ _. ⌜ now (session .exit) ≡ spec.startedIn (now (session .entry)) (spec.new address (variantAt variant) .start) ⌝ }
 {
     driver::new(address, Variant::from_code(variant), session).number()
 }
@@ -38,60 +41,60 @@ pub extern "C" fn da728x_new(address: u8, variant: u8, session: &mut [u8]) -> u8
 pub extern "C" fn da728x_configure(record: &[u8], settings: &[u8], session: &mut [u8]) -> u8
     ensures { λ r. ⌜ r
         ≡ spec.startNumber (spec.configure (recordAt (now («record» .entry))) (actuatorConfigAt (now (settings .entry)) 0)
-        (deviceConfigAt (now (settings .entry)) 18)) ⌝ }
+        (deviceConfigAt (now (settings .entry)) 18) .start) ⌝ }
     ensures { λ _. ⌜ now (session .exit)
         ≡ spec.startedIn (now (session .entry)) (spec.configure (recordAt (now («record» .entry))) (actuatorConfigAt (now (settings .entry)) 0)
-        (deviceConfigAt (now (settings .entry)) 18)) ⌝ }
+        (deviceConfigAt (now (settings .entry)) 18) .start) ⌝ }
 {
     let a = da728x::actuator_config(settings);
     let d = da728x::device_config(settings);
-    driver::configure(DA728x::from_bytes(record), a, d, session).number()
+    driver::configure(da728x::chip(record), a, d, session).number()
 }
 
 #[no_mangle]
 pub extern "C" fn da728x_get_chip_rev(record: &[u8], session: &mut [u8]) -> u8
-    ensures { λ r. ⌜ r ≡ spec.startNumber (spec.getChipRev (recordAt (now («record» .entry)))) ⌝ }
-    ensures { λ _. ⌜ now (session .exit) ≡ spec.startedIn (now (session .entry)) (spec.getChipRev (recordAt (now («record» .entry)))) ⌝ }
+    ensures { λ r. ⌜ r ≡ spec.startNumber (spec.getChipRev (recordAt (now («record» .entry))) .start) ⌝ }
+    ensures { λ _. ⌜ now (session .exit) ≡ spec.startedIn (now (session .entry)) (spec.getChipRev (recordAt (now («record» .entry))) .start) ⌝ }
 {
     driver::get_chip_rev(DA728x::from_bytes(record), session).number()
 }
 
 #[no_mangle]
 pub extern "C" fn da728x_get_events(record: &[u8], session: &mut [u8]) -> u8
-    ensures { λ r. ⌜ r ≡ spec.startNumber (spec.getEvents (recordAt (now («record» .entry)))) ⌝ }
-    ensures { λ _. ⌜ now (session .exit) ≡ spec.startedIn (now (session .entry)) (spec.getEvents (recordAt (now («record» .entry)))) ⌝ }
+    ensures { λ r. ⌜ r ≡ spec.startNumber (spec.getEvents (recordAt (now («record» .entry))) .start) ⌝ }
+    ensures { λ _. ⌜ now (session .exit) ≡ spec.startedIn (now (session .entry)) (spec.getEvents (recordAt (now («record» .entry))) .start) ⌝ }
 {
     driver::get_events(DA728x::from_bytes(record), session).number()
 }
 
 #[no_mangle]
 pub extern "C" fn da728x_get_status(record: &[u8], session: &mut [u8]) -> u8
-    ensures { λ r. ⌜ r ≡ spec.startNumber (spec.getStatus (recordAt (now («record» .entry)))) ⌝ }
-    ensures { λ _. ⌜ now (session .exit) ≡ spec.startedIn (now (session .entry)) (spec.getStatus (recordAt (now («record» .entry)))) ⌝ }
+    ensures { λ r. ⌜ r ≡ spec.startNumber (spec.getStatus (recordAt (now («record» .entry))) .start) ⌝ }
+    ensures { λ _. ⌜ now (session .exit) ≡ spec.startedIn (now (session .entry)) (spec.getStatus (recordAt (now («record» .entry))) .start) ⌝ }
 {
     driver::get_status(DA728x::from_bytes(record), session).number()
 }
 
 #[no_mangle]
 pub extern "C" fn da728x_set_frequency(record: &[u8], frequency_hz: u16, session: &mut [u8]) -> u8
-    ensures { λ r. ⌜ r ≡ spec.startNumber (spec.setFrequency (recordAt (now («record» .entry))) «frequency_hz») ⌝ }
-    ensures { λ _. ⌜ now (session .exit) ≡ spec.startedIn (now (session .entry)) (spec.setFrequency (recordAt (now («record» .entry))) «frequency_hz») ⌝ }
+    ensures { λ r. ⌜ r ≡ spec.startNumber (spec.setFrequency (recordAt (now («record» .entry))) «frequency_hz» .start) ⌝ }
+    ensures { λ _. ⌜ now (session .exit) ≡ spec.startedIn (now (session .entry)) (spec.setFrequency (recordAt (now («record» .entry))) «frequency_hz» .start) ⌝ }
 {
     driver::set_frequency(DA728x::from_bytes(record), frequency_hz, session).number()
 }
 
 #[no_mangle]
 pub extern "C" fn da728x_set_override_value(record: &[u8], value: i8, session: &mut [u8]) -> u8
-    ensures { λ r. ⌜ r ≡ spec.startNumber (spec.setOverrideValue (recordAt (now («record» .entry))) value) ⌝ }
-    ensures { λ _. ⌜ now (session .exit) ≡ spec.startedIn (now (session .entry)) (spec.setOverrideValue (recordAt (now («record» .entry))) value) ⌝ }
+    ensures { λ r. ⌜ r ≡ spec.startNumber (spec.setOverrideValue (recordAt (now («record» .entry))) value .start) ⌝ }
+    ensures { λ _. ⌜ now (session .exit) ≡ spec.startedIn (now (session .entry)) (spec.setOverrideValue (recordAt (now («record» .entry))) value .start) ⌝ }
 {
     driver::set_override_value(DA728x::from_bytes(record), value, session).number()
 }
 
 #[no_mangle]
 pub extern "C" fn da728x_set_timebase(record: &[u8], timebase: u8, session: &mut [u8]) -> u8
-    ensures { λ r. ⌜ r ≡ spec.startNumber (spec.setTimebase (recordAt (now («record» .entry))) (memoryTimebaseAt timebase)) ⌝ }
-    ensures { λ _. ⌜ now (session .exit) ≡ spec.startedIn (now (session .entry)) (spec.setTimebase (recordAt (now («record» .entry))) (memoryTimebaseAt timebase)) ⌝ }
+    ensures { λ r. ⌜ r ≡ spec.startNumber (spec.setTimebase (recordAt (now («record» .entry))) (memoryTimebaseAt timebase) .start) ⌝ }
+    ensures { λ _. ⌜ now (session .exit) ≡ spec.startedIn (now (session .entry)) (spec.setTimebase (recordAt (now («record» .entry))) (memoryTimebaseAt timebase) .start) ⌝ }
 {
     driver::set_timebase(
         DA728x::from_bytes(record),
@@ -102,16 +105,16 @@ pub extern "C" fn da728x_set_timebase(record: &[u8], timebase: u8, session: &mut
 
 #[no_mangle]
 pub extern "C" fn da728x_enable(record: &[u8], session: &mut [u8]) -> u8
-    ensures { λ r. ⌜ r ≡ spec.startNumber (spec.enable (recordAt (now («record» .entry)))) ⌝ }
-    ensures { λ _. ⌜ now (session .exit) ≡ spec.startedIn (now (session .entry)) (spec.enable (recordAt (now («record» .entry)))) ⌝ }
+    ensures { λ r. ⌜ r ≡ spec.startNumber (spec.enable (recordAt (now («record» .entry))) .start) ⌝ }
+    ensures { λ _. ⌜ now (session .exit) ≡ spec.startedIn (now (session .entry)) (spec.enable (recordAt (now («record» .entry))) .start) ⌝ }
 {
     driver::enable(DA728x::from_bytes(record), session).number()
 }
 
 #[no_mangle]
 pub extern "C" fn da728x_disable(record: &[u8], session: &mut [u8]) -> u8
-    ensures { λ r. ⌜ r ≡ spec.startNumber (spec.disable (recordAt (now («record» .entry)))) ⌝ }
-    ensures { λ _. ⌜ now (session .exit) ≡ spec.startedIn (now (session .entry)) (spec.disable (recordAt (now («record» .entry)))) ⌝ }
+    ensures { λ r. ⌜ r ≡ spec.startNumber (spec.disable (recordAt (now («record» .entry))) .start) ⌝ }
+    ensures { λ _. ⌜ now (session .exit) ≡ spec.startedIn (now (session .entry)) (spec.disable (recordAt (now («record» .entry))) .start) ⌝ }
 {
     driver::disable(DA728x::from_bytes(record), session).number()
 }
@@ -124,7 +127,7 @@ pub extern "C" fn da728x_set_custom_drive_waveform(
     c: u8,
     session: &mut [u8],
 ) -> u8
-    ensures { λ r. ⌜ r ≡ spec.startNumber (spec.setCustomDriveWaveform (recordAt (now («record» .entry)))) ⌝ }
+    ensures { λ r. ⌜ r ≡ spec.startNumber (spec.setCustomDriveWaveform (recordAt (now («record» .entry))) .start) ⌝ }
     ensures { λ _. ⌜ now (session .exit) ≡ now (session .entry) ⌝ }
 {
     let points = [a, b, c];
@@ -133,16 +136,16 @@ pub extern "C" fn da728x_set_custom_drive_waveform(
 
 #[no_mangle]
 pub extern "C" fn da728x_unlock_waveform_memory(record: &[u8], session: &mut [u8]) -> u8
-    ensures { λ r. ⌜ r ≡ spec.startNumber (spec.unlockWaveformMemory (recordAt (now («record» .entry)))) ⌝ }
-    ensures { λ _. ⌜ now (session .exit) ≡ spec.startedIn (now (session .entry)) (spec.unlockWaveformMemory (recordAt (now («record» .entry)))) ⌝ }
+    ensures { λ r. ⌜ r ≡ spec.startNumber (spec.unlockWaveformMemory (recordAt (now («record» .entry))) .start) ⌝ }
+    ensures { λ _. ⌜ now (session .exit) ≡ spec.startedIn (now (session .entry)) (spec.unlockWaveformMemory (recordAt (now («record» .entry))) .start) ⌝ }
 {
     driver::unlock_waveform_memory(DA728x::from_bytes(record), session).number()
 }
 
 #[no_mangle]
 pub extern "C" fn da728x_lock_waveform_memory(record: &[u8], session: &mut [u8]) -> u8
-    ensures { λ r. ⌜ r ≡ spec.startNumber (spec.lockWaveformMemory (recordAt (now («record» .entry)))) ⌝ }
-    ensures { λ _. ⌜ now (session .exit) ≡ spec.startedIn (now (session .entry)) (spec.lockWaveformMemory (recordAt (now («record» .entry)))) ⌝ }
+    ensures { λ r. ⌜ r ≡ spec.startNumber (spec.lockWaveformMemory (recordAt (now («record» .entry))) .start) ⌝ }
+    ensures { λ _. ⌜ now (session .exit) ≡ spec.startedIn (now (session .entry)) (spec.lockWaveformMemory (recordAt (now («record» .entry))) .start) ⌝ }
 {
     driver::lock_waveform_memory(DA728x::from_bytes(record), session).number()
 }
@@ -159,7 +162,7 @@ pub extern "C" fn da728x_upload_waveform_memory(
         ≡ spec.startedIn (now (session .entry)) (uploadOf (recordAt (now («record» .entry))) (now (image .entry)) (ltb 0 «lock_after»)) ⌝ }
 {
     if 100 < image.len() {
-        return 8;
+        return Answer::Refused(Error::WaveformMemoryFull).number();
     }
     let mut data = [0u8; 100];
     laws::copy_into(&mut data, image);
@@ -180,8 +183,8 @@ pub extern "C" fn da728x_read_waveform_memory(
     buffer_len: usize,
     session: &mut [u8],
 ) -> u8
-    ensures { λ r. ⌜ r ≡ spec.startNumber (spec.readWaveformMemory (recordAt (now («record» .entry))) len «buffer_len») ⌝ }
-    ensures { λ _. ⌜ now (session .exit) ≡ spec.startedIn (now (session .entry)) (spec.readWaveformMemory (recordAt (now («record» .entry))) len «buffer_len») ⌝ }
+    ensures { λ r. ⌜ r ≡ spec.startNumber (spec.readWaveformMemory (recordAt (now («record» .entry))) len «buffer_len» .start) ⌝ }
+    ensures { λ _. ⌜ now (session .exit) ≡ spec.startedIn (now (session .entry)) (spec.readWaveformMemory (recordAt (now («record» .entry))) len «buffer_len» .start) ⌝ }
 {
     driver::read_waveform_memory(DA728x::from_bytes(record), len, buffer_len, session).number()
 }
@@ -193,16 +196,16 @@ pub extern "C" fn da728x_select_sequence(
     loops: u8,
     session: &mut [u8],
 ) -> u8
-    ensures { λ r. ⌜ r ≡ spec.startNumber (spec.selectSequence (recordAt (now («record» .entry))) «sequence_id» loops) ⌝ }
-    ensures { λ _. ⌜ now (session .exit) ≡ spec.startedIn (now (session .entry)) (spec.selectSequence (recordAt (now («record» .entry))) «sequence_id» loops) ⌝ }
+    ensures { λ r. ⌜ r ≡ spec.startNumber (spec.selectSequence (recordAt (now («record» .entry))) «sequence_id» loops .start) ⌝ }
+    ensures { λ _. ⌜ now (session .exit) ≡ spec.startedIn (now (session .entry)) (spec.selectSequence (recordAt (now («record» .entry))) «sequence_id» loops .start) ⌝ }
 {
     driver::select_sequence(DA728x::from_bytes(record), sequence_id, loops, session).number()
 }
 
 #[no_mangle]
 pub extern "C" fn da728x_start_sequence(record: &[u8], session: &mut [u8]) -> u8
-    ensures { λ r. ⌜ r ≡ spec.startNumber (spec.startSequence (recordAt (now («record» .entry)))) ⌝ }
-    ensures { λ _. ⌜ now (session .exit) ≡ spec.startedIn (now (session .entry)) (spec.startSequence (recordAt (now («record» .entry)))) ⌝ }
+    ensures { λ r. ⌜ r ≡ spec.startNumber (spec.startSequence (recordAt (now («record» .entry))) .start) ⌝ }
+    ensures { λ _. ⌜ now (session .exit) ≡ spec.startedIn (now (session .entry)) (spec.startSequence (recordAt (now («record» .entry))) .start) ⌝ }
 {
     driver::start_sequence(DA728x::from_bytes(record), session).number()
 }
@@ -214,8 +217,8 @@ pub extern "C" fn da728x_play_sequence(
     loops: u8,
     session: &mut [u8],
 ) -> u8
-    ensures { λ r. ⌜ r ≡ spec.startNumber (spec.playSequence (recordAt (now («record» .entry))) «sequence_id» loops) ⌝ }
-    ensures { λ _. ⌜ now (session .exit) ≡ spec.startedIn (now (session .entry)) (spec.playSequence (recordAt (now («record» .entry))) «sequence_id» loops) ⌝ }
+    ensures { λ r. ⌜ r ≡ spec.startNumber (spec.playSequence (recordAt (now («record» .entry))) «sequence_id» loops .start) ⌝ }
+    ensures { λ _. ⌜ now (session .exit) ≡ spec.startedIn (now (session .entry)) (spec.playSequence (recordAt (now («record» .entry))) «sequence_id» loops .start) ⌝ }
 {
     driver::play_sequence(DA728x::from_bytes(record), sequence_id, loops, session).number()
 }
@@ -255,12 +258,53 @@ fn sent_len(e: Exchange) -> usize
 }
 
 #[no_mangle]
-pub extern "C" fn da728x_answer(session: &mut [u8], kind: u8, byte: u8, buffer: &mut [u8]) -> u32
-    ensures { λ r. ⌜ r ≡ toldWord (toldOf (now (session .entry)) (replyOf kind byte) (length (now (buffer .entry)))) ⌝ }
+pub extern "C" fn da728x_answer(
+    record: &mut [u8],
+    session: &mut [u8],
+    kind: u8,
+    byte: u8,
+    buffer: &mut [u8],
+) -> u32
+    ensures { λ r. ⌜ r ≡ reportWord (reportOf (now (session .entry)) (replyOf kind byte) (length (now (buffer .entry)))) ⌝ }
+    ensures { λ _. ⌜ now («record» .exit)
+        ≡ recordOut (now («record» .entry)) (changeBy (stateAfter (now (session .entry)) (replyOf kind byte) (length (now (buffer .entry))))
+        (reportOf (now (session .entry)) (replyOf kind byte) (length (now (buffer .entry)))) (recordAt (now («record» .entry)))) ⌝ }
     ensures { λ _. ⌜ now (session .exit) ≡ stateAfter (now (session .entry)) (replyOf kind byte) (length (now (buffer .entry))) ⌝ }
     ensures { λ _. ⌜ now (buffer .exit) ≡ bufferAfter (now (session .entry)) (replyOf kind byte) (now (buffer .entry)) ⌝ }
 {
-    word(exchange::answer(session, reply(kind, byte), buffer))
+    let turn = exchange::answer(session, reply(kind, byte), buffer);
+    store(record, session, turn);
+    word(turn)
+}
+
+// The record after an answer that gave this turn; it is looked at only where it may change.
+fn store(record: &mut [u8], session: &[u8], turn: Turn)
+    ensures { λ _. ⌜ now («record» .exit)
+        ≡ recordOut (now («record» .entry)) (changeBy (now (session .entry)) (turnReport turn) (recordAt (now («record» .entry)))) ⌝ }
+{
+    if outcome::may_change(session, turn) {
+        let change = outcome::change_by(da728x::chip(record), session, turn);
+        put(change, record);
+    }
+}
+
+fn put(change: Change, out: &mut [u8])
+    ensures { λ _. ⌜ now (out .exit) ≡ recordOut (now (out .entry)) change ⌝ }
+{
+    match change {
+        Change::Same => {}
+        Change::To(next) => write(next, out),
+    }
+}
+
+// A record goes to 37 bytes only.
+fn write(next: DA728x, out: &mut [u8])
+    ensures { λ _. ⌜ now (out .exit) ≡ recordOut (now (out .entry)) (To next) ⌝ }
+{
+    if out.len() == da728x::RECORD_SIZE {
+        let bytes = next.to_bytes();
+        laws::copy_into(out, &bytes);
+    }
 }
 
 fn reply(kind: u8, byte: u8) -> Reply
@@ -274,7 +318,7 @@ fn reply(kind: u8, byte: u8) -> Reply
 }
 
 fn word(t: Turn) -> u32
-    ensures { λ r. ⌜ r ≡ toldWord (turnTold t) ⌝ }
+    ensures { λ r. ⌜ r ≡ reportWord (turnReport t) ⌝ }
 {
     let answer = t.answer;
     let number = answer.number() as u32;
@@ -290,44 +334,14 @@ fn flag(on: bool) -> u8
 }
 
 #[no_mangle]
-pub extern "C" fn da728x_record(session: &[u8], record: &mut [u8]) -> u8
-    ensures { λ r. ⌜ r ≡ handedFlag (length (now («record» .entry))) (spec.handedBy (now (session .entry))) ⌝ }
-    ensures { λ _. ⌜ now («record» .exit) ≡ recordOut (now («record» .entry)) (spec.handedBy (now (session .entry))) ⌝ }
-{
-    match driver::handed_back(session) {
-        Handed::Absent => 0,
-        Handed::Given(r) => put(r, record),
-    }
-}
-
-fn put(r: DA728x, out: &mut [u8]) -> u8
-    ensures { λ n. ⌜ n ≡ handedFlag (length (now (out .entry))) (Given r) ⌝ }
-    ensures { λ _. ⌜ now (out .exit) ≡ recordOut (now (out .entry)) (Given r) ⌝ }
-{
-    if out.len() == da728x::RECORD_SIZE {
-        let bytes = r.to_bytes();
-        laws::copy_into(out, &bytes);
-        return 1;
-    }
-    0
-}
-
-#[no_mangle]
 pub extern "C" fn da728x_result(session: &[u8]) -> u64
-    ensures { λ r. ⌜ r ≡ resultWord (spec.resultOf (now (session .entry))) ⌝ }
+    ensures { λ r. ⌜ r ≡ resultWord (outcomeOf (now (session .entry))) ⌝ }
 {
-    match driver::result(session) {
-        Outcome::Unfinished => 0,
-        Outcome::Finished(first, second, last, reads) => finished(first, second, last, reads),
-    }
+    result_word(outcome::result(session))
 }
 
-fn finished(first: u8, second: u8, last: u8, reads: u8) -> u64
-    ensures { λ r. ⌜ r ≡ resultWord (Finished first second last reads) ⌝ }
+fn result_word(o: Outcome) -> u64
+    ensures { λ r. ⌜ r ≡ resultWord o ⌝ }
 {
-    last as u64
-        + 256 * (second as u64)
-        + 65536 * (first as u64)
-        + 16777216 * (reads as u64)
-        + 4294967296
+    o.value as u64 + 16777216 * (o.made as u64) + 4294967296 * (flag(o.completed) as u64)
 }

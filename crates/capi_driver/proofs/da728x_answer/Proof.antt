@@ -1,26 +1,33 @@
 -- The numbers that cross are those of the definitions. Assumes nothing.
-use Rattle.capi_driver.specs.Words.{toldWord}
-use Rattle.exchange.specs.Turn.{toldOf, stateAfter, bufferAfter}
-use Rattle.exchange.specs.declared.Reply.{Reply}
+use mathlib.Core.Path.{ap, _∙_}
 use lib.ListN.{length}
 use denote.Ref.{now}
-use mathlib.Core.Path.{ap, _∙_}
+use Rattle.da728x.specs.Record.{recordAt}
+use Rattle.exchange.specs.Turn.{reportOf, stateAfter, bufferAfter}
+use Rattle.exchange.specs.declared.Reply.{Reply}
+use Rattle.outcome.specs.Outcome.{changeBy}
+use Rattle.capi_driver.specs.Words.{reportWord, recordOut}
 use borrow.Author.Needs.{needs}
 use Rattle.capi_driver.proofs.da728x_answer.Statement.{statement}
 use Rattle.capi_driver.proofs.da728x_answer.Tie as tie
 
 returns : tie.Need-returns
-returns c = let e = c .before .before .before .before .before .answer .ensures in
-    let r = c .before .before .before .before .before .before .before .reply .ensures in
-    let a = c .before .before .before .before .before .before .before .before .before .before .before .args in (
-      c .word .ensures ∙ ap toldWord (e .0 ∙ ap (λ (x : Reply). toldOf (now (a .session)) x (length (now (a .buffer)))) r),
+returns c =
+    let b = c .before .before .before .before .before .before .before .before .before .before in
+    let a = b .before .before .before .before .before .before .before .args in
+    let l = now (a .«record») in
+    let s = now (a .session) in
+    let n = length (now (a .buffer)) in
+    let e = b .answer .ensures in
+    let r = b .before .before .reply .ensures in
+    let told = e .0 ∙ ap (λ (x : Reply). reportOf s x n) r in
+    let after = e .1 .0 ∙ ap (λ (x : Reply). stateAfter s x n) r in (
+      c .word .ensures ∙ ap reportWord told,
       (
-        e .1 .0 ∙ ap (λ (x : Reply). stateAfter (now (a .session)) x (length (now (a .buffer)))) r,
-        e .1 .1 ∙ ap (λ (x : Reply). bufferAfter (now (a .session)) x (now (a .buffer))) r,
+        c .before .before .before .store .ensures ∙ (λ i. recordOut l (changeBy (after i) (told i) (recordAt l))),
+        (after, e .1 .1 ∙ ap (λ (x : Reply). bufferAfter s x (now (a .buffer))) r),
       ),
     )
 
 pub da728x-answer-spec : {M : Type 1} → statement M
-da728x-answer-spec =
-    tie.close
-    (tie.spec (λ c κs. search needs) (λ c κs. search needs) (λ c κs. search needs) (λ c. search needs) (λ c. search needs) returns)
+da728x-answer-spec = tie.close (tie.spec (λ c κs. search needs) (λ c κs. search needs) (λ c κs. search needs) (λ c κs. search needs) (λ c. search needs) (λ c. search needs) (λ c. search needs) returns)

@@ -8,7 +8,7 @@ use Rattle.capi_driver.proofs.da728x_disable.Statement.{statement}
 use Rattle.capi_driver.proofs.da728x_disable.Tie as tie
 
 returns : tie.Need-returns
-returns c = starts _ _ _ _ _ _ (c .number .ensures) (c .before .before .before .disable .ensures) (ap (λ (r : DA728x). spec.disable r) (c .before .before .before .before .before .from-bytes .ensures))
+returns c = starts _ _ _ _ _ _ (c .number .ensures) (c .before .before .before .disable .ensures) (ap (λ (r : DA728x). spec.disable r .start) (c .before .before .before .before .before .from-bytes .ensures))
 
 pub da728x-disable-spec : {M : Type 1} → statement M
 da728x-disable-spec =

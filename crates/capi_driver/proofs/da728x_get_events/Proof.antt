@@ -8,7 +8,7 @@ use Rattle.capi_driver.proofs.da728x_get_events.Statement.{statement}
 use Rattle.capi_driver.proofs.da728x_get_events.Tie as tie
 
 returns : tie.Need-returns
-returns c = starts _ _ _ _ _ _ (c .number .ensures) (c .before .before .before .get-events .ensures) (ap (λ (r : DA728x). spec.getEvents r) (c .before .before .before .before .before .from-bytes .ensures))
+returns c = starts _ _ _ _ _ _ (c .number .ensures) (c .before .before .before .get-events .ensures) (ap (λ (r : DA728x). spec.getEvents r .start) (c .before .before .before .before .before .from-bytes .ensures))
 
 pub da728x-get-events-spec : {M : Type 1} → statement M
 da728x-get-events-spec =

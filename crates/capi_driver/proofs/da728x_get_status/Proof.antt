@@ -8,7 +8,7 @@ use Rattle.capi_driver.proofs.da728x_get_status.Statement.{statement}
 use Rattle.capi_driver.proofs.da728x_get_status.Tie as tie
 
 returns : tie.Need-returns
-returns c = starts _ _ _ _ _ _ (c .number .ensures) (c .before .before .before .get-status .ensures) (ap (λ (r : DA728x). spec.getStatus r) (c .before .before .before .before .before .from-bytes .ensures))
+returns c = starts _ _ _ _ _ _ (c .number .ensures) (c .before .before .before .get-status .ensures) (ap (λ (r : DA728x). spec.getStatus r .start) (c .before .before .before .before .before .from-bytes .ensures))
 
 pub da728x-get-status-spec : {M : Type 1} → statement M
 da728x-get-status-spec =

@@ -8,7 +8,7 @@ use Rattle.capi_driver.proofs.da728x_lock_waveform_memory.Statement.{st
 use Rattle.capi_driver.proofs.da728x_lock_waveform_memory.Tie as tie
 
 returns : tie.Need-returns
-returns c = starts _ _ _ _ _ _ (c .number .ensures) (c .before .before .before .lock-waveform-memory .ensures) (ap (λ (r : DA728x). spec.lockWaveformMemory r) (c .before .before .before .before .before .from-bytes .ensures))
+returns c = starts _ _ _ _ _ _ (c .number .ensures) (c .before .before .before .lock-waveform-memory .ensures) (ap (λ (r : DA728x). spec.lockWaveformMemory r .start) (c .before .before .before .before .before .from-bytes .ensures))
 
 pub da728x-lock-waveform-memory-spec : {M : Type 1} → statement M
 da728x-lock-waveform-memory-spec =

@@ -6,7 +6,7 @@ use Rattle.capi_driver.proofs.da728x_new.Statement.{statement}
 use Rattle.capi_driver.proofs.da728x_new.Tie as tie
 
 returns : tie.Need-returns
-returns c = let a = c .before .before .before .before .before .before .before .args in starts _ _ _ _ _ _ (c .number .ensures) (c .before .before .before .new .ensures) (λ i. spec.new (a .address) (c .before .before .before .before .before .from-code .ensures i))
+returns c = let a = c .before .before .before .before .before .before .before .args in starts _ _ _ _ _ _ (c .number .ensures) (c .before .before .before .new .ensures) (λ i. spec.new (a .address) (c .before .before .before .before .before .from-code .ensures i) .start)
 
 pub da728x-new-spec : {M : Type 1} → statement M
 da728x-new-spec =

@@ -8,7 +8,7 @@ use Rattle.capi_driver.proofs.da728x_read_waveform_memory.Statement.{st
 use Rattle.capi_driver.proofs.da728x_read_waveform_memory.Tie as tie
 
 returns : tie.Need-returns
-returns c = let a = c .before .before .before .before .before .before .before .before .args in starts _ _ _ _ _ _ (c .number .ensures) (c .before .before .before .read-waveform-memory .ensures) (ap (λ (r : DA728x). spec.readWaveformMemory r (a .len) (a .buffer-len)) (c .before .before .before .before .before .from-bytes .ensures))
+returns c = let a = c .before .before .before .before .before .before .before .before .args in starts _ _ _ _ _ _ (c .number .ensures) (c .before .before .before .read-waveform-memory .ensures) (ap (λ (r : DA728x). spec.readWaveformMemory r (a .len) (a .buffer-len) .start) (c .before .before .before .before .before .from-bytes .ensures))
 
 pub da728x-read-waveform-memory-spec : {M : Type 1} → statement M
 da728x-read-waveform-memory-spec =

@@ -7,7 +7,7 @@ use Rattle.capi_driver.proofs.da728x_set_custom_drive_waveform.Statemen
 use Rattle.capi_driver.proofs.da728x_set_custom_drive_waveform.Tie as tie
 
 returns : tie.Need-returns
-returns c = (c .number .ensures ∙ c .before .set-custom-drive-waveform .ensures ∙ ap (λ (r : DA728x). spec.startNumber (spec.setCustomDriveWaveform r)) (c .before .before .from-bytes .ensures), refl)
+returns c = (c .number .ensures ∙ c .before .set-custom-drive-waveform .ensures ∙ ap (λ (r : DA728x). spec.startNumber (spec.setCustomDriveWaveform r .start)) (c .before .before .from-bytes .ensures), refl)
 
 pub da728x-set-custom-drive-waveform-spec : {M : Type 1} → statement M
 da728x-set-custom-drive-waveform-spec =

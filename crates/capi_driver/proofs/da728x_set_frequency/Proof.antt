@@ -8,7 +8,7 @@ use Rattle.capi_driver.proofs.da728x_set_frequency.Statement.{statement
 use Rattle.capi_driver.proofs.da728x_set_frequency.Tie as tie
 
 returns : tie.Need-returns
-returns c = let a = c .before .before .before .before .before .before .before .before .args in starts _ _ _ _ _ _ (c .number .ensures) (c .before .before .before .set-frequency .ensures) (ap (λ (r : DA728x). spec.setFrequency r (a .frequency-hz)) (c .before .before .before .before .before .from-bytes .ensures))
+returns c = let a = c .before .before .before .before .before .before .before .before .args in starts _ _ _ _ _ _ (c .number .ensures) (c .before .before .before .set-frequency .ensures) (ap (λ (r : DA728x). spec.setFrequency r (a .frequency-hz) .start) (c .before .before .before .before .before .from-bytes .ensures))
 
 pub da728x-set-frequency-spec : {M : Type 1} → statement M
 da728x-set-frequency-spec =

@@ -13,7 +13,7 @@ returns : tie.Need-returns
 returns c = let a = c .before .before .before .before .before .before .before .before .args in
     let v : toZ w8 (ofZ w8 (a .value)) ≡ a .value = toZ-ofZ w8 (a .value) (c .before .before .before .before .before .before .before .before .fits .value) in
     starts _ _ _ _ _ _ (c .number .ensures) (c .before .before .before .set-override-value .ensures)
-    (λ i. spec.setOverrideValue (c .before .before .before .before .before .from-bytes .ensures i) (v i))
+    (λ i. spec.setOverrideValue (c .before .before .before .before .before .from-bytes .ensures i) (v i) .start)
 
 pub da728x-set-override-value-spec : {M : Type 1} → statement M
 da728x-set-override-value-spec =

@@ -6,7 +6,7 @@ use Rattle.capi_driver.proofs.da728x_set_timebase.Statement.{statement}
 use Rattle.capi_driver.proofs.da728x_set_timebase.Tie as tie
 
 returns : tie.Need-returns
-returns c = starts _ _ _ _ _ _ (c .number .ensures) (c .before .before .before .set-timebase .ensures) (λ i. spec.setTimebase (c .before .before .before .before .before .before .from-bytes .ensures i) (c .before .before .before .before .before .from-code .ensures i))
+returns c = starts _ _ _ _ _ _ (c .number .ensures) (c .before .before .before .set-timebase .ensures) (λ i. spec.setTimebase (c .before .before .before .before .before .before .from-bytes .ensures i) (c .before .before .before .before .before .from-code .ensures i) .start)
 
 pub da728x-set-timebase-spec : {M : Type 1} → statement M
 da728x-set-timebase-spec =

@@ -8,7 +8,7 @@ use Rattle.capi_driver.proofs.da728x_start_sequence.Statement.{statemen
 use Rattle.capi_driver.proofs.da728x_start_sequence.Tie as tie
 
 returns : tie.Need-returns
-returns c = starts _ _ _ _ _ _ (c .number .ensures) (c .before .before .before .start-sequence .ensures) (ap (λ (r : DA728x). spec.startSequence r) (c .before .before .before .before .before .from-bytes .ensures))
+returns c = starts _ _ _ _ _ _ (c .number .ensures) (c .before .before .before .start-sequence .ensures) (ap (λ (r : DA728x). spec.startSequence r .start) (c .before .before .before .before .before .from-bytes .ensures))
 
 pub da728x-start-sequence-spec : {M : Type 1} → statement M
 da728x-start-sequence-spec =

@@ -8,7 +8,7 @@ use Rattle.capi_driver.proofs.da728x_unlock_waveform_memory.Statement.{
 use Rattle.capi_driver.proofs.da728x_unlock_waveform_memory.Tie as tie
 
 returns : tie.Need-returns
-returns c = starts _ _ _ _ _ _ (c .number .ensures) (c .before .before .before .unlock-waveform-memory .ensures) (ap (λ (r : DA728x). spec.unlockWaveformMemory r) (c .before .before .before .before .before .from-bytes .ensures))
+returns c = starts _ _ _ _ _ _ (c .number .ensures) (c .before .before .before .unlock-waveform-memory .ensures) (ap (λ (r : DA728x). spec.unlockWaveformMemory r .start) (c .before .before .before .before .before .from-bytes .ensures))
 
 pub da728x-unlock-waveform-memory-spec : {M : Type 1} → statement M
 da728x-unlock-waveform-memory-spec =
