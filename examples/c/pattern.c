@@ -80,6 +80,9 @@ static uint8_t transfer(struct chip *chip, uint8_t address, const uint8_t *bytes
 
 static uint8_t session[DA728X_SESSION];
 
+/* The record of the one chip: lent with every start and every answer. */
+static uint8_t record[DA728X_RECORD];
+
 struct end {
     uint8_t refusal; /* 0 if every exchange was made */
     uint8_t code;    /* the bus's, at refusal 17 */
@@ -96,14 +99,14 @@ static struct end run(struct chip *chip, uint8_t *buffer, size_t buffer_len)
         uint8_t address = (uint8_t)(next >> 8 & 255), wanted = next >> 16 != 0, byte = 0;
         uint8_t code = transfer(chip, address, bytes, next & 255, wanted ? &byte : NULL);
         uint8_t kind = code ? DA728X_FAILED : wanted ? DA728X_BYTE : DA728X_DONE;
-        uint32_t told = da728x_answer(session, sizeof session, kind, code ? code : byte, buffer,
-                                      buffer_len);
+        uint32_t told = da728x_answer(record, sizeof record, session, sizeof session, kind,
+                                      code ? code : byte, buffer, buffer_len);
         end.refusal = told & 255;
         end.code = (uint8_t)(told >> 8 & 255);
         end.made = (uint8_t)(told >> 16 & 255);
         if (end.refusal) return end;
     }
-    expect("the result is there", da728x_result(session, sizeof session) != 0, 1);
+    expect("the session is completed", da728x_result(session, sizeof session) >> 32, 1);
     return end;
 }
 
@@ -115,6 +118,7 @@ static void run_whole(struct chip *chip, const char *what, uint8_t refused, unsi
     if (!refused) end = run(chip, NULL, 0);
     expect(what, end.refusal, 0);
     expect(what, end.made, exchanges);
+    expect(what, da728x_result(session, sizeof session) >> 24 & 255, exchanges);
     printf("%s: %u exchange%s\n", what, end.made, end.made == 1 ? "" : "s");
 }
 
@@ -218,33 +222,28 @@ static void read_back(const uint8_t image[DA728X_IMAGE])
 
 /* ---- the chip ----------------------------------------------------------- */
 
-static uint8_t record[DA728X_RECORD];
-
 static void put16(uint8_t *at, unsigned value)
 {
     at[0] = (uint8_t)(value & 255);
     at[1] = (uint8_t)(value >> 8 & 255);
 }
 
-/* The record after da728x_new or da728x_configure. */
-static void take_record(const char *what)
-{
-    expect(what, da728x_record(session, sizeof session, record, sizeof record), 1);
-}
-
 static void find(struct chip *chip)
 {
+    const uint8_t none[DA728X_RECORD] = {0}, found[DA728X_RECORD] = {ADDRESS, 0, 1};
     struct end end;
     expect("starting new", da728x_new(ADDRESS, 1, session, sizeof session), 0);
     expect("done, where a byte is wanted",
-           da728x_answer(session, sizeof session, DA728X_DONE, 0, NULL, 0), 19);
+           da728x_answer(record, sizeof record, session, sizeof session, DA728X_DONE, 0, NULL, 0),
+           19);
     end = run(chip, NULL, 0); /* the exchange is still pending */
     expect("a DA7281", end.refusal, 16);
-    expect("no record", da728x_record(session, sizeof session, record, sizeof record), 0);
+    expect("one exchange, not completed", da728x_result(session, sizeof session), 1u << 24);
+    expect_bytes("the record that was not made", record, none, sizeof record);
     printf("new: no DA7281, refused with %u\n", end.refusal);
 
     run_whole(chip, "new", da728x_new(ADDRESS, 0, session, sizeof session), 1);
-    take_record("the record of new");
+    expect_bytes("the record of new", record, found, sizeof record);
     expect("enable without settings",
            da728x_enable(record, sizeof record, session, sizeof session), 15);
 }
@@ -266,7 +265,7 @@ static void configure(struct chip *chip)
     put16(settings + 5, 165);
     run_whole(chip, "configure", da728x_configure(record, sizeof record, settings, sizeof settings,
                                                   session, sizeof session), 14);
-    take_record("the record of configure");
+    expect("settings are stored", record[2], 2);
     expect_bytes("the stored settings", record + 3, settings, sizeof settings);
     expect("ACTUATOR1", chip->registers[ACTUATOR1], 106);
     expect("ACTUATOR3", chip->registers[ACTUATOR3], 18);
@@ -274,6 +273,15 @@ static void configure(struct chip *chip)
     expect("FRQ_LRA_PER_H", chip->registers[FRQ_LRA_PER_H], 34);
     expect("FRQ_LRA_PER_L", chip->registers[FRQ_LRA_PER_L], 59);
     expect("TRIM4", chip->registers[TRIM4], 2);
+
+    /* A refused start whose number nobody looks at: no answer is taken, the record stays. */
+    settings[5] = 253;
+    expect("253 mA again", da728x_configure(record, sizeof record, settings, sizeof settings,
+                                            session, sizeof session), 11);
+    expect("an answer to an ended session",
+           da728x_answer(record, sizeof record, session, sizeof session, DA728X_DONE, 0, NULL, 0)
+               & 255, 19);
+    expect("the stored current", record[3 + 5], 165);
 }
 
 static uint8_t begin_upload(const uint8_t image[DA728X_IMAGE])
@@ -314,7 +322,7 @@ static void verify(struct chip *chip, const uint8_t image[DA728X_IMAGE])
                                                            sizeof session), 0);
     end = run(chip, memory, sizeof memory);
     expect("reading memory", end.refusal, 0);
-    expect("bytes read", da728x_result(session, sizeof session) >> 24 & 255, DA728X_IMAGE);
+    expect("bytes read", da728x_result(session, sizeof session) & 255, DA728X_IMAGE);
     expect_bytes("the memory read", memory, image, DA728X_IMAGE);
     printf("read memory: %u exchanges, the image\n", end.made);
 }

@@ -1,5 +1,6 @@
 // A simulated chip, which is its 256 register bytes, and a session run on it. Each exchange is printed with the count that the session
 // tells. Proved: every function returns.
+use da728x::DA728x;
 use errors::Answer;
 use exchange::Exchange;
 use exchange::Reply;
@@ -14,25 +15,34 @@ const NO_ACKNOWLEDGE: u8 = 3;
 
 // ---- a session, run to its end
 
-// Runs what was begun; the bus fails at the exchange with this index.
-pub fn run(begun: Answer, session: &mut [u8], chip: &mut [u8], fails: u8) {
+// Runs what was begun, and gives back the record in force afterwards; the bus fails at the exchange with this index.
+pub fn run(
+    begun: Answer,
+    record: DA728x,
+    session: &mut [u8],
+    chip: &mut [u8],
+    fails: u8,
+) -> DA728x {
     match begun {
-        Answer::Done => exchanges(session, chip, fails),
+        Answer::Done => exchanges(record, session, chip, fails),
         Answer::Refused(e) => {
             show::text(b"  refused with ");
             show::error(e.number());
             show::end_line();
+            record
         }
     }
 }
 
-fn exchanges(session: &mut [u8], chip: &mut [u8], fails: u8) {
+fn exchanges(record: DA728x, session: &mut [u8], chip: &mut [u8], fails: u8) -> DA728x {
+    let mut record = record;
     let mut i = 0u8;
     while i < MOST {
-        step(session, chip, fails);
+        record = step(record, session, chip, fails);
         i += 1;
     }
     count(session);
+    record
 }
 
 fn count(session: &[u8]) {
@@ -45,16 +55,18 @@ fn count(session: &[u8]) {
     }
 }
 
-// One exchange, unless the session is over.
-fn step(session: &mut [u8], chip: &mut [u8], fails: u8) {
+// One exchange, unless the session is over; the answer goes back with the record.
+fn step(record: DA728x, session: &mut [u8], chip: &mut [u8], fails: u8) -> DA728x {
     if exchange::is_over(session) {
-        return;
+        return record;
     }
     let e = exchange::pending(session);
     let reply = transfer(chip, e, exchange::made(session) == fails);
     let mut unread = [0u8; 1];
-    let turn = exchange::answer(session, reply, &mut unread);
+    let answered = driver::answer(record, session, reply, &mut unread);
+    let turn = answered.turn;
     tell(e, reply, turn);
+    answered.driver
 }
 
 // ---- the chip

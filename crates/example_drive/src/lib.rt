@@ -8,7 +8,7 @@ use config::Pid;
 use config::Trigger;
 use config::Variant;
 use da728x::DA728x;
-use driver::Handed;
+use da728x::Settings;
 use memory::WaveformMemory;
 
 // The bus does not fail at an exchange that is never reached.
@@ -21,10 +21,21 @@ pub fn drive(memory: WaveformMemory, chip: &mut [u8], session: &mut [u8]) {
     show::text(b"\nnew\n");
     example_chip::reset(chip);
     let answer = driver::new(0x4A, Variant::DA7280, session);
-    example_chip::run(answer, session, chip, NEVER);
-    match driver::handed_back(session) {
-        Handed::Given(record) => operate(record, memory, chip, session),
-        Handed::Absent => show::text(b"  no record\n"),
+    let record = example_chip::run(answer, unknown(), session, chip, NEVER);
+    let told = outcome::result(session);
+    if told.completed {
+        operate(record, memory, chip, session);
+    } else {
+        show::text(b"  no record\n");
+    }
+}
+
+// Lent until `new` has made a record.
+fn unknown() -> DA728x {
+    DA728x {
+        address: 0,
+        variant: Variant::DA7280,
+        settings: Settings::Absent,
     }
 }
 
@@ -39,7 +50,7 @@ fn operate(record: DA728x, memory: WaveformMemory, chip: &mut [u8], session: &mu
     fail(record, chip, session);
 }
 
-// Hands back the record in force afterwards.
+// Gives back the record in force afterwards.
 fn configure(
     record: DA728x,
     d: DeviceConfig,
@@ -48,14 +59,13 @@ fn configure(
     fails: u8,
 ) -> DA728x {
     let answer = driver::configure(record, actuator(), d, session);
-    example_chip::run(answer, session, chip, fails);
-    driver::after(record, session)
+    example_chip::run(answer, record, session, chip, fails)
 }
 
 fn upload(record: DA728x, memory: WaveformMemory, chip: &mut [u8], session: &mut [u8]) {
     show::text(b"\nupload_waveform_memory: turn now, locked afterwards\n");
     let answer = driver::upload_waveform_memory(record, memory, true, session);
-    example_chip::run(answer, session, chip, NEVER);
+    let _ = example_chip::run(answer, record, session, chip, NEVER);
     let image = memory.as_bytes();
     say(
         b"  the chip's memory",
@@ -66,13 +76,13 @@ fn upload(record: DA728x, memory: WaveformMemory, chip: &mut [u8], session: &mut
 
 fn enable(record: DA728x, chip: &mut [u8], session: &mut [u8]) {
     let answer = driver::enable(record, session);
-    example_chip::run(answer, session, chip, NEVER);
+    let _ = example_chip::run(answer, record, session, chip, NEVER);
 }
 
 fn play(record: DA728x, chip: &mut [u8], session: &mut [u8]) {
     show::text(b"\nplay_sequence: sequence 1, loops 0\n");
     let answer = driver::play_sequence(record, 1, 0, session);
-    example_chip::run(answer, session, chip, NEVER);
+    let _ = example_chip::run(answer, record, session, chip, NEVER);
 }
 
 // A `configure` to other modes that the bus breaks off; `enable` then shows which mode is in force.

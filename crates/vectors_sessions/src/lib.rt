@@ -22,7 +22,7 @@ const LAST: u8 = 49;
 pub fn agrees(kind: u8, bytes: &[u8], ends: &[usize]) -> bool {
     match kind {
         FIRST..=LAST => {
-            let mut state = [MARKER; 278];
+            let mut state = [MARKER; exchange::SESSION_SIZE];
             started(kind, bytes, ends, &mut state)
         }
         _ => false,
@@ -46,11 +46,22 @@ fn begun(kind: u8, bytes: &[u8], ends: &[usize], state: &mut [u8]) -> u8 {
     start(kind, record, arguments, field(bytes, ends, 3), state)
 }
 
+// The record is lent with each answer; 37 bytes of the marker, where the case has none.
 fn complete(bytes: &[u8], ends: &[usize], state: &mut [u8]) -> bool {
+    let mut record = [MARKER; 37];
+    laws::copy_into(&mut record, field(bytes, ends, 1));
+    completed(bytes, ends, state, &mut record)
+}
+
+fn completed(bytes: &[u8], ends: &[usize], state: &mut [u8], record: &mut [u8]) -> bool {
     let exchanges = field(bytes, ends, 5);
     let told = field(bytes, ends, 6);
-    if runs(state, exchanges, told, field(bytes, ends, 7)) {
-        return leaves(state, field(bytes, ends, 8), field(bytes, ends, 9));
+    if runs(record, state, exchanges, told, field(bytes, ends, 7)) {
+        let after = field(bytes, ends, 8);
+        return both(
+            changed(record, field(bytes, ends, 1), after),
+            capi_driver::da728x_result(state) == number(field(bytes, ends, 9)),
+        );
     }
     false
 }
@@ -164,20 +175,39 @@ struct Told {
 }
 
 // Whether the session makes these exchanges, is told this at the last, and leaves this buffer.
-fn runs(session: &mut [u8], exchanges: &[u8], told: &[u8], buffer: &[u8]) -> bool {
+fn runs(
+    record: &mut [u8],
+    session: &mut [u8],
+    exchanges: &[u8],
+    told: &[u8],
+    buffer: &[u8],
+) -> bool {
     let mut lent = [MARKER; 512];
-    run(session, exchanges, told, buffer, &mut lent)
+    run(record, session, exchanges, told, buffer, &mut lent)
 }
 
-fn run(session: &mut [u8], exchanges: &[u8], told: &[u8], buffer: &[u8], lent: &mut [u8]) -> bool {
+fn run(
+    record: &mut [u8],
+    session: &mut [u8],
+    exchanges: &[u8],
+    told: &[u8],
+    buffer: &[u8],
+    lent: &mut [u8],
+) -> bool {
     let n = buffer.len();
-    if turns(session, exchanges, number(told), front(lent, n)) {
+    if turns(record, session, exchanges, number(told), front(lent, n)) {
         return begins(lent, buffer);
     }
     false
 }
 
-fn turns(session: &mut [u8], exchanges: &[u8], told: u64, buffer: &mut [u8]) -> bool {
+fn turns(
+    record: &mut [u8],
+    session: &mut [u8],
+    exchanges: &[u8],
+    told: u64,
+    buffer: &mut [u8],
+) -> bool {
     let mut s = Stand {
         at: 0,
         made: 0,
@@ -186,13 +216,20 @@ fn turns(session: &mut [u8], exchanges: &[u8], told: u64, buffer: &mut [u8]) -> 
     };
     let mut i = 0usize;
     while i < 128 {
-        s = turn(s, session, exchanges, told, buffer);
+        s = turn(s, record, session, exchanges, told, buffer);
         i += 1;
     }
     s.agrees
 }
 
-fn turn(s: Stand, session: &mut [u8], exchanges: &[u8], told: u64, buffer: &mut [u8]) -> Stand {
+fn turn(
+    s: Stand,
+    record: &mut [u8],
+    session: &mut [u8],
+    exchanges: &[u8],
+    told: u64,
+    buffer: &mut [u8],
+) -> Stand {
     if s.over {
         return s;
     }
@@ -200,7 +237,7 @@ fn turn(s: Stand, session: &mut [u8], exchanges: &[u8], told: u64, buffer: &mut 
     match asked(session, exchanges, e) {
         Wish::Nothing => stopped(s, s.at == exchanges.len()),
         Wish::This => {
-            let word = capi_driver::da728x_answer(session, kind(e), e.byte, buffer);
+            let word = capi_driver::da728x_answer(record, session, kind(e), e.byte, buffer);
             answered(s, e.after, word as u64, told, exchanges.len())
         }
         Wish::Another => stopped(s, false),
@@ -307,18 +344,13 @@ fn stopped(mut s: Stand, agrees: bool) -> Stand {
     s
 }
 
-// Whether this record is handed back, or none, and the result is this.
-fn leaves(session: &[u8], handed: &[u8], result: &[u8]) -> bool {
-    if capi_driver::da728x_result(session) == number(result) {
-        return hands(session, handed);
+// Whether the record lent is now this one; one of no bytes says that it stays as it was.
+fn changed(record: &[u8], before: &[u8], after: &[u8]) -> bool {
+    if 0 < after.len() {
+        return same(record, after);
     }
-    false
-}
-
-fn hands(session: &[u8], handed: &[u8]) -> bool {
-    let mut record = [MARKER; 37];
-    if capi_driver::da728x_record(session, &mut record) == 0 {
-        return both(handed.len() == 0, untouched(&record));
+    if 0 < before.len() {
+        return same(record, before);
     }
-    same(&record, handed)
+    untouched(record)
 }

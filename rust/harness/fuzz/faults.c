@@ -2,6 +2,7 @@
  * of one, or 0. Linked with libraries in which the functions below are called real_ (scripts/boundary). */
 #include "../../../include/da728x.h"
 #include <stdlib.h>
+#include <string.h>
 
 #define REAL(name) extern __typeof__(name) real_##name
 REAL(da728x_register_addresses);
@@ -16,7 +17,6 @@ REAL(da728x_configure);
 REAL(da728x_upload_waveform_memory);
 REAL(da728x_pending);
 REAL(da728x_answer);
-REAL(da728x_record);
 REAL(da728x_result);
 
 static volatile unsigned seen;
@@ -125,27 +125,30 @@ uint32_t da728x_pending(const uint8_t *session, size_t session_len, uint8_t *byt
     return fault(12) && !told && session_len == DA728X_SESSION ? 1 : told;
 }
 
-/* 13: a byte that is refused is stored. 14: a count of exchanges that is too high. */
-uint32_t da728x_answer(uint8_t *session, size_t session_len, uint8_t kind, uint8_t byte, uint8_t *buffer,
-                       size_t buffer_len)
+/* Where a session has the record that it is for. */
+#define OF_SESSION 117
+
+/* 13: a byte that is refused is stored. 14: a count of exchanges that is too high. 15: settings are stored before the last
+ * exchange. 21: an ended session gives its record again. 22: settings are stored in another chip's record. */
+uint32_t da728x_answer(uint8_t *record, size_t record_len, uint8_t *session, size_t session_len, uint8_t kind,
+                       uint8_t byte, uint8_t *buffer, size_t buffer_len)
 {
-    uint32_t told = real_da728x_answer(session, session_len, kind, byte, buffer, buffer_len);
+    uint32_t told =
+        real_da728x_answer(record, record_len, session, session_len, kind, byte, buffer, buffer_len);
+    int of_configure = session_len == DA728X_SESSION && record_len == DA728X_RECORD && session[OF_SESSION + 2] == 2;
+    int last = !(told & 255) && told >> 24;
     if (fault(13) && (told & 255) == 19 && buffer_len > 0) buffer[0] = byte;
+    if (fault(15) && of_configure && !(told & 255) && !last) memcpy(record, session + OF_SESSION, DA728X_RECORD);
+    if (fault(21) && of_configure && (told & 255) == 19 && told >> 24) memcpy(record, session + OF_SESSION, DA728X_RECORD);
+    if (fault(22) && of_configure && last) memcpy(record + 2, session + OF_SESSION + 2, DA728X_RECORD - 2);
     return fault(14) && !(told & 255) ? told + 65536 : told;
 }
 
-/* 15: a record is written where none is told. */
-uint8_t da728x_record(const uint8_t *session, size_t session_len, uint8_t *record, size_t record_len)
-{
-    uint8_t told = real_da728x_record(session, session_len, record, record_len);
-    if (fault(15) && !told && record_len == DA728X_RECORD) record[0] = 0;
-    return told;
-}
-
-/* 16: a byte decides that was never written. */
+/* 16: a byte decides that was never written. 23: a result that is not completed has no count. */
 uint64_t da728x_result(const uint8_t *session, size_t session_len)
 {
     volatile uint8_t never[64];
+    uint64_t told = real_da728x_result(session, session_len);
     if (fault(16) && never[session_len % 64] == 7) seen++;
-    return real_da728x_result(session, session_len);
+    return fault(23) && !(told >> 32) ? 0 : told;
 }

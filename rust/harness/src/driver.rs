@@ -48,7 +48,7 @@ impl Operation {
     }
 
     /// Starts it by the library.
-    pub fn start(&self, record: &DA728x) -> Started {
+    pub fn start<'a>(&self, record: &'a mut DA728x) -> Started<'a> {
         Ok(match self {
             Operation::Configure(it) => return record.configure(it.actuator, it.device),
             Operation::GetChipRev => record.get_chip_rev(),
@@ -72,6 +72,24 @@ impl Operation {
             Operation::StartSequence => record.start_sequence(),
             Operation::PlaySequence(id, loops) => return record.play_sequence(*id, *loops),
         })
+    }
+
+    /// What it answers, where the bus read these bytes, in its result's low 24 bits: the byte that was asked for; the three of
+    /// `get_events`, the first above the others; how many bytes of memory were read, min(len, 100, buffer length).
+    pub fn answers(&self, read: &[u8]) -> u32 {
+        match (self, read) {
+            (Operation::GetChipRev | Operation::GetStatus, [byte]) => (*byte).into(),
+            (Operation::GetEvents, [event, warning, sequence]) => {
+                u32::from_be_bytes([0, *event, *warning, *sequence])
+            }
+            (Operation::ReadWaveformMemory(len, room), _) => {
+                (*len).min(*room).min(IMAGE).try_into().unwrap()
+            }
+            (Operation::GetChipRev | Operation::GetStatus | Operation::GetEvents, _) => {
+                panic!("{self:?} read {read:02X?}")
+            }
+            _ => 0,
+        }
     }
 
     /// What it gives besides its success, once the session is completed.
@@ -138,8 +156,8 @@ fn markers(room: usize) -> Vec<u8> {
     vec![MARKER; GUARD + room + GUARD]
 }
 
-/// Runs what was started by the library (`new` where there is no operation) to its end; what it came to, and the record that it
-/// hands back.
+/// Runs what was started by the library (`new` where there is no operation) to its end; what it came to, and the driver that `new`
+/// made. The record may change by the last answer only.
 fn run(
     operation: Option<&Operation>,
     started: Started,
@@ -150,6 +168,8 @@ fn run(
         Ok(session) => session,
         Err(error) => return (Outcome::refused(error.number(), room), None),
     };
+    let record = |session: &Session| session.driver().map(|it| *it.as_bytes());
+    let before = record(&session);
     let value = |session: &Session| match operation {
         Some(operation) => operation.value(session),
         None => session.completed().then_some(Value::Nothing),
@@ -159,7 +179,7 @@ fn run(
     let mut failed = None;
     while let Some(exchange) = session.pending() {
         assert!(!ended, "ended but pending");
-        assert_eq!(session.record(), None, "a record before the last exchange");
+        assert_eq!(record(&session), before, "another record before the last exchange");
         assert_eq!(value(&session), None, "a value before the last exchange");
         let wanted = exchange.wanted().into();
         let reply = wire.exchange(exchange.address(), exchange.bytes(), wanted);
@@ -173,6 +193,7 @@ fn run(
             }
         };
         assert_eq!(usize::from(told.0), made, "the count");
+        assert_eq!(usize::from(session.made()), made, "the count in the result");
         ended = told.1;
     }
     assert!(ended || made == 0, "not ended and nothing pending");
@@ -185,10 +206,12 @@ fn run(
         }
         Some(error) => Err((error.number(), None)),
     };
-    let record = session.record();
-    let makes = matches!(operation, None | Some(Operation::Configure(_)));
-    assert_eq!(record.is_some(), makes && answer.is_ok(), "the record after {answer:?}");
-    (Outcome { answer, made, log: wire.log, lent }, record)
+    if answer.is_err() || !matches!(operation, None | Some(Operation::Configure(_))) {
+        assert_eq!(record(&session), before, "the record after {answer:?}");
+    }
+    let found = session.found();
+    assert_eq!(found.is_some(), operation.is_none() && answer.is_ok(), "found after {answer:?}");
+    (Outcome { answer, made, log: wire.log, lent }, found)
 }
 
 /// The published driver on a bus that runs scripts, with what it has stored.
@@ -380,15 +403,12 @@ impl Pair {
 
     /// Compares an operation on this script, all that it leaves, and the record in force afterwards; its outcome.
     pub fn compare(&mut self, operation: &Operation, script: &Script) -> Outcome {
-        let (ours, record) = run(Some(operation), operation.start(&self.record), script);
+        let (ours, _) = run(Some(operation), operation.start(&mut self.record), script);
         let before = self.published.stored;
         let theirs = self.published.outcome(operation, script);
         let Published { address, variant, stored, .. } = &self.published;
         assert_eq!(ours, theirs, "{operation:?} on {script:02X?}, {variant:?}, stored {before:?}");
 
-        if let Some(record) = record {
-            self.record = record;
-        }
         let wanted = record_bytes(*address, *variant, stored.as_ref());
         assert_eq!(*self.record.as_bytes(), wanted, "the record after {operation:?}");
         ours

@@ -2,6 +2,7 @@
 
 pub mod boundary;
 pub mod bus;
+pub mod cases;
 pub mod driver;
 pub mod generate;
 pub mod images;
@@ -10,6 +11,7 @@ pub mod oracle;
 pub mod patterns;
 pub mod random;
 pub mod raw;
+pub mod records;
 pub mod registers;
 pub mod settings;
 pub mod trim;

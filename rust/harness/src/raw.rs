@@ -10,7 +10,7 @@ use yambelugo::WaveformMemoryTimebase;
 pub mod ffi;
 
 /// How many bytes a session has.
-pub const SESSION: usize = 278;
+pub const SESSION: usize = 279;
 
 /// How many bytes all lists of an image have.
 pub const LISTS: usize = 703;
@@ -118,17 +118,14 @@ pub fn pending(session: &[u8], bytes: &mut [u8]) -> u32 {
     })
 }
 
-pub fn answer(session: &mut [u8], kind: u8, byte: u8, buffer: &mut [u8]) -> u32 {
-    lend(session, |it, len| {
-        // SAFETY: each pointer and length is a slice; they do not overlap.
-        lend(buffer, |to, to_len| unsafe { ffi::da728x_answer(it, len, kind, byte, to, to_len) })
-    })
-}
-
-pub fn record(session: &[u8], record: &mut [u8]) -> u8 {
-    show(session, |it, len| {
-        // SAFETY: each pointer and length is a slice; the mutable one overlaps no other.
-        lend(record, |to, to_len| unsafe { ffi::da728x_record(it, len, to, to_len) })
+pub fn answer(record: &mut [u8], session: &mut [u8], kind: u8, byte: u8, buffer: &mut [u8]) -> u32 {
+    lend(record, |of, of_len| {
+        lend(session, |it, len| {
+            // SAFETY: each pointer and length is a slice; they do not overlap.
+            lend(buffer, |to, to_len| unsafe {
+                ffi::da728x_answer(of, of_len, it, len, kind, byte, to, to_len)
+            })
+        })
     })
 }
 
@@ -140,4 +137,10 @@ pub fn result(session: &[u8]) -> u64 {
 /// How `da728x_answer` tells this.
 pub fn word(number: u8, code: u8, made: usize, ended: bool) -> u32 {
     u32::from_le_bytes([number, code, made.try_into().unwrap(), ended.into()])
+}
+
+/// How `da728x_result` tells this.
+pub fn result_word(value: u32, made: usize, completed: bool) -> u64 {
+    assert!(value < 1 << 24 && made < 256);
+    u64::from(value) + ((made as u64) << 24) + (u64::from(completed) << 32)
 }

@@ -43,10 +43,12 @@ fn errors_have_the_published_names() {
 fn numbers_are_those_of_the_definitions() {
     let text = text("crates/errors/specs/Number.antt");
     let mut cases = 0;
-    for line in text.lines().filter_map(|line| line.strip_prefix("errorNumber ")) {
-        let (shape, number) = line.split_once(" = ").unwrap();
+    for line in text.lines().filter_map(|line| line.strip_prefix("numberAndCode ")) {
+        let Some((shape, answer)) = line.split_once(" = ") else { continue };
         let (_, name) = shape.split_once("Error.").unwrap();
         let name = name.split(' ').next().unwrap();
+        let (number, code) = answer.trim_matches(['(', ')']).split_once(", ").unwrap();
+        assert_eq!(code, if name == "I2c" { "code" } else { "0" });
         let error = Error::from_number(number.parse().unwrap(), 0).unwrap();
         assert_eq!(format!("{error:?}").split('(').next().unwrap(), name);
         assert_eq!(error.number().to_string(), number);

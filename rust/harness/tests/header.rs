@@ -106,8 +106,7 @@ fn empty_slices() {
         assert_eq!(da728x_select_sequence(list, 0, 15, 15, none, 0), 0);
         assert_eq!(da728x_play_sequence(list, 0, 16, 0, none, 0), 11);
         assert_eq!(da728x_pending(list, 0, none, 0), 0);
-        assert_eq!(da728x_answer(none, 0, 2, 9, none, 0), 19 + (1 << 24));
-        assert_eq!(da728x_record(list, 0, none, 0), 0);
+        assert_eq!(da728x_answer(none, 0, none, 0, 2, 9, none, 0), 19 + (1 << 24));
         assert_eq!(da728x_result(list, 0), 0);
     }
 }
@@ -168,7 +167,7 @@ fn sizes_and_kinds() {
         ("FAILED", raw::FAILED.into()),
     ];
     assert_eq!(defined, used);
-    assert_eq!(size_of::<yambelugo::Session>(), raw::SESSION);
+    assert_eq!(size_of::<yambelugo::DA728x>(), yambelugo::RECORD);
     compared("sizes and kinds", defined.len(), 8);
 }
 
@@ -261,5 +260,5 @@ fn prototypes_are_those_of_the_exports() {
     let exported = sorted(exported());
     assert_eq!(sorted(declared()), exported);
     assert_eq!(sorted(wrapped()), exported);
-    compared("prototypes", exported.len(), 24 + 22);
+    compared("prototypes", exported.len(), 24 + 21);
 }

@@ -68,7 +68,7 @@ fn every_kind_is_there() {
     assert_eq!(sections.next(), None);
 
     let named = kinds.iter().flat_map(|(_, names, _)| names.split(", "));
-    let named: Vec<&str> = named.chain(["pending", "answer", "record", "result"]).collect();
+    let named: Vec<&str> = named.chain(["pending", "answer", "result"]).collect();
     assert_eq!(exported(), named);
     compared("cases of the stored sample", cases, 4946);
 }

@@ -1,261 +1,32 @@
-//! Sessions without the Rust, through the C functions: records and results, failures, answers out of turn, slices of another length
-//! and forged bytes.
+//! Sessions without the Rust, through the C functions: failures, answers out of turn, slices of another length and forged bytes.
+//! Records and results are in tests/records.rs.
 //! Every slice is lent with markers around it, and those that are only read have to stay (`harness::raw`).
 
+use harness::cases::{CASES, EXCHANGES, accepted, cases, longest, stored, walk};
 use harness::compared;
 use harness::driver::{Operation, record_bytes};
 use harness::lists::MARKER;
 use harness::random::Random;
-use harness::raw::{self, BYTE, DONE, FAILED, SESSION, word};
-use harness::settings::{MEMORY_TIMEBASES, MODES, POLARITIES, Settings, VARIANTS};
-use yambelugo::{DrivingMode, OperationMode, RECORD, TriggerConfig, Variant};
+use harness::raw::{self, BYTE, DONE, FAILED, SESSION, result_word, word};
+use harness::records::{Stores, canonical, canonical_record, chip};
+use harness::settings::{Settings, VARIANTS};
+use yambelugo::{DrivingMode, OperationMode, RECORD, Variant};
 
-/// How many operations [`cases`] has, and how many exchanges they make together.
-const CASES: usize = 48;
-const EXCHANGES: usize = 379;
-
-type Start = dyn Fn(&mut [u8]) -> u8;
-
-/// How an operation starts, what its first exchange reads (a later one that plus its number), the length of its read buffer, how many
-/// bytes of memory it reads, and the record that it hands back.
-struct Case {
-    name: String,
-    start: Box<Start>,
-    read: u8,
-    room: usize,
-    reads: usize,
-    handed: Option<[u8; RECORD]>,
-}
-
-/// A stored record, in DRO mode.
-fn stored() -> [u8; RECORD] {
-    let settings = Settings::plain(OperationMode::DRO_MODE, DrivingMode::FREQUENCY_TRACK);
-    record_bytes(0x4A, Variant::DA7282, Some(&settings))
-}
-
-/// The settings with the most exchanges, 25.
-fn longest() -> Settings {
-    let mut settings = Settings::plain(OperationMode::ETWM_MODE, DrivingMode::CUSTOM_WAVEFORM);
-    settings.actuator.pid_Kp_Ki = Some((0x8123, 0xFEDC));
-    settings.device.gpi_triggers = [0, 8, 15].map(|sequence_id| {
-        let (polarity, mode) = (POLARITIES[usize::from(sequence_id) % 3], MODES[1]);
-        Some(TriggerConfig { sequence_id, polarity, mode })
-    });
-    settings
-}
-
-/// The operations that are accepted on a stored record.
-fn accepted() -> Vec<Operation> {
-    let mut operations = vec![
-        Operation::Configure(longest()),
-        Operation::GetChipRev,
-        Operation::GetEvents,
-        Operation::GetStatus,
-        Operation::SetFrequency(200),
-        Operation::SetOverrideValue(-3),
-        Operation::SetTimebase(MEMORY_TIMEBASES[0]),
-        Operation::SetTimebase(MEMORY_TIMEBASES[1]),
-        Operation::Enable,
-        Operation::Disable,
-        Operation::UnlockWaveformMemory,
-        Operation::LockWaveformMemory,
-        Operation::SelectSequence(15, 7),
-        Operation::StartSequence,
-        Operation::PlaySequence(1, 15),
-    ];
-    for driving in harness::settings::DRIVINGS {
-        let settings = Settings::plain(OperationMode::RTWM_MODE, driving);
-        operations.push(Operation::Configure(settings));
-    }
-    for len in [0, 1, 31, 32, 33, 64, 65, 96, 97, 100] {
-        let image: Vec<u8> = (0..len).map(|at| 255 - 2 * at).collect();
-        operations.push(Operation::UploadWaveformMemory(image.clone(), false));
-        operations.push(Operation::UploadWaveformMemory(image, true));
-    }
-    for (len, room) in [(100, 100), (200, 130), (3, 7), (7, 3), (1, 1), (0, 5), (5, 0)] {
-        operations.push(Operation::ReadWaveformMemory(len, room));
-    }
-    operations
-}
-
-/// An operation on a stored record.
-fn case(operation: Operation) -> Case {
-    let (name, room) = (format!("{operation:?}"), operation.room());
-    let reads = match operation {
-        Operation::ReadWaveformMemory(len, room) => len.min(100).min(room),
-        _ => 0,
-    };
-    let handed = match &operation {
-        Operation::Configure(it) => Some(record_bytes(0x4A, Variant::DA7282, Some(it))),
-        _ => None,
-    };
-    let start = Box::new(move |session: &mut [u8]| raw::start(&operation, &stored(), session));
-    Case { name, start, read: 0x96, room, reads, handed }
-}
-
-/// Every operation that can be started, `new` included.
-fn cases() -> Vec<Case> {
-    let new = VARIANTS.iter().map(|variant| Case {
-        name: format!("new {variant:?}"),
-        start: Box::new(|session| raw::new(0x4A, *variant as u8, session)),
-        read: harness::driver::revision(*variant),
-        room: 2,
-        reads: 0,
-        handed: Some(record_bytes(0x4A, *variant, None)),
-    });
-    new.chain(accepted().into_iter().map(case)).collect()
-}
-
-/// A session between two answers.
-#[derive(Clone)]
-struct Point {
-    session: Vec<u8>,
-    buffer: Vec<u8>,
-    /// What is pending, as it is told.
-    pending: u32,
-    made: usize,
-    /// The bytes read last, the latest first.
-    read: [u8; 3],
-}
-
-impl Point {
-    fn len(&self) -> usize {
-        self.pending as usize % 256
-    }
-
-    fn wanted(&self) -> bool {
-        self.pending >> 16 == 1
-    }
-
-    fn ended(&self) -> bool {
-        self.pending == 0
-    }
-
-    fn begin(case: &Case) -> Self {
-        let mut session = vec![MARKER; SESSION];
-        assert_eq!((case.start)(&mut session), 0, "{}", case.name);
-        let pending = raw::pending(&session, &mut []);
-        Self { session, buffer: vec![MARKER; case.room], pending, made: 0, read: [0; 3] }
-    }
-
-    fn answer(&mut self, kind: u8, byte: u8) -> u32 {
-        let told = raw::answer(&mut self.session, kind, byte, &mut self.buffer);
-        self.pending = raw::pending(&self.session, &mut []);
-        told
-    }
-}
-
-/// Visits a session before each of its exchanges and at its end; how many exchanges it has.
-fn walk(case: &Case, mut visit: impl FnMut(&Point)) -> usize {
-    let mut point = Point::begin(case);
-    loop {
-        visit(&point);
-        if point.ended() {
-            return point.made;
-        }
-        let (kind, byte) = match point.wanted() {
-            true => (BYTE, case.read.wrapping_add(point.made as u8)),
-            false => (DONE, 0),
-        };
-        if kind == BYTE {
-            point.read = [byte, point.read[0], point.read[1]];
-        }
-        let told = point.answer(kind, byte);
-        point.made += 1;
-        assert_eq!(told, word(0, 0, point.made, point.ended()), "{}", case.name);
-    }
-}
-
-/// No record is handed back, and none written, whatever is lent.
-fn hands_back_nothing(session: &[u8], what: &str) {
-    for len in [0, 1, RECORD - 1, RECORD, RECORD + 1, 2 * RECORD] {
-        let mut record = vec![MARKER; len];
-        assert_eq!(raw::record(session, &mut record), 0, "{what}, into {len} bytes");
-        assert!(record.iter().all(|byte| *byte == MARKER), "{what}, into {len} bytes");
-    }
-}
-
-/// A record is there at the end of `new` and `configure` and not before, and is written only where it fits; other operations leave the
-/// caller's. `configure` makes 14 to 25 exchanges.
-#[test]
-fn a_record_at_the_end_only() {
-    let (mut points, mut handed, mut most) = (0, 0, 0);
-    for case in cases() {
-        most = most.max(walk(&case, |point| {
-            points += 1;
-            let Some(wanted) = case.handed.filter(|_| point.ended()) else {
-                return hands_back_nothing(&point.session, &case.name);
-            };
-            for len in [0, 1, RECORD - 1, RECORD + 1, 2 * RECORD] {
-                let mut record = vec![MARKER; len];
-                assert_eq!(raw::record(&point.session, &mut record), 0, "{}", case.name);
-                assert!(record.iter().all(|byte| *byte == MARKER), "{}", case.name);
-            }
-            for filling in [0, 0xFF, MARKER] {
-                let mut record = [filling; RECORD];
-                assert_eq!(raw::record(&point.session, &mut record), 1, "{}", case.name);
-                assert_eq!(record, wanted, "{}", case.name);
-            }
-            handed += 1;
-        }));
-    }
-    assert_eq!(most, 100);
-    let shortest = Settings::plain(OperationMode::DRO_MODE, DrivingMode::FREQUENCY_TRACK);
-    let counts = [longest(), shortest].map(|it| walk(&case(Operation::Configure(it)), |_| {}));
-    assert_eq!(counts, [25, 14]);
-    compared("records of unfinished and finished sessions", points, EXCHANGES + CASES);
-    compared("of these handed back", handed, 3 + 4);
-}
-
-/// A result is there at the end and not before: the three bytes read last and how many bytes of memory are read.
-#[test]
-fn a_result_at_the_end_only() {
-    let mut points = 0;
-    for case in cases() {
-        walk(&case, |point| {
-            let [last, before, first] = point.read;
-            let wanted = match point.ended() {
-                true => {
-                    (1 << 32)
-                        + u64::from(u32::from_le_bytes([last, before, first, case.reads as u8]))
-                }
-                false => 0,
-            };
-            assert_eq!(raw::result(&point.session), wanted, "{}", case.name);
-            points += 1;
-        });
-    }
-    compared("results of unfinished and finished sessions", points, EXCHANGES + CASES);
-
-    let mut session = [MARKER; SESSION];
-    assert_eq!(raw::start(&Operation::GetEvents, &stored(), &mut session), 0);
-    for (kind, byte) in [(BYTE, 0xE1), (BYTE, 0xD2), (BYTE, 0xC3), (DONE, 0)] {
-        assert_eq!(raw::result(&session), 0);
-        raw::answer(&mut session, kind, byte, &mut []);
-    }
-    assert_eq!(raw::result(&session), (1 << 32) + 0xE1_D2C3);
-}
-
-/// Nothing is pending, every answer is 19, and there is nothing to hand back.
-fn never_begun(session: &[u8], what: &str) {
+/// Nothing is pending, and every answer is 19 with this count; session, buffer and records of any length stay.
+fn refuses_answers(session: &[u8], made: usize, what: &str) {
     let (mut after, mut bytes, mut buffer) = (session.to_vec(), [MARKER; 40], [MARKER; 100]);
     assert_eq!(raw::pending(session, &mut bytes), 0, "{what}");
-    for kind in [DONE, BYTE, FAILED, 255] {
-        assert_eq!(raw::answer(&mut after, kind, 7, &mut buffer), word(19, 0, 0, true), "{what}");
+    for (kind, len) in [DONE, BYTE, FAILED, 255].into_iter().zip([RECORD, RECORD, RECORD, 0]) {
+        let mut record = vec![MARKER; len];
+        let told = raw::answer(&mut record, &mut after, kind, 7, &mut buffer);
+        assert_eq!(told, word(19, 0, made, true), "{what}");
+        assert_eq!(record, vec![MARKER; len], "{what}");
     }
     assert!(after == session && bytes == [MARKER; 40] && buffer == [MARKER; 100], "{what}");
-    hands_back_nothing(session, what);
-    assert_eq!(raw::result(session), 1 << 32, "{what}");
-}
-
-/// A session of zeros was never begun.
-#[test]
-fn a_session_of_zeros() {
-    never_begun(&[0; SESSION], "zeros");
 }
 
 /// All 256 codes at every exchange of every operation, by every kind above 1 in turn: 17, the code, the count with the failed
-/// exchange, ended; the buffer stays, nothing is pending, there is no record and no result, and every later answer is 19.
+/// exchange, ended; buffer and record stay, nothing is pending, the result has the count alone, and every later answer is 19.
 #[test]
 fn every_failure_code_at_every_exchange() {
     let mut failures = 0;
@@ -270,12 +41,14 @@ fn every_failure_code_at_every_exchange() {
                 let told = after.answer(kind, code);
                 assert_eq!(told, word(17, code, point.made + 1, true), "{}", case.name);
                 assert!(after.ended() && after.buffer == point.buffer, "{}", case.name);
-                hands_back_nothing(&after.session, &case.name);
-                assert_eq!(raw::result(&after.session), 0, "{}", case.name);
+                assert_eq!(after.record, point.record, "{}", case.name);
+                let result = result_word(0, point.made + 1, false);
+                assert_eq!(raw::result(&after.session), result, "{}", case.name);
                 let broken = after.clone();
                 let told = after.answer(code % 4, code);
                 assert_eq!(told, word(19, 0, point.made + 1, true), "{}", case.name);
                 assert!(after.session == broken.session && after.buffer == broken.buffer);
+                assert_eq!((after.record, raw::result(&after.session)), (broken.record, result));
                 failures += 1;
             }
         });
@@ -284,8 +57,8 @@ fn every_failure_code_at_every_exchange() {
 }
 
 /// Answers that do not fit, at every point of every operation: done for a read, a byte for a write, any answer after the end, and
-/// where memory is read any answer with a buffer of another length, a failure too: 19, and session, buffer, count and what is
-/// pending stay. Elsewhere a buffer of any length is fine.
+/// where memory is read any answer with a buffer of another length, a failure too: 19, and record, session, buffer, count, result and
+/// what is pending stay. Elsewhere a buffer of any length is fine.
 #[test]
 fn answers_out_of_turn() {
     let mut refused = 0;
@@ -299,6 +72,8 @@ fn answers_out_of_turn() {
                     format!("{}, {} made, kind {kind}, buffer {room}", case.name, point.made);
                 assert_eq!(told, word(19, 0, point.made, point.ended()), "{what}");
                 assert!(after.session == point.session && after.pending == point.pending, "{what}");
+                assert_eq!(after.record, point.record, "{what}");
+                assert_eq!(raw::result(&after.session), raw::result(&point.session), "{what}");
                 assert!(after.buffer.iter().all(|it| *it == byte ^ 0x55), "{what}");
                 refused += 1;
             };
@@ -336,22 +111,23 @@ fn answers_out_of_turn() {
     compared("answers out of turn", refused, 20_380);
 }
 
-/// 16 ends `new` at every byte that is not the variant's, but is told after 19; the byte is counted, and there is no record and no
-/// result.
+/// 16 ends `new` at every byte that is not the variant's, but is told after 19; the byte is counted, the record stays, and the result
+/// has the count alone.
 #[test]
 fn a_mismatch_is_told_after_an_answer_out_of_turn() {
     let mut mismatches = 0;
     for variant in VARIANTS {
         for byte in (0..=255).filter(|byte| *byte != harness::driver::revision(variant)) {
-            let mut session = [MARKER; SESSION];
+            let (mut record, mut session) = ([MARKER; RECORD], [MARKER; SESSION]);
             assert_eq!(raw::new(9, variant as u8, &mut session), 0);
-            assert_eq!(raw::answer(&mut session, DONE, byte, &mut []), word(19, 0, 0, false));
-            assert_eq!(raw::answer(&mut session, BYTE, byte, &mut []), word(16, 0, 1, true));
-            assert_eq!(raw::answer(&mut session, BYTE, byte, &mut []), word(19, 0, 1, true));
-            assert_eq!(raw::answer(&mut session, FAILED, byte, &mut []), word(19, 0, 1, true));
-            assert_eq!(raw::pending(&session, &mut [0; 40]), 0);
-            hands_back_nothing(&session, "a mismatch");
-            assert_eq!(raw::result(&session), 0);
+            let mut answer = |kind| raw::answer(&mut record, &mut session, kind, byte, &mut []);
+            assert_eq!(answer(DONE), word(19, 0, 0, false));
+            assert_eq!(answer(BYTE), word(16, 0, 1, true));
+            assert_eq!(answer(BYTE), word(19, 0, 1, true));
+            assert_eq!(answer(FAILED), word(19, 0, 1, true));
+            assert_eq!(record, [MARKER; RECORD]);
+            refuses_answers(&session, 1, "a mismatch");
+            assert_eq!(raw::result(&session), result_word(0, 1, false));
             mismatches += 1;
         }
     }
@@ -368,19 +144,21 @@ fn memory_goes_to_the_buffer_of_each_answer() {
         assert_eq!(raw::start(&operation, &stored(), &mut session), 0);
         let count = len.min(room).min(100);
         for at in 0..count {
-            assert_eq!(raw::result(&session), 0);
+            assert_eq!(raw::result(&session), result_word(0, at, false));
             let mut sent = [MARKER; 40];
             assert_eq!(raw::pending(&session, &mut sent), 1 + 256 * 0x4A + 65536);
             assert_eq!(sent[..2], [0x84 + at as u8, MARKER]);
             let mut buffer = vec![at as u8; room];
-            let told = raw::answer(&mut session, BYTE, 0xF0 ^ at as u8, &mut buffer);
+            let (mut record, byte) = (stored(), 0xF0 ^ at as u8);
+            let told = raw::answer(&mut record, &mut session, BYTE, byte, &mut buffer);
             assert_eq!(told, word(0, 0, at + 1, at + 1 == count));
+            assert_eq!(record, stored());
             let mut wanted = vec![at as u8; room];
-            wanted[at] = 0xF0 ^ at as u8;
+            wanted[at] = byte;
             assert_eq!(buffer, wanted);
             bytes += 1;
         }
-        assert_eq!(raw::result(&session) >> 24, 256 + count as u64);
+        assert_eq!(raw::result(&session), result_word(count as u32, count, true));
     }
     compared("bytes of memory", bytes, 1 + 3 + 3 + 100 + 100);
 }
@@ -395,10 +173,10 @@ fn every_bit_of_the_buffer_length_counts() {
         let operation = Operation::ReadWaveformMemory(2, said);
         assert_eq!(raw::start(&operation, &stored(), &mut session), 0);
         for kind in [DONE, BYTE, FAILED] {
-            let (mut after, mut buffer) = (session, [MARKER; 5]);
-            let told = raw::answer(&mut after, kind, 1, &mut buffer);
+            let (mut record, mut after, mut buffer) = (stored(), session, [MARKER; 5]);
+            let told = raw::answer(&mut record, &mut after, kind, 1, &mut buffer);
             assert_eq!(told, word(19, 0, 0, false), "5 bytes for {said}");
-            assert!(after == session && buffer == [MARKER; 5]);
+            assert!(record == stored() && after == session && buffer == [MARKER; 5]);
             lengths += 1;
         }
     }
@@ -413,7 +191,7 @@ fn pending_into_buffers_of_every_length() {
         walk(&case, |point| {
             let mut whole = [MARKER; 40];
             assert_eq!(raw::pending(&point.session, &mut whole), point.pending, "{}", case.name);
-            assert!(point.len() <= 33 && (point.len() == 1) == point.wanted(), "{}", case.name);
+            assert!(point.sends() <= 33 && (point.sends() == 1) == point.wanted(), "{}", case.name);
             let address = if point.ended() { 0 } else { 0x4A };
             assert_eq!(point.pending >> 8 & 255, address, "{}", case.name);
             for len in 0..40 {
@@ -421,7 +199,7 @@ fn pending_into_buffers_of_every_length() {
                     let mut bytes = vec![marker; len];
                     assert_eq!(raw::pending(&point.session, &mut bytes), point.pending);
                     let mut wanted = vec![marker; len];
-                    let fits = len.min(point.len());
+                    let fits = len.min(point.sends());
                     wanted[..fits].copy_from_slice(&whole[..fits]);
                     assert_eq!(bytes, wanted, "{}", case.name);
                     copies += 1;
@@ -464,7 +242,8 @@ fn a_refused_start_writes_nothing() {
             assert_eq!(raw::start(operation, record, &mut session), *number, "{operation:?}");
             assert_eq!(session, [filling; SESSION], "{operation:?}");
             if filling == 0 {
-                never_begun(&session, &format!("{operation:?}"));
+                refuses_answers(&session, 0, &format!("{operation:?}"));
+                assert_eq!(raw::result(&session), 0, "{operation:?}");
             }
         }
     }
@@ -480,8 +259,8 @@ fn a_refused_start_writes_nothing() {
     }
 }
 
-/// A session of another length: a start answers as for a session and leaves it alone, nothing is pending, every answer is 19,
-/// there is no record and no result.
+/// A session of another length: a start answers as for a session and leaves it alone, nothing is pending, every answer is 19 and
+/// leaves the record, and the result is 0.
 #[test]
 fn sessions_of_another_length() {
     let mut lengths = 0;
@@ -493,15 +272,7 @@ fn sessions_of_another_length() {
                 assert_eq!((case.start)(&mut session), 0, "{}", case.name);
             }
             assert_eq!(raw::start(&refused, &stored(), &mut session), 11);
-            let mut bytes = [MARKER; 40];
-            assert_eq!(raw::pending(&session, &mut bytes), 0);
-            assert_eq!(bytes, [MARKER; 40]);
-            let mut buffer = [MARKER; 100];
-            for kind in [DONE, BYTE, FAILED, 255] {
-                assert_eq!(raw::answer(&mut session, kind, 7, &mut buffer), word(19, 0, 0, true));
-            }
-            assert_eq!(buffer, [MARKER; 100]);
-            hands_back_nothing(&session, "another length");
+            refuses_answers(&session, 0, "another length");
             assert_eq!(raw::result(&session), 0);
             assert!(session.iter().all(|byte| *byte == filling));
             lengths += 1;
@@ -636,39 +407,8 @@ fn codes_past_the_last() {
     compared("codes past the last", cases, 6 * (1526 + 3 * 764) + 256 * (CASES - 3) + 4 * 254);
 }
 
-/// The settings that these bytes are, in the bytes that the library stores.
-fn canonical(bytes: &[u8]) -> [u8; 34] {
-    let mut settings: [u8; 34] = bytes.try_into().unwrap();
-    for (at, last) in [(0, 1), (13, 1), (18, 4), (19, 2), (32, 1), (33, 1)] {
-        settings[at] = settings[at].min(last);
-    }
-    if settings[13] == 0 {
-        settings[14..18].fill(0);
-    }
-    for trigger in settings[20..32].chunks_exact_mut(4) {
-        match *trigger {
-            [0, ..] => trigger.fill(0),
-            [_, number, polarity, mode] => {
-                trigger.copy_from_slice(&[1, number, polarity.min(2), mode.min(1)]);
-            }
-            _ => unreachable!(),
-        }
-    }
-    settings
-}
-
-/// The record that these bytes are, in the bytes that the library hands back.
-fn canonical_record(bytes: &[u8]) -> [u8; RECORD] {
-    let mut record = [0; RECORD];
-    record[..3].copy_from_slice(&[bytes[0], bytes[1].min(2), bytes[2].clamp(1, 2)]);
-    if record[2] == 2 {
-        record[3..].copy_from_slice(&canonical(&bytes[3..]));
-    }
-    record
-}
-
 /// Any bytes are a record and any are settings: every operation is begun as from the record that they are, in the bytes that the
-/// library hands back; `configure` hands back the record with its settings, and no other operation does.
+/// library writes; `configure` stores its settings in it by the last answer, and no other operation writes to it.
 #[test]
 fn any_bytes_are_a_record() {
     let mut random = Random::new(0x2ECD);
@@ -689,62 +429,73 @@ fn any_bytes_are_a_record() {
         let (stored, settings) = (bytes(longest()), bytes(longest()));
         let record =
             [&[random.byte(), random.near(&[0, 1, 2, 3]), random.near(&[0, 1, 2, 3])], &stored[..]];
-        let record = record.concat();
-        let mut wanted = canonical_record(&record);
+        let mut record = record.concat();
+        let same_record = canonical_record(&record);
 
         let (mut session, mut same) = ([MARKER; SESSION], [MARKER; SESSION]);
-        let (number, room, makes) = match random.below(3) {
+        let (number, room, stores) = match random.below(3) {
             0 => {
                 let number = raw::configure(&record, &settings, &mut session);
-                let settings = canonical(&settings);
-                assert_eq!(raw::configure(&wanted, &settings, &mut same), number);
-                wanted[2] = 2;
-                wanted[3..].copy_from_slice(&settings);
-                (number, 0, true)
+                let told = raw::configure(&same_record, &canonical(&settings), &mut same);
+                assert_eq!(told, number);
+                (number, 0, Stores::configured(&record, &settings))
             }
             _ => {
                 let operation = &operations[random.within(1, operations.len() - 1)];
                 let number = raw::start(operation, &record, &mut session);
-                assert_eq!(raw::start(operation, &wanted, &mut same), number, "{operation:?}");
-                let makes = matches!(operation, Operation::Configure(_));
-                if let Operation::Configure(settings) = operation {
-                    wanted[2] = 2;
-                    wanted[3..].copy_from_slice(&settings.encode());
-                }
-                (number, operation.room(), makes)
+                assert_eq!(raw::start(operation, &same_record, &mut same), number, "{operation:?}");
+                let stores = match operation {
+                    Operation::Configure(it) => Stores::configured(&record, &it.encode()),
+                    _ => Stores::Nothing,
+                };
+                (number, operation.room(), stores)
             }
         };
         assert_eq!(session, same, "{record:02X?}");
         if number == 0 {
-            let mut buffer = vec![MARKER; room];
+            let (mut buffer, lent) = (vec![MARKER; room], record.clone());
             let mut pending = raw::pending(&session, &mut []);
             while pending != 0 {
-                assert_eq!(pending >> 8 & 255, record[0].into());
-                raw::answer(&mut session, (pending >> 16) as u8, random.byte(), &mut buffer);
+                assert_eq!((pending >> 8 & 255, &record), (lent[0].into(), &lent));
+                let (kind, byte) = ((pending >> 16) as u8, random.byte());
+                raw::answer(&mut record, &mut session, kind, byte, &mut buffer);
                 pending = raw::pending(&session, &mut []);
             }
-            let mut handed = [MARKER; RECORD];
-            assert_eq!(raw::record(&session, &mut handed), u8::from(makes));
-            let wanted = if makes { wanted } else { [MARKER; RECORD] };
-            assert_eq!(handed, wanted, "{record:02X?}");
-            begun[usize::from(makes)] += 1;
+            assert_eq!(record, stores.after(&lent), "{lent:02X?}");
+            begun[usize::from(stores != Stores::Nothing)] += 1;
         }
         cases += 1;
     }
     compared("bytes of records and settings", cases, 100_000);
-    compared("of these begun, without a record", begun[0], 58_692);
-    compared("and with one", begun[1], 18_910);
+    compared("of these begun, that store nothing", begun[0], 58_692);
+    compared("and that store settings", begun[1], 18_910);
+}
+
+/// The stage of a session that was begun, the offsets of what is looked at below, and what an operation is for: this test alone knows
+/// how a session is laid out.
+const BEGUN: u8 = 1;
+const PURPOSE: usize = 16;
+const FOR: usize = 117;
+
+/// What the last answer of a session with these bytes does to the record.
+fn forged(session: &[u8], lent: &[u8]) -> Vec<u8> {
+    let made = canonical_record(&session[FOR..FOR + RECORD]);
+    match session[PURPOSE] {
+        1 if lent.len() == RECORD => made.to_vec(),
+        2 if lent.len() == RECORD && chip(lent) == chip(&made) => made.to_vec(),
+        _ => lent.to_vec(),
+    }
 }
 
 /// Any bytes are a session: random ones, and those of sessions damaged at some bytes. Every call comes back; what is pending has at
 /// most 33 bytes and at most one wanted; an answer is told as the header says and counts one exchange or changes nothing; at
-/// most one byte of the buffer changes, and only for a byte that was wanted; it ends after at most 125 exchanges. A record and a result
-/// are there where it ended unbroken, the record only if it holds one, and as the library writes it.
+/// most one byte of the buffer changes, and only for a byte that was wanted; it ends after at most 125 exchanges. The record changes by
+/// the answer that completes the session alone, and the result has the count.
 #[test]
 fn any_bytes_are_a_session() {
     let mut random = Random::new(0xF0E6);
     let cases = cases();
-    let (mut states, mut handed) = (0, 0);
+    let (mut states, mut completed, mut written) = (0, 0, 0);
     for state in 0..60_000 {
         let mut session: Vec<u8> = match state % 4 {
             0 => (0..SESSION).map(|_| random.byte()).collect(),
@@ -757,15 +508,16 @@ fn any_bytes_are_a_session() {
                 (cases[random.below(cases.len())].start)(&mut session);
                 for _ in 0..random.within(1, 6) {
                     let at =
-                        if random.chance(60) { random.below(16) } else { random.below(SESSION) };
+                        if random.chance(60) { random.below(17) } else { random.below(SESSION) };
                     session[at] = random.near(&[0, 1, 2, 25, 26, 99, 100, 101, 124, 125, 126, 255]);
                 }
                 session
             }
         };
         if state % 4 == 0 {
-            // Else most of them have ended.
-            (session[1], session[2]) = (0, random.below(130) as u8);
+            // Else most of them have ended, and are for nothing.
+            (session[1], session[2]) = (BEGUN, random.below(130) as u8);
+            session[PURPOSE] = random.below(7) as u8;
         }
         let mut made = None;
         for _ in 0..130 {
@@ -776,22 +528,18 @@ fn any_bytes_are_a_session() {
             assert!(if len == 0 { pending == 0 } else { address == session[0] });
             assert!(bytes[bytes.len().min(len.into())..].iter().all(|it| *it == MARKER));
 
-            let mut record = vec![MARKER; random.pick(&[0, 36, 37, 37, 37, 38])];
-            let written = raw::record(&session, &mut record);
-            let completed = session.len() == SESSION && session[1] == 0 && len == 0;
-            let holds = completed && session[118] > 0 && record.len() == RECORD;
-            assert_eq!(written, u8::from(holds));
-            if holds {
-                assert_eq!(record, canonical_record(&session[116..116 + RECORD]));
-                handed += 1;
-            } else {
-                assert!(record.iter().all(|it| *it == MARKER));
-            }
-            let result = match completed {
-                true => [session[3], session[4], session[5], session[7].min(100), 1, 0, 0, 0],
-                false => [0; 8],
+            let result = raw::result(&session);
+            let is_session = session.len() == SESSION;
+            let completes = is_session && session[1] == BEGUN && len == 0;
+            let value = match session.get(PURPOSE) {
+                Some(3) if completes => session[3].into(),
+                Some(4) if completes => u32::from_be_bytes([0, session[5], session[4], session[3]]),
+                Some(5) if completes => session[7].min(100).into(),
+                _ => 0,
             };
-            assert_eq!(raw::result(&session).to_le_bytes(), result);
+            let count = if is_session && session[1] != 0 { session[2].into() } else { 0 };
+            assert_eq!(result, result_word(value, count, completes));
+            completed += usize::from(completes);
 
             let room = u64::from_le_bytes(match session.get(8..16) {
                 Some(bytes) => bytes.try_into().unwrap(),
@@ -800,11 +548,15 @@ fn any_bytes_are_a_session() {
             let room = if room <= 300 { room as usize } else { random.below(120) };
             let room = if random.chance(90) { room } else { room + 1 };
             let mut buffer = vec![MARKER; room];
-            let before = session.clone();
+            let mut lent = vec![MARKER; random.pick(&[0, 36, 37, 37, 37, 38])];
+            if is_session && lent.len() == RECORD && random.chance(80) {
+                (lent[0], lent[1]) = (session[FOR], session[FOR + 1]);
+            }
+            let (before, mut record) = (session.clone(), lent.clone());
             let fits = if wanted == 1 { BYTE } else { DONE };
             let kind = if random.chance(90) { fits } else { random.byte() };
             let byte = random.byte();
-            let told = raw::answer(&mut session, kind, byte, &mut buffer);
+            let told = raw::answer(&mut record, &mut session, kind, byte, &mut buffer);
             let [number, code, count, ended] = told.to_le_bytes();
             assert!(matches!(number, 0 | 16 | 17 | 19) && ended <= 1);
             assert_eq!(code, if number == 17 { byte } else { 0 });
@@ -821,6 +573,9 @@ fn any_bytes_are_a_session() {
                 assert!((kind > 1) == (number == 17) && count <= 125);
                 assert!(ended == 1 || number == 0);
             }
+            let last = number == 0 && ended == 1;
+            assert_eq!(record, if last { forged(&session, &lent) } else { lent.clone() });
+            written += usize::from(record != lent);
             made = Some(count);
             if len == 0 {
                 break;
@@ -829,5 +584,6 @@ fn any_bytes_are_a_session() {
         states += 1;
     }
     compared("forged sessions", states, 60_000);
-    compared("of these with a record", handed, 1_900);
+    compared("of these completed", completed, 17_532);
+    compared("of these that wrote a record", written, 209);
 }

@@ -162,30 +162,34 @@ fn tables_are_the_published_fields() {
     compared("named fields", named, 89);
 }
 
+/// The rows `entry "NAME" address` are the published names and addresses, in order.
 #[test]
 fn addresses_are_the_published_ones() {
     let words = words("crates/registers/specs/Addresses.antt");
-    let at = words.windows(2).position(|it| it[0] == "addresses" && it[1] == "=");
-    let listed: Vec<u8> = words[at.expect("a definition of addresses") + 2..]
-        .iter()
-        .take_while(|word| *word != "[]")
-        .filter(|word| *word != "∷")
-        .map(|word| number(word) as u8)
+    let listed: Vec<(String, u8)> = words
+        .windows(3)
+        .filter(|it| it[0] == "entry" && it[1].starts_with('"'))
+        .map(|it| (it[1].trim_matches('"').to_string(), number(&it[2]) as u8))
         .collect();
-    let published = published_addresses();
-    let wanted: Vec<u8> = published.iter().map(|(_, address)| *address).collect();
-    assert_eq!(listed, wanted);
+    assert_eq!(listed, published_addresses());
     compared("addresses", listed.len(), 42);
 }
 
-/// Each constant of `Register` has the address that the published text gives its name, and `all` goes through them in order.
+/// Each constant of `Register` has the address that the published text gives its name, and `all` goes through them in order, as
+/// do the calls of `named`, each with a constant and its own name.
 #[test]
 fn constants_are_the_published_addresses() {
     let text = text("crates/registers/src/lib.rt");
     let mut constants = Vec::new();
     let mut order = Vec::new();
+    let mut named = Vec::new();
     for line in text.lines().map(str::trim) {
-        if let Some(rest) = line.strip_prefix("pub const ") {
+        if let Some(rest) = line.strip_prefix("named(b\"") {
+            let (name, constant) =
+                rest.strip_suffix(");").unwrap().split_once("\", Register::").unwrap();
+            assert_eq!(name, constant);
+            named.push(name.to_string());
+        } else if let Some(rest) = line.strip_prefix("pub const ") {
             let (name, value) = rest.split_once(": Register = Register(0x").unwrap();
             let value = u8::from_str_radix(value.strip_suffix(");").unwrap(), 16).unwrap();
             constants.push((name.to_string(), value));
@@ -197,6 +201,7 @@ fn constants_are_the_published_addresses() {
     assert_eq!(constants, published);
     let names: Vec<_> = published.into_iter().map(|(name, _)| name).collect();
     assert_eq!(order, names);
+    assert_eq!(named, names);
     compared("constants of Register", constants.len(), 42);
 }
 

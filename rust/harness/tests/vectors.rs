@@ -80,7 +80,7 @@ fn a_33rd_frame() {
 }
 
 /// What a session writes to these registers, where all registers read 0.
-fn written<const N: usize>(mut session: Session, registers: [u8; N]) -> [u8; N] {
+fn written<const N: usize>(mut session: Session<'_>, registers: [u8; N]) -> [u8; N] {
     let mut written = [None; 256];
     while let Some(exchange) = session.pending() {
         if let [register, value] = *exchange.bytes() {
@@ -97,8 +97,8 @@ fn written<const N: usize>(mut session: Session, registers: [u8; N]) -> [u8; N] 
 #[test]
 fn settings() {
     let plain = Settings::plain(OperationMode::DRO_MODE, DrivingMode::FREQUENCY_TRACK);
-    let driver = DA728x::from_bytes(record_bytes(0x4A, Variant::DA7281, Some(&plain)));
-    let volts_and_current = |absolute, current| {
+    let mut driver = DA728x::from_bytes(record_bytes(0x4A, Variant::DA7281, Some(&plain)));
+    let mut volts_and_current = |absolute, current| {
         let mut actuator = plain.actuator;
         (actuator.absolute_max_mV, actuator.max_current_mA) = (absolute, current);
         written(driver.configure(actuator, plain.device).unwrap(), [0x0C, 0x0D, 0x0E])

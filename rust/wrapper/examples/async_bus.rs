@@ -25,7 +25,11 @@ fn code(kind: ErrorKind) -> u8 {
 }
 
 /// Makes the exchanges of a session on the bus. Lent, the session stands once in the task.
-async fn run(i2c: &mut impl I2c, session: &mut Session, buffer: &mut [u8]) -> Result<(), Refusal> {
+async fn run(
+    i2c: &mut impl I2c,
+    session: &mut Session<'_>,
+    buffer: &mut [u8],
+) -> Result<(), Refusal> {
     while let Some(exchange) = session.pending() {
         let (address, mut byte) = (exchange.address(), [0]);
         let made = match exchange.wanted() {
@@ -38,14 +42,18 @@ async fn run(i2c: &mut impl I2c, session: &mut Session, buffer: &mut [u8]) -> Re
     Ok(())
 }
 
-/// Runs an operation and, when the bus fails, starts it anew: at most three times in all. The
-/// record to go on with, if the operation makes one.
-async fn retried(i2c: &mut impl I2c, start: impl Fn() -> Started) -> Result<Option<DA728x>, Error> {
+/// Runs an operation and, when the bus fails, starts it anew: at most three times in all. How many
+/// exchanges the last try made.
+async fn retried(
+    i2c: &mut impl I2c,
+    driver: &mut DA728x,
+    start: impl Fn(&mut DA728x) -> Started<'_>,
+) -> Result<u8, Error> {
     let mut tries = 1;
     loop {
-        let mut session = start()?;
+        let mut session = start(driver)?;
         match run(i2c, &mut session, &mut []).await {
-            Ok(()) => return Ok(session.record()),
+            Ok(()) => return Ok(session.made()),
             Err(Refusal { error: Error::I2c(code), made, .. }) if tries < 3 => {
                 println!("  the bus failed with code {code} at exchange {made}: once more");
             }
@@ -98,11 +106,11 @@ fn image() -> Result<[u8; IMAGE], Error> {
 }
 
 /// Uploads the image, and reads the memory back.
-async fn fill(chip: &mut Chip, driver: &DA728x, image: &[u8]) -> Result<(), Error> {
+async fn fill(chip: &mut Chip, driver: &mut DA728x, image: &[u8]) -> Result<(), Error> {
     println!("upload, of which the fourth exchange is lost:");
     chip.fail(4, ErrorKind::ArbitrationLoss);
-    retried(chip, || driver.upload_waveform_memory(image, true)).await?;
-    assert_eq!(chip.transfers, 4 + 6);
+    let made = retried(chip, driver, |it| it.upload_waveform_memory(image, true)).await?;
+    assert_eq!((made, chip.transfers), (6, 4 + 6));
     assert_eq!(chip.registers[0x84..0xE8], *image);
     println!("  uploaded");
 
@@ -110,7 +118,7 @@ async fn fill(chip: &mut Chip, driver: &DA728x, image: &[u8]) -> Result<(), Erro
     let mut memory = [0; IMAGE];
     let mut session = driver.read_waveform_memory(IMAGE, memory.len());
     run(chip, &mut session, &mut memory).await?;
-    assert_eq!(session.read_count(), Some(IMAGE));
+    assert_eq!((session.read_count(), session.made()), (Some(IMAGE), 100));
     assert_eq!(memory, *image);
     println!("  {} snippets, {} sequence", read_counts(&memory)?.0, read_counts(&memory)?.1);
     Ok(())
@@ -122,29 +130,29 @@ async fn switch_on(chip: &mut Chip) -> Result<(), Error> {
     let mut session = DA728x::new(ADDRESS, Variant::DA7281);
     let refused = run(chip, &mut session, &mut []).await.unwrap_err();
     assert_eq!((refused.error.number(), refused.made), (16, 1));
-    assert_eq!(session.record(), None);
+    assert_eq!(session.found(), None);
     println!("  refused with {}: {refused}", refused.error.number());
 
     println!("new, for a DA7280:");
-    let driver = retried(chip, || Ok(DA728x::new(ADDRESS, Variant::DA7280))).await?;
-    let driver = driver.expect("new makes a record");
+    let mut session = DA728x::new(ADDRESS, Variant::DA7280);
+    run(chip, &mut session, &mut []).await?;
+    let mut driver = session.found().expect("new makes a driver");
     println!("  found");
 
     println!("configure, of which the fifth exchange is not acknowledged:");
     assert_eq!(driver.enable(), Err(Error::NotConfigured));
     chip.fail(5, ErrorKind::NoAcknowledge(NoAcknowledgeSource::Address));
-    let driver = retried(chip, || driver.configure(ACTUATOR, DEVICE)).await?;
-    let driver = driver.expect("configure makes a record");
-    assert_eq!(chip.transfers, 5 + 14);
+    let made = retried(chip, &mut driver, |it| it.configure(ACTUATOR, DEVICE)).await?;
+    assert_eq!((made, chip.transfers), (14, 5 + 14));
     assert_eq!(chip.registers[0x0C..0x0F], [106, 149, 18]); // ACTUATOR1, 2 and 3
     assert_eq!(driver.as_bytes()[3..21], ACTUATOR.encode());
     println!("  configured");
 
-    fill(chip, &driver, &image()?).await?;
+    fill(chip, &mut driver, &image()?).await?;
 
     println!("play sequence 0:");
-    retried(chip, || driver.enable()).await?;
-    retried(chip, || driver.play_sequence(0, 2)).await?;
+    retried(chip, &mut driver, |it| it.enable()).await?;
+    retried(chip, &mut driver, |it| it.play_sequence(0, 2)).await?;
     assert_eq!((chip.registers[0x28], chip.registers[0x22]), (0x20, 0x13)); // SEQ_CTL2, TOP_CTL1
     println!("  started, two loops");
     Ok(())
@@ -266,8 +274,8 @@ fn main() {
         run(chip, &mut session, &mut []).await
     };
     let size = size_of_val(&task(&mut chip));
-    assert_eq!((size_of::<Session>(), size_of::<DA728x>()), (278, 37));
-    println!("  a session is 278 bytes, a task that runs one over this bus {size}");
+    assert_eq!((size_of::<Session>(), size_of::<DA728x>()), (320, 37));
+    println!("  a session is 320 bytes, a task that runs one over this bus {size}");
     assert!(size < 1024, "a task of {size} bytes");
 }
 

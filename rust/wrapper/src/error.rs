@@ -36,7 +36,7 @@ pub enum Error {
     EmptySnippet,
     /// 10: no frames, or no sequences, to build from.
     EmptySequence,
-    /// 11: a setting is out of range.
+    /// 11: a setting or an argument is out of range.
     InvalidValue,
     /// 12: the operation does not fit the mode.
     WrongMode,
@@ -52,7 +52,7 @@ pub enum Error {
     I2c(u8),
     /// 18: the bytes are no image.
     NotAnImage,
-    /// 19: an answer does not fit the pending exchange.
+    /// 19: an answer does not fit, none is pending, or the read buffer's length has changed.
     OutOfTurn,
 }
 

@@ -200,6 +200,8 @@ unsafe extern "C" {
         bytes_len: usize,
     ) -> u32;
     pub fn da728x_answer(
+        record: *mut u8,
+        record_len: usize,
         session: *mut u8,
         session_len: usize,
         kind: u8,
@@ -207,11 +209,5 @@ unsafe extern "C" {
         buffer: *mut u8,
         buffer_len: usize,
     ) -> u32;
-    pub fn da728x_record(
-        session: *const u8,
-        session_len: usize,
-        record: *mut u8,
-        record_len: usize,
-    ) -> u8;
     pub fn da728x_result(session: *const u8, session_len: usize) -> u64;
 }

@@ -7,10 +7,10 @@ use Rattle.example_chip.proofs.exchanges.Statement.{statement}
 use Rattle.example_chip.proofs.exchanges.Tie as tie
 
 abbrev Inv-loop : tie.InvT-loop
-Inv-loop session₀ chip₀ fails i₀ session chip i = (i ≤ 125) × (length session ≡ length session₀) × (length chip ≡ length chip₀)
+Inv-loop session₀ chip₀ fails record₀ i₀ session chip «record» i = (i ≤ 125) × (length session ≡ length session₀) × (length chip ≡ length chip₀)
 
 abbrev μ-loop : tie.MeasureT-loop
-μ-loop session₀ chip₀ fails i₀ session chip i = 125 - i
+μ-loop session₀ chip₀ fails record₀ i₀ session chip «record» i = 125 - i
 
 pub exchanges-spec : {M : Type 1} → statement M
 exchanges-spec =

@@ -7,10 +7,10 @@ use Rattle.vectors_sessions.proofs.turns.Statement.{statement}
 use Rattle.vectors_sessions.proofs.turns.Tie as tie
 
 abbrev Inv-loop : tie.InvT-loop
-Inv-loop session₀ exchanges told buffer₀ s₀ i₀ session buffer s i = (i ≤ 128) × (length session ≡ length session₀) × (length buffer ≡ length buffer₀)
+Inv-loop record₀ session₀ exchanges told buffer₀ s₀ i₀ «record» session buffer s i = (i ≤ 128) × (length «record» ≡ length record₀) × (length session ≡ length session₀) × (length buffer ≡ length buffer₀)
 
 abbrev μ-loop : tie.MeasureT-loop
-μ-loop session₀ exchanges told buffer₀ s₀ i₀ session buffer s i = 128 - i
+μ-loop record₀ session₀ exchanges told buffer₀ s₀ i₀ «record» session buffer s i = 128 - i
 
 returns : tie.Need-returns Inv-loop μ-loop
 returns c = search needs
@@ -23,6 +23,7 @@ turns-spec =
     μ-loop
     (λ c. search needs)
     (λ c κs. search needs)
+    (λ c. search needs)
     (λ c. search needs)
     (λ c. search needs)
     (λ c. search needs)

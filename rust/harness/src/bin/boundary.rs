@@ -29,6 +29,7 @@ fn main() {
     let tally = boundary.tally();
     tally.lines().iter().for_each(|line| println!("{line}"));
     println!("{} exchanges, {} sessions answered to their end", tally.exchanges, tally.finished);
+    println!("{} records made, {} with settings stored", tally.made, tally.stored);
     tally.assert_all_seen();
     println!("{} calls, each told and left what is listed", tally.calls());
 }

@@ -16,7 +16,7 @@ use harness::lists::MARKER;
 use harness::oracle::{Builders, NOT_BEGUN, number, point};
 use harness::patterns;
 use harness::random::Random;
-use harness::raw::LISTS;
+use harness::raw::{LISTS, result_word};
 use harness::registers::{ADDRESSES, Field, GROUPS};
 use harness::settings::{MEMORY_TIMEBASES, Settings, VARIANTS, near};
 use harness::text;
@@ -92,7 +92,9 @@ Kind 0A: the image, the word of read_counts, then three bytes of read_point for 
 point; then eight bytes of read_frame for each frame likewise.
 Kinds 20 to 31, sessions: the record, the numbers among the arguments, the settings or the image, the
 number of the refusal or 00, the exchanges, the word that the last answer is told, the read buffer,
-the record handed back, the word of result. An exchange is the chip address; how many bytes are
+the record after it, the word of result. The record is lent with the start and with each answer;
+kind 20 has none at the start, and 37 bytes A5 are lent with its answer. A record after it of no
+bytes says that the one lent stays as it was. An exchange is the chip address; how many bytes are
 sent, plus 80 if a byte is wanted, plus 40 if the bus fails; the bytes sent; the byte read or the
 bus's code, if there is one.
 ";
@@ -536,9 +538,9 @@ fn made(random: &mut Random) -> Vec<Vec<u8>> {
         _ => random.byte(),
     };
     let (outcome, driver) = Published::new(address, variant, &script);
-    let handed = driver.map(|_| record(address, variant, None));
+    let after = driver.map(|_| record(address, variant, None));
     let input = vec![vec![], vec![address, code(variant)], vec![]];
-    [input, session(&outcome, &script, lent(1), handed)].concat()
+    [input, session(&outcome, &script, lent(1), after)].concat()
 }
 
 /// An operation on a driver with settings or without.
@@ -563,11 +565,9 @@ fn operated(kind: u8, random: &mut Random) -> Vec<Vec<u8>> {
         Operation::ReadWaveformMemory(..) => outcome.buffer().to_vec(),
         _ => lent(1),
     };
-    let handed = match operation {
-        Operation::Configure(_) => Some(record(address, variant, driver.stored.as_ref())),
-        _ => None,
-    };
-    [vec![before, arguments, input], session(&outcome, &script, buffer, handed)].concat()
+    let after = record(address, variant, driver.stored.as_ref());
+    let after = (after != before).then_some(after);
+    [vec![before, arguments, input], session(&outcome, &script, buffer, after)].concat()
 }
 
 /// A random operation, and about how many exchanges it makes.
@@ -632,17 +632,16 @@ fn arguments(operation: &Operation) -> (Vec<u8>, Vec<u8>) {
     }
 }
 
-/// The fields of what an operation came to on this script.
+/// The fields of what an operation came to on this script, and what it made of the record.
 fn session(
     outcome: &Outcome,
     script: &Script,
     buffer: Vec<u8>,
-    handed: Option<Vec<u8>>,
+    after: Option<Vec<u8>>,
 ) -> Vec<Vec<u8>> {
     if let (Err((number, _)), 0) = (outcome.answer, outcome.made) {
         return vec![vec![number], vec![], vec![], vec![], vec![], vec![]];
     }
-    let (exchanges, read) = exchanges(outcome, script);
     let told = match outcome.answer {
         _ if outcome.made == 0 => vec![],
         Ok(_) => vec![1, outcome.made as u8, 0, 0],
@@ -653,53 +652,38 @@ fn session(
         }
         Err((number, _)) => vec![1, outcome.made as u8, 0, number],
     };
-    let handed = handed.filter(|_| outcome.answer.is_ok()).unwrap_or_default();
-    vec![vec![0], exchanges, told, buffer, handed, result(outcome, &read)]
+    let exchanges = exchanges(outcome, script);
+    vec![vec![0], exchanges, told, buffer, after.unwrap_or_default(), result(outcome)]
 }
 
-/// The exchanges of the published driver with what the bus answered, and the bytes read.
-fn exchanges(outcome: &Outcome, script: &Script) -> (Vec<u8>, Vec<u8>) {
-    let (mut wire, mut exchanges, mut read) = (Wire::new(script), vec![], vec![]);
+/// The exchanges of the published driver with what the bus answered.
+fn exchanges(outcome: &Outcome, script: &Script) -> Vec<u8> {
+    let (mut wire, mut exchanges) = (Wire::new(script), vec![]);
     for exchange in &outcome.log {
         let sent = &exchange.bytes[..exchange.len];
         let reply = wire.exchange(exchange.address, sent, exchange.wanted);
-        let mut flags = 128 * exchange.wanted as u8;
-        let answered = match reply {
-            Reply::Done => vec![],
-            Reply::Byte(byte) => {
-                read.push(byte);
-                vec![byte]
-            }
-            Reply::Failed(code) => {
-                flags += 64;
-                vec![code]
-            }
+        let wanted = 128 * exchange.wanted as u8;
+        let (flags, answered) = match reply {
+            Reply::Done => (wanted, vec![]),
+            Reply::Byte(byte) => (wanted, vec![byte]),
+            Reply::Failed(code) => (wanted + 64, vec![code]),
         };
         exchanges.extend([exchange.address, flags + exchange.len as u8]);
         exchanges.extend(sent);
         exchanges.extend(answered);
     }
-    (exchanges, read)
+    exchanges
 }
 
-/// The word of the result: the three bytes read last, and the count of `read_waveform_memory`.
-fn result(outcome: &Outcome, read: &[u8]) -> Vec<u8> {
-    let Ok(value) = outcome.answer else {
-        return vec![0];
-    };
-    let last = [[0; 3].as_slice(), read].concat();
-    let last = &last[last.len() - 3..];
-    let count = match value {
-        Value::Nothing => 0,
-        Value::Byte(byte) => {
-            assert_eq!(last, [0, 0, byte]);
-            0
+/// The word of the result: what the published driver returned, how many exchanges it made, and whether it succeeded.
+fn result(outcome: &Outcome) -> Vec<u8> {
+    let value = match outcome.answer {
+        Ok(Value::Byte(byte)) => byte.into(),
+        Ok(Value::Events([event, warning, sequence])) => {
+            u32::from_be_bytes([0, event, warning, sequence])
         }
-        Value::Events(events) => {
-            assert_eq!(last, events);
-            0
-        }
-        Value::Count(count) => count as u8,
+        Ok(Value::Count(count)) => count as u32,
+        Ok(Value::Nothing) | Err(_) => 0,
     };
-    [&[1, count], last].concat()
+    bytes_of(result_word(value, outcome.made, outcome.answer.is_ok()))
 }

@@ -5,7 +5,7 @@ use crate::random::Random;
 
 /// Lengths at and next to those that the header names, and a little more.
 const LENGTHS: [usize; 20] =
-    [0, 1, 2, 3, 4, 5, 32, 33, 34, 36, 37, 38, 42, 99, 100, 101, 277, 278, 279, 600];
+    [0, 1, 2, 3, 4, 5, 32, 33, 34, 36, 37, 38, 42, 99, 100, 101, 278, 279, 280, 600];
 
 /// Numbers that a length or an index may be mistaken for.
 const NUMBERS: [usize; 16] = [
@@ -148,7 +148,7 @@ impl<'a> Choices<'a> {
             if bytes.is_empty() {
                 return;
             }
-            let front = bytes.len().min(16);
+            let front = bytes.len().min(17);
             let at = if self.chance(50) { self.below(front) } else { self.below(bytes.len()) };
             bytes[at] = match self.below(3) {
                 0 => self.byte(),

@@ -1,6 +1,6 @@
 //! The exported functions, with what the header lists for each.
 
-/// Counts where there is nothing to tell: no such point or frame, a session that has ended, no record, no result.
+/// Counts where there is nothing to tell: no such point or frame, a session that has ended, one that is not completed.
 pub const NOTHING: u64 = 20;
 
 /// Added to a refusal of `build`, where those of calls are told too.
@@ -16,7 +16,7 @@ macro_rules! functions {
         pub enum Function { $($name),* }
 
         /// Each function, its name, and every number that it can tell: 0 where it is done.
-        pub const FUNCTIONS: [(Function, &str, &[u64]); 46] =
+        pub const FUNCTIONS: [(Function, &str, &[u64]); 45] =
             [$((Function::$name, stringify!($name), &[$($number),*])),*];
     };
 }
@@ -66,7 +66,6 @@ functions! {
     da728x_play_sequence: 0, 11;
     da728x_pending: 0, NOTHING;
     da728x_answer: 0, 16, 17, 19;
-    da728x_record: 0, NOTHING;
     da728x_result: 0, NOTHING;
 }
 
@@ -106,12 +105,17 @@ pub struct Tally {
     /// Exchanges, and sessions that were answered properly until they ended.
     pub exchanges: u64,
     pub finished: u64,
+    /// Records that were made, and those that settings were stored in; and records that stayed at the last answer of `configure`.
+    pub made: u64,
+    pub stored: u64,
+    pub spared: u64,
 }
 
 impl Tally {
     pub fn new() -> Self {
         let functions = [[0; OUTCOMES]; FUNCTIONS.len()];
-        Self { functions, calls: [[0; OUTCOMES]; CALLS.len()], exchanges: 0, finished: 0 }
+        let calls = [[0; OUTCOMES]; CALLS.len()];
+        Self { functions, calls, exchanges: 0, finished: 0, made: 0, stored: 0, spared: 0 }
     }
 
     /// Counts what a function told; it has to be listed.
@@ -155,6 +159,7 @@ impl Tally {
             }
         }
         assert!(self.finished > 0 && self.exchanges > 0, "no session ended");
+        assert!(self.made > 0 && self.stored > 0 && self.spared > 0, "no record was written");
     }
 
     /// The tally as lines of text.

@@ -21,7 +21,7 @@ use sessions::Sessions;
 fn weight(function: Function) -> usize {
     match function {
         Function::da728x_answer => 24,
-        Function::da728x_record | Function::da728x_result => 3,
+        Function::da728x_result => 3,
         Function::da728x_answers | Function::da728x_assemble_strict => 2,
         _ => 1,
     }

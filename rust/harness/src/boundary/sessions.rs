@@ -5,7 +5,8 @@ use super::functions::Function::{self, *};
 use super::functions::NOTHING;
 use super::hands::{Hands, lent, shown};
 use super::patterns::Patterns;
-use crate::raw::{BYTE, DONE, FAILED, SESSION, ffi};
+use crate::raw::{BYTE, DONE, FAILED, SESSION, ffi, result_word};
+use crate::records::{Stores, chip};
 use crate::settings::{Settings, near};
 use yambelugo::RECORD;
 
@@ -32,6 +33,8 @@ struct Begun {
     /// The length said for the read buffer, and how many bytes of memory are read.
     room: usize,
     reads: usize,
+    /// What its last answer does to the record.
+    stores: Stores,
     state: State,
 }
 
@@ -49,8 +52,11 @@ struct Session {
     bytes: Vec<u8>,
     /// Absent once the bytes were forged.
     begun: Option<Begun>,
-    /// How many exchanges were made since the bytes were begun or forged.
+    /// The record that it was started from.
+    record: Vec<u8>,
+    /// How many exchanges were made since the bytes were begun or forged, and the bytes that came.
     made: usize,
+    read: Vec<u8>,
 }
 
 pub struct Sessions {
@@ -68,7 +74,13 @@ macro_rules! start {
 
 impl Sessions {
     pub fn new(choices: &mut Choices) -> Self {
-        let session = || Session { bytes: vec![0; SESSION], begun: None, made: 0 };
+        let session = || Session {
+            bytes: vec![0; SESSION],
+            begun: None,
+            record: vec![],
+            made: 0,
+            read: vec![],
+        };
         let mut pools = Self { sessions: Vec::new(), records: vec![vec![0; RECORD]; 8] };
         pools.sessions.resize_with(if choices.is_taped() { 2 } else { 24 }, session);
         pools
@@ -91,7 +103,6 @@ impl Sessions {
                 self.pending(at, &session, choices, hands);
             }
             da728x_answer => self.answer(at, choices, hands),
-            da728x_record => self.record(at, choices, hands),
             da728x_result => self.result(at, choices, hands),
             _ => self.start(at, function, choices, hands, patterns),
         }
@@ -104,8 +115,9 @@ impl Sessions {
             choices.forge(&mut session.bytes);
         } else {
             session.bytes = choices.bytes(SESSION);
-            // Else most of them have ended.
-            (session.bytes[1], session.bytes[2]) = (0, choices.below(130) as u8);
+            // Else most of them have ended, and are for nothing.
+            (session.bytes[1], session.bytes[2]) = (1, choices.below(130) as u8);
+            session.bytes[16] = choices.below(7) as u8;
         }
         (session.begun, session.made) = (None, 0);
     }
@@ -150,12 +162,12 @@ impl Sessions {
         let record = self.a_record(choices);
         let is_record = record.len() == RECORD;
         let stored = is_record && record[2] >= 2;
-        let address = if is_record { record[0] } else { 0 };
-        let state = State::Going;
-        let mut begun = Begun { function, address, revision: 0, room: 0, reads: 0, state };
+        let (stores, state) = (Stores::Nothing, State::Going);
+        let address = chip(&record).0;
+        let mut begun = Begun { function, address, revision: 0, room: 0, reads: 0, stores, state };
         let told = match function {
             da728x_new => new(&mut begun, &session, choices, hands),
-            da728x_configure => configure(&record, &session, choices, hands),
+            da728x_configure => configure(&mut begun, &record, &session, choices, hands),
             da728x_upload_waveform_memory => {
                 upload(&record, &patterns.image(choices), &session, choices, hands)
             }
@@ -173,8 +185,10 @@ impl Sessions {
         };
         if told == 0 && session.len() == SESSION {
             let (_, after) = hands.slice(slice);
-            self.sessions[at].bytes.copy_from_slice(after);
-            (self.sessions[at].begun, self.sessions[at].made) = (Some(begun), 0);
+            let held = &mut self.sessions[at];
+            held.bytes.copy_from_slice(after);
+            (held.begun, held.made, held.record) = (Some(begun), 0, record);
+            held.read.clear();
         } else {
             hands.assert_rest_stays(function, slice, 0);
         }
@@ -236,19 +250,26 @@ impl Sessions {
     ) {
         let Answer { pending, kind, byte, room } = answer;
         let buffer = choices.bytes(room);
-        let slices = [lent(session), lent(&buffer)];
-        let told = hands.call(da728x_answer, choices, slices, |[session, buffer]| {
-            let (it, len) = session;
+        let record = match choices.below(10) {
+            0..6 => self.sessions[at].record.clone(),
+            _ => self.a_record(choices),
+        };
+        let slices = [lent(&record), lent(session), lent(&buffer)];
+        let told = hands.call(da728x_answer, choices, slices, |[record, session, buffer]| {
+            let ((of, of_len), (it, len)) = (record, session);
             // SAFETY: each pointer and length is a slice; they do not overlap.
-            unsafe { ffi::da728x_answer(it, len, kind, byte, buffer.0, buffer.1).into() }
+            unsafe {
+                ffi::da728x_answer(of, of_len, it, len, kind, byte, buffer.0, buffer.1).into()
+            }
         });
         let [number, code, count, ended] = (told as u32).to_le_bytes();
         assert!(ended <= 1 && told >> 32 == 0, "{told:X} is told");
         assert_eq!(code, if number == 17 { byte } else { 0 }, "the bus's code");
         hands.tally.count(da728x_answer, number.into());
         let stored = stored_at(number, kind, byte, hands);
+        self.written(at, session, number == 0 && ended == 1, choices, hands);
         if number == 19 {
-            hands.assert_rest_stays(da728x_answer, 0, 0);
+            hands.assert_rest_stays(da728x_answer, 1, 0);
         } else {
             assert!(pending != 0 && (kind >= FAILED) == (number == 17));
             assert!(number == 17 || (pending >> 16 == 1) == (kind == BYTE));
@@ -259,7 +280,10 @@ impl Sessions {
             return;
         }
         let held = &mut self.sessions[at];
-        held.bytes.copy_from_slice(hands.slice(0).1);
+        held.bytes.copy_from_slice(hands.slice(1).1);
+        if number == 0 && kind == BYTE {
+            held.read.push(byte);
+        }
         let before = held.made;
         held.moved(number, count.into(), ended == 1);
         if let Some(begun) = held.begun {
@@ -273,31 +297,36 @@ impl Sessions {
         }
     }
 
-    fn record(&mut self, at: usize, choices: &mut Choices, hands: &mut Hands) {
-        let session = self.session(at, choices);
-        let len = choices.len_near(RECORD);
-        let record = choices.bytes(len);
-        let slices = [shown(&session), lent(&record)];
-        let told = hands.call(da728x_record, choices, slices, |[session, record]| {
-            // SAFETY: each pointer and length is a slice; the mutable one overlaps no other.
-            unsafe { ffi::da728x_record(session.0, session.1, record.0, record.1).into() }
-        });
-        assert!(told <= 1, "{told} is told of a record");
-        let fits = session.len() == SESSION && len == RECORD;
-        assert!(told == 0 || fits);
-        if let Some(begun) = self.sessions[at].begun.filter(|_| fits) {
-            let makes = matches!(begun.function, da728x_new | da728x_configure);
-            assert_eq!(told == 1, makes && begun.state == State::Completed);
-        }
-        if told == 1 {
-            let (_, record) = hands.slice(1);
+    /// Looks at the record that was lent with an answer, the last that a session took or another.
+    fn written(
+        &mut self,
+        at: usize,
+        session: &[u8],
+        last: bool,
+        choices: &mut Choices,
+        hands: &mut Hands,
+    ) {
+        let (lent, record) = hands.slice(0);
+        let begun = self.sessions[at].begun.filter(|_| session.len() == SESSION);
+        let stores = begun.map_or(Stores::Nothing, |it| it.stores);
+        if !last || begun.is_some() {
+            let wanted = if last { stores.after(lent) } else { lent.to_vec() };
+            assert!(record == wanted, "da728x_answer left another record");
+        } else if record != lent {
             assert!(record[1] <= 2 && (record[2] == 2 || record[2..] == blank()[..]));
+        }
+        let (same, fits) = (record == lent, record.len() == RECORD);
+        match stores {
+            Stores::Chip(..) if last && !same => hands.tally.made += 1,
+            Stores::Settings(..) if last && !same => hands.tally.stored += 1,
+            Stores::Settings(..) if last && fits => hands.tally.spared += 1,
+            _ => {}
+        }
+        let (_, record) = hands.slice(0);
+        if !same {
             let at = choices.below(self.records.len());
             self.records[at].copy_from_slice(record);
-        } else {
-            hands.assert_rest_stays(da728x_record, 1, 0);
         }
-        hands.tally.count(da728x_record, if told == 1 { 0 } else { NOTHING });
     }
 
     fn result(&mut self, at: usize, choices: &mut Choices, hands: &mut Hands) {
@@ -306,15 +335,18 @@ impl Sessions {
             // SAFETY: the pointer and length are a slice.
             unsafe { ffi::da728x_result(session, len) }
         });
-        let reads = (told >> 24) as usize & 255;
-        assert!(told == 0 || told >> 32 == 1 && reads <= 100, "{told:X} is the result");
+        let (value, completed) = (told & 0xFF_FFFF, told >> 32 == 1);
+        assert!(told >> 33 == 0 && (completed || value == 0), "{told:X} is the result");
+        let held = &self.sessions[at];
         if session.len() != SESSION {
             assert_eq!(told, 0);
-        } else if let Some(begun) = self.sessions[at].begun {
-            assert_eq!(told != 0, begun.state == State::Completed);
-            assert!(told == 0 || reads == begun.reads);
+        } else if let Some(begun) = held.begun {
+            let completed = begun.state == State::Completed;
+            let value = if completed { begun.value(&held.read) } else { 0 };
+            let wanted = result_word(value, held.made, completed);
+            assert_eq!(told, wanted, "{}: the result", begun.function.name());
         }
-        hands.tally.count(da728x_result, if told == 0 { NOTHING } else { 0 });
+        hands.tally.count(da728x_result, if completed { 0 } else { NOTHING });
     }
 
     /// Answers a session that was begun by what is pending, without a failure: it has to end in time.
@@ -383,6 +415,21 @@ impl Begun {
         }
     }
 
+    /// What it answers once it is completed, where these bytes came.
+    fn value(&self, read: &[u8]) -> u32 {
+        match (self.function, read) {
+            (da728x_get_chip_rev | da728x_get_status, [byte]) => (*byte).into(),
+            (da728x_get_events, [event, warning, sequence]) => {
+                u32::from_be_bytes([0, *event, *warning, *sequence])
+            }
+            (da728x_get_chip_rev | da728x_get_status | da728x_get_events, _) => {
+                panic!("{} read {read:02X?}", self.function.name())
+            }
+            (da728x_read_waveform_memory, _) => self.reads as u32,
+            _ => 0,
+        }
+    }
+
     /// What has to be told at an answer.
     fn number(&self, answer: &Answer) -> u8 {
         let wanted = answer.pending >> 16 == 1;
@@ -402,7 +449,7 @@ impl Begun {
 
 /// Where a byte of memory was stored: at one index of the buffer at most, and only where a byte was taken.
 fn stored_at(number: u8, kind: u8, byte: u8, hands: &Hands) -> Option<usize> {
-    let (before, after) = hands.slice(1);
+    let (before, after) = hands.slice(2);
     let mut changed = before.iter().zip(after).enumerate().filter(|(_, (old, new))| old != new);
     let (index, (_, new)) = changed.next()?;
     assert!(number == 0 && kind == BYTE && *new == byte, "da728x_answer wrote into the buffer");
@@ -438,13 +485,20 @@ fn new(begun: &mut Begun, session: &[u8], choices: &mut Choices, hands: &mut Han
     let (address, variant) = (choices.byte(), choices.pick(&[0, 1, 2, 3, 255]));
     begun.address = address;
     begun.revision = [0xBA, 0xCA, 0xDA][usize::from(variant.min(2))];
+    begun.stores = Stores::Chip(address, variant.min(2));
     hands.call(da728x_new, choices, [lent(session)], |[(it, len)]| {
         // SAFETY: the pointer and length are a slice.
         unsafe { ffi::da728x_new(address, variant, it, len).into() }
     })
 }
 
-fn configure(record: &[u8], session: &[u8], choices: &mut Choices, hands: &mut Hands) -> u64 {
+fn configure(
+    begun: &mut Begun,
+    record: &[u8],
+    session: &[u8],
+    choices: &mut Choices,
+    hands: &mut Hands,
+) -> u64 {
     let settings = match choices.below(10) {
         0 => {
             let len = choices.len_near(34);
@@ -457,6 +511,7 @@ fn configure(record: &[u8], session: &[u8], choices: &mut Choices, hands: &mut H
         }
         _ => settings(choices).to_vec(),
     };
+    begun.stores = Stores::configured(record, &settings);
     let slices = [shown(record), shown(&settings), lent(session)];
     hands.call(da728x_configure, choices, slices, |[record, settings, session]| {
         start!(da728x_configure, record, session, settings.0, settings.1)
