@@ -240,7 +240,7 @@ size_t da728x_replace_trigger(uint8_t byte, uint8_t value, uint8_t *out, size_t 
  * A session and a record are bytes that the caller keeps and lends. Treat a session as opaque
  * bytes.
  *
- *     uint8_t session[DA728X_SESSION], bytes[33];
+ *     uint8_t session[DA728X_SESSION] = {0}, bytes[33];
  *     uint8_t refused = da728x_enable(record, DA728X_RECORD, session, sizeof session);
  *     uint32_t next, told;
  *     if (refused) return refused;
@@ -265,8 +265,9 @@ size_t da728x_replace_trigger(uint8_t byte, uint8_t value, uint8_t *out, size_t 
  * The record says what the driver knows of a chip: keep one for each chip, and lend it with the
  * start of every session of that chip, which only reads it, and with each answer. The answer that
  * completes da728x_new makes the record; the answer that completes da728x_configure stores the
- * settings in it. No other call writes to it, so the bytes that you keep are always the record
- * in force: nothing is fetched from a session afterwards.
+ * settings in it. No other call writes to it, and nothing is fetched from a session afterwards:
+ * where the sessions of a chip are run one after the other, each to its end, the bytes that you
+ * keep are the record in force.
  *
  * What a wrong use gives:
  *   a refused start, ignored     the session is as it was before. If it had ended, nothing is
@@ -277,7 +278,8 @@ size_t da728x_replace_trigger(uint8_t byte, uint8_t value, uint8_t *out, size_t 
  *   an old session               once it has ended, every answer is refused with 19 and the
  *                                record stays: it brings back no settings. One that was left
  *                                half-way, or a copy of its bytes that was kept, goes on where it
- *                                stopped, also after others: NO refusal
+ *                                stopped, also after others: NO refusal. A da728x_configure then
+ *                                stores its settings, although the chip has a mix of both
  *   two sessions at a time on    NO refusal: one may write back a byte that it read before the
  *   a chip                       other changed it
  *   one session buffer for two   fine, one session after the other. A start replaces a session
@@ -293,19 +295,24 @@ size_t da728x_replace_trigger(uint8_t byte, uint8_t value, uint8_t *out, size_t 
  *   another chip's record, lent  NO refusal: these bytes become the record of the new chip
  *   with the answer of
  *   da728x_new
+ *   a record that da728x_new     NO refusal: it is what its bytes say. Zeros are a DA7280 at
+ *   has not made                 address 0, and da728x_configure sets that up
  *   a record of another length   lent with a start: it has no settings, address 0, and is a DA7280.
  *   than DA728X_RECORD           Lent with an answer: NO refusal, and it is never written
  *   a session of another length  a start answers as for any session, but begins nothing; nothing is
  *   than DA728X_SESSION          pending, every answer is refused with 19, the result is 0
  *   a session of zeros           was never begun: nothing is pending, every answer is refused
  *                                with 19, the result is 0
+ *   other bytes that no start    NO refusal: they may be taken for a session under way or
+ *   has written                  completed. Clear a session before its first use
  *   a result not looked at       a session that failed has nothing pending, as one that is
  *                                completed: bit 32 of da728x_result tells them apart
  *
  * A record is:
  *    0      chip address, of 7 bits, handed to the bus as it is (0x4A by the datasheet)
  *    1      variant: 0 DA7280, 1 DA7281, 2 DA7282
- *    2      2 if settings are stored, else 1 (0 counts as 1) and the rest is 0
+ *    2      2 if settings are stored (above 2 counts as 2), else 1 (0 counts as 1) and the rest
+ *           is 0
  *    3..36  the settings
  * A record of another length has no settings, address 0 and is a DA7280. Settings are:
  *    0      actuator type: 0 LRA, 1 ERM
@@ -345,7 +352,10 @@ uint8_t da728x_new(uint8_t address, uint8_t variant,
 
 /* Sets the chip up, in 14 to 25 exchanges; the last answer stores the settings in the record
  * that is lent with it, if that is of the same address and variant as the one lent here. If an
- * exchange fails, the chip has a part of the settings and the record stays as it was.
+ * exchange fails, the chip has a part of the settings and the record stays as it was. It writes
+ * no register that these settings do not name: what a custom waveform set in SEQ_CTL1, TOP_CFG4
+ * and FRQ_PHASE_L stays when the chip is set up for tracking afterwards.
+ * Settings for a custom waveform write SEQ_CTL1 anew: da728x_set_timebase has to follow them.
  * Refused with the first that holds: 12 for acceleration or rapid stop when not tracking;
  * 13 for no trigger in ETWM mode, 14 for more than one on the DA7281; 11 for a value
  * outside the ranges above (of a trigger's sequence number in ETWM mode only); 14 for
@@ -375,7 +385,8 @@ uint8_t da728x_set_override_value(const uint8_t *record, size_t record_len, int8
                                   uint8_t *session, size_t session_len);
 
 /* Sets what the frames' timebase codes 0 to 3 mean: 0 for 5.44, 21.76, 43.52 and 87.04 ms, 1
- * for 1.36, 5.44, 21.76 and 43.52 ms (above 1 counts as 1). Never refused. */
+ * for 1.36, 5.44, 21.76 and 43.52 ms (above 1 counts as 1). A da728x_configure for a custom
+ * waveform sets it back to 0. Never refused. */
 uint8_t da728x_set_timebase(const uint8_t *record, size_t record_len, uint8_t timebase,
                             uint8_t *session, size_t session_len);
 
@@ -400,14 +411,15 @@ uint8_t da728x_lock_waveform_memory(const uint8_t *record, size_t record_len,
 /* Unlocks the waveform memory, writes the image to its front in exchanges of at most 32
  * of its bytes, and locks it if lock_after is not 0: 6 exchanges for a hundred bytes and the
  * lock. 8 for more than 100 bytes. The bytes go out as they are: it is da728x_read_counts that
- * tells whether they are an image. The session keeps a copy of them. */
+ * tells whether they are an image. The session keeps a copy of them. If an exchange fails, the
+ * memory may be unlocked and hold a part of each image: upload again before playing. */
 uint8_t da728x_upload_waveform_memory(const uint8_t *record, size_t record_len,
                                       const uint8_t *image, size_t image_len, uint8_t lock_after,
                                       uint8_t *session, size_t session_len);
 
 /* Reads len bytes from the front of the waveform memory, but at most 100 and at most
  * buffer_len, one an exchange, into the buffer that da728x_answer is lent: buffer_len is
- * its length, at each answer. Never refused. */
+ * its length, at each answer. If that is none, it is completed at once. Never refused. */
 uint8_t da728x_read_waveform_memory(const uint8_t *record, size_t record_len,
                                     size_t len, size_t buffer_len,
                                     uint8_t *session, size_t session_len);
@@ -426,7 +438,8 @@ uint8_t da728x_play_sequence(const uint8_t *record, size_t record_len,
 
 /* The exchange that is to be made next: how many bytes are to be sent, 1 to 33, plus 256
  * times the chip address, plus 65536 if a byte is then to be read. 0 once the session has
- * ended. The bytes to send are copied into the front of bytes, as many as fit; the other
+ * ended, and if it was never begun. The bytes to send are copied into the front of bytes, as
+ * many as fit (lend 33: the number told is that of all); the other
  * bytes of bytes stay. The session stays too: asked again, it tells the same. */
 uint32_t da728x_pending(const uint8_t *session, size_t session_len,
                         uint8_t *bytes, size_t bytes_len);

@@ -76,7 +76,7 @@ AnswersAs o = (b : Begun) (xs : List Step) → o .start ≡ begins b xs → (st 
 
 pub record Answers : Type 0 where
   pub each : Each AnswersAs
-  -- "refuses only by the listed numbers": a start that is refused before its first exchange tells one of 11 to 15
+  -- a start that is refused before its first exchange tells one of 11 to 15
   pub listed : Each (λ o. (number : ℕ) → o .start ≡ declines number → (11 ≤ number) × (number ≤ 15))
   -- "`configure` makes at most 25, at least 14 if none fails"
   pub counts : (r : DA728x) (a : ActuatorConfig) (d : DeviceConfig) (st : List ℕ) (cs : List AnswerCall) →

@@ -1,11 +1,11 @@
 // Every operation of the driver (lib.rs; document 01, 'Settings to registers' and 'Exchanges'), begun as a session in bytes that the
 // caller lends; a refused one writes nothing. The `DA728x` of lib.rs is `da728x::DA728x` without its bus: it goes in by value with the
-// start and with each answer, and `answer` gives it back, changed only by the answer that ends `new` or `configure`.
+// start and with each answer, and `answer` gives it back, changed only by the answer that completes `new` or `configure`.
 // Left out: the `defmt` prints, and the body that `set_custom_drive_waveform` does not have in the Rust either.
 //
 // Proved: the answer is document 01's number and the session's bytes are those of the operation's steps (specs/Operations.antt).
 // proofs/Answers.antt: what is sent, in which order and how much, and what every operation answers. proofs/Stored.antt: the record changes
-// exactly by the answer that completes `new` or `configure`, whatever the session's bytes are.
+// exactly by the answer that completes `new` or `configure`, and by none to a session that has ended or was never begun.
 ghost use mathlib.Core.Path.{_≡_};
 ghost use mathlib.Core.Bool.{_&&_};
 ghost use mathlib.Core.List.{_∷_};

@@ -1,4 +1,4 @@
--- The theorem on sessions, for every state, every list of answers and every lent buffer: document 01, 'Exchanges', "exchanges in order".
+-- The theorem on sessions, for every state, every list of answers and every lent buffer: document 01, 'Exchanges'.
 -- It speaks of the definitions that the contracts of `pending` and `answer` cite.
 use Prim.Native.Nat.{ℕ, _+_, _≤_}
 use mathlib.Core.Path.{_≡_}

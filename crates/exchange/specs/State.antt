@@ -56,7 +56,7 @@ wordAt st i = at st i + 256 * at st (i + 1) + 65536 * at st (i + 2) + 16777216 *
 abbrev pub roomIn : List ℕ → ℕ
 roomIn st = wordAt st 8 + 4294967296 * wordAt st 12
 
--- a code of the driver's
+-- a code of `outcome`
 abbrev pub purposeIn : List ℕ → ℕ
 purposeIn st = at st 16
 

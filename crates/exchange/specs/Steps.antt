@@ -8,7 +8,7 @@ use Rattle.exchange.specs.declared.Step.{Step}
 use Rattle.exchange.specs.declared.Step.the-variants.{Write, Read, Update, Match, Chunk, Store}
 use Rattle.exchange.specs.declared.Exchange.{Exchange}
 
--- "an exchange (chip address, bytes to send, 0 or 1 bytes wanted)"; the bytes stand at the front of 33, and no bytes is no exchange
+-- "one exchange (chip address, bytes to send, 0 or 1 bytes wanted)"; the bytes stand at the front of 33, and no bytes is no exchange
 abbrev pub exchange : ℕ → List ℕ → ℕ → Exchange
 exchange address bytes wanted = record { address = address; bytes = bytes ++ replicate (33 - length bytes) 0; len = length bytes; wanted = wanted }
 

@@ -103,7 +103,7 @@ effectOf (Wrong b) = effect 16 0 true 2 (b ∷ []) (λ l. l)
 abbrev pub moved : List ℕ → ℕ → List ℕ → List ℕ
 moved st stage came = over st 1 (stage ∷ (madeIn st + 1) ∷ take 3 (came ++ (at st 3 ∷ at st 4 ∷ at st 5 ∷ [])))
 
--- "A refusal hands back the session as it came in"
+-- a refusal hands back the session as it came in
 abbrev pub stateBy : List ℕ → Effect → List ℕ
 stateBy st e = cond (e .made) (moved st (e .stage) (e .came)) st
 

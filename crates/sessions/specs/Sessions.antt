@@ -26,7 +26,7 @@ noImage = replicate 100 0
 unfoldable pub blankRecord : List ℕ
 blankRecord = replicate 37 0
 
--- steps on the chip's registers alone, for this purpose (a code of `driver`)
+-- steps on the chip's registers alone, for this purpose (a code of `outcome`)
 abbrev pub blank : ℕ → ℕ → Begun
 blank purpose address = begunWith address 0 0 purpose noImage blankRecord
 
