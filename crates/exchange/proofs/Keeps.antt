@@ -9,7 +9,7 @@ use lib.ListN.{length, take}
 use lib.Seq.{take-take}
 use Rattle.exchange.specs.declared.Fit.{Fit}
 use Rattle.exchange.specs.declared.Fit.the-variants.{Unfit, Broke, Went, Got, Kept, Wrong}
-use Rattle.exchange.specs.State.{isSession, readCount, purposeIn, recordIn}
+use Rattle.exchange.specs.State.{isSession, readCount, purposeIn, roomIn, recordIn}
 use Rattle.exchange.specs.Turn.{fitOf, effectOf, moved, stateBy, stateAfter}
 use Rattle.exchange.specs.Session.{AnswerCall, afterCall, final, came}
 use Rattle.exchange.proofs.Latest.{bytesRead}
@@ -35,18 +35,19 @@ pub record Keeps (st t bytes : List ℕ) : Type 0 where
   pub purpose : purposeIn t ≡ purposeIn st
   pub «record» : recordIn t ≡ recordIn st
   pub reads : readCount t ≡ readCount st
+  pub room : roomIn t ≡ roomIn st
   pub shows : bytesRead t ≡ take 3 (reverseAux bytes (bytesRead st))
 
 module _ (st : List ℕ) (s : isSession st ≡ true) where
   -- nothing
   keeps-all : Keeps st st []
-  keeps-all = record { session = s; purpose = refl; «record» = refl; reads = refl; shows = rw s }
+  keeps-all = record { session = s; purpose = refl; «record» = refl; reads = refl; room = refl; shows = rw s }
 
   -- a move that takes in these bytes
   keeps-moved : (w : ℕ) (bytes : List ℕ) → latest st bytes ≡ take 3 (reverseAux bytes (bytesRead st)) → Keeps st (moved st w bytes) bytes
   keeps-moved w bytes e =
       let m = moves st w bytes s in
-      record { session = m .session; purpose = m .purpose; «record» = m .«record»; reads = m .reads; shows = m .shows ∙ e }
+      record { session = m .session; purpose = m .purpose; «record» = m .«record»; reads = m .reads; room = m .room; shows = m .shows ∙ e }
 
   -- by how the answer fits
   keeps-by : (f : Fit) → Keeps st (stateBy st (effectOf f)) (effectOf f .came)
@@ -76,6 +77,7 @@ keeps (c ∷ cs) st s =
       purpose = m .purpose ∙ k .purpose;
       «record» = m .«record» ∙ k .«record»;
       reads = m .reads ∙ k .reads;
+      room = m .room ∙ k .room;
       shows =
           m .shows
           ∙ ap (λ (l : List ℕ). take 3 (reverseAux (came t cs) l)) (k .shows)

@@ -1,6 +1,6 @@
 -- What an exchange taken back does to a session: one step less is left, or none.
 -- Assumes nothing.
-use Prim.Native.Nat.{ℕ, _+_, _<_, min}
+use Prim.Native.Nat.{ℕ, _+_, _<_, min, _*_}
 use native.Mathlib.Omega.{arith}
 use mathlib.Core.Path.{_≡_, refl, sym, _∙_, ap}
 use mathlib.Core.Bool.{Bool, true, false, cond, _&&_}
@@ -12,7 +12,7 @@ use borrow.Author.Tests.{eq-eqb, eqb-true}
 use Rattle.laws.specs.Copied.{over}
 use Rattle.exchange.specs.declared.Step.{Step}
 use Rattle.exchange.specs.declared.Step.the-variants.{Store}
-use Rattle.exchange.specs.State.{at, isSession, isOpen, addressIn, madeIn, countIn, stepCount, readCount, purposeIn, imageIn, recordIn, stepIn, indexed, plan, left}
+use Rattle.exchange.specs.State.{at, isSession, isOpen, addressIn, madeIn, countIn, roomIn, stepCount, readCount, purposeIn, imageIn, recordIn, stepIn, indexed, plan, left}
 use Rattle.exchange.specs.Turn.{going, moved}
 use Rattle.exchange.proofs.Latest.{bytesRead}
 use Rattle.exchange.proofs.Left.{left-closed}
@@ -67,6 +67,7 @@ pub record Moved (st t : List ℕ) (w : ℕ) (came : List ℕ) : Type 0 where
   pub purpose : purposeIn t ≡ purposeIn st
   pub «record» : recordIn t ≡ recordIn st
   pub session : isSession t ≡ true
+  pub room : roomIn t ≡ roomIn st
   pub made : madeIn t ≡ madeIn st + 1
   pub reads : readCount t ≡ readCount st
   pub steps : plan t ≡ plan st
@@ -91,6 +92,9 @@ moves st w came s =
       purpose = at-same t st d 10;
       «record» = record-same t st d;
       session = h;
+      room =
+          let a = at-same t st d in
+          λ i. a 2 i + 256 * a 3 i + 65536 * a 4 i + 16777216 * a 5 i + 4294967296 * (a 6 i + 256 * a 7 i + 65536 * a 8 i + 16777216 * a 9 i);
       made = k;
       reads = ap (λ (n : ℕ). min n 100) (at-same t st d 1);
       steps = plan-same t st d;

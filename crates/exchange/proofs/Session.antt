@@ -6,7 +6,7 @@ use Rattle.exchange.specs.State.{madeIn}
 use Rattle.exchange.specs.Session.{Session}
 use Rattle.exchange.proofs.Order.{follows}
 use Rattle.exchange.proofs.Turns.{refused}
-use Rattle.exchange.proofs.Takes.{takes, fails, done, reads, matches, spares, tells}
+use Rattle.exchange.proofs.Takes.{takes, fails, done, reads, matches, stores, unstored, spares, tells}
 use Rattle.exchange.proofs.Left.{closed}
 use Rattle.exchange.proofs.Effects.{quiet, ends}
 use Rattle.exchange.proofs.Ends.{whole}
@@ -29,5 +29,7 @@ session = record {
   ends = ends;
   tells = tells;
   refused = refused;
+  stores = stores;
+  unstored = unstored;
   spares = spares;
 }

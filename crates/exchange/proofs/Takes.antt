@@ -5,20 +5,20 @@ use mathlib.Core.Path.{_≡_, refl, sym, _∙_, ap}
 use mathlib.Core.Bool.{Bool, true, false, cond, not, _&&_, true≢false, and-false}
 use mathlib.Core.List.{List, [], _∷_}
 use lib.Dec.{ltb, eqb}
-use lib.ListN.{length}
+use lib.ListN.{length, set}
 use borrow.Author.Tests.{lt-ltb}
 use Rattle.exchange.specs.declared.Step.{Step}
 use Rattle.exchange.specs.declared.Step.the-variants.{Write, Read, Update, Match, Chunk, Store}
 use Rattle.exchange.specs.declared.Reply.{Reply}
 use Rattle.exchange.specs.declared.Reply.the-variants.{Done, Byte, Failed}
 use Rattle.exchange.specs.declared.Fit.{Fit}
-use Rattle.exchange.specs.declared.Fit.the-variants.{Unfit, Went, Got, Wrong}
+use Rattle.exchange.specs.declared.Fit.the-variants.{Unfit, Went, Got, Kept, Wrong}
 use Rattle.exchange.specs.State.{countIn, left, noneLeft}
 use Rattle.exchange.specs.Turn.{pendingFor, wantsByte, asks, byteFit, fittingOf, fitsNext, changed, fitOf, effectOf, stateAfter, bufferAfter, reportOf}
 use Rattle.exchange.specs.Session.{fitsExchange, taken}
 
 -- every step sends something
-sends : (st : List ℕ) (x : Step) → ltb 0 (pendingFor st (x ∷ []) .len) ≡ true
+pub sends : (st : List ℕ) (x : Step) → ltb 0 (pendingFor st (x ∷ []) .len) ≡ true
 sends st (Write r v) = refl
 sends st (Read r) = refl
 sends st (Update r s w v) = refl
@@ -170,3 +170,26 @@ spares st x xs a buffer l m = spares-buffer st x xs l a buffer (go x m)
     go (Match r v) m = refl
     go (Chunk i n) m = refl
     go (Store i) m = absurd (m i refl)
+
+-- a byte of memory goes to its own index
+pub stores : (st : List ℕ) (xs : List Step) (i b : ℕ) (buffer : List ℕ) → left st ≡ Store i ∷ xs → taken st (Byte b) (length buffer) ≡ true →
+    bufferAfter st (Byte b) buffer ≡ set buffer i b
+unfolding bufferAfter fitOf
+stores st xs i b buffer l h =
+    let n = length buffer in
+    let p = ap (λ (l : List Step). effectOf (cond (changed st n) Unfit (fitsNext l (Byte b))) .buffer buffer) l in
+    p ∙ go (changed st n) (ap (λ (l : List Step). fitsExchange (pendingFor st l) (Byte b) && not (changed st n)) (sym l) ∙ h)
+  where
+    go : (k : Bool) → fitsExchange (pendingFor st (Store i ∷ xs)) (Byte b) && not k ≡ true → effectOf (cond k Unfit (Kept i b)) .buffer buffer ≡ set buffer i b
+    go true e = absurd (true≢false (sym e ∙ and-false (fitsExchange (pendingFor st (Store i ∷ xs)) (Byte b))))
+    go false e = refl
+
+-- a failure changes nothing there
+pub unstored : (st : List ℕ) (code : ℕ) (buffer : List ℕ) → bufferAfter st (Failed code) buffer ≡ buffer
+unfolding bufferAfter fitOf
+unstored st code buffer = go (changed st (length buffer)) (left st)
+  where
+    go : (k : Bool) (l : List Step) → effectOf (cond k Unfit (fitsNext l (Failed code))) .buffer buffer ≡ buffer
+    go true l = refl
+    go false [] = refl
+    go false (x ∷ xs) = refl

@@ -5,7 +5,7 @@ use mathlib.Core.Path.{_≡_}
 use mathlib.Core.Bool.{Bool, true, false, cond, not, _&&_, _||_}
 use mathlib.Core.List.{List, [], _∷_, _++_}
 use lib.Dec.{ltb, eqb}
-use lib.ListN.{length, take, drop}
+use lib.ListN.{length, take, drop, set}
 use Rattle.exchange.specs.declared.Step.{Step}
 use Rattle.exchange.specs.declared.Step.the-variants.{Match, Store}
 use Rattle.exchange.specs.declared.Exchange.{Exchange}
@@ -140,6 +140,9 @@ pub record Session : Type 0 where
   -- 19 changes nothing
   pub refused : (st : List ℕ) (a : Reply) (buffer : List ℕ) → reportOf st a (length buffer) .number ≡ 19 →
       (stateAfter st a (length buffer) ≡ st) × (bufferAfter st a buffer ≡ buffer)
-  -- only a memory read writes to the buffer
+  -- a byte of memory goes to its own index, and no other byte changes; a failure changes none, and only a memory read writes at all
+  pub stores : (st : List ℕ) (xs : List Step) (i b : ℕ) (buffer : List ℕ) → left st ≡ Store i ∷ xs → taken st (Byte b) (length buffer) ≡ true →
+      bufferAfter st (Byte b) buffer ≡ set buffer i b
+  pub unstored : (st : List ℕ) (code : ℕ) (buffer : List ℕ) → bufferAfter st (Failed code) buffer ≡ buffer
   pub spares : (st : List ℕ) (x : Step) (xs : List Step) (a : Reply) (buffer : List ℕ) → left st ≡ x ∷ xs → ((i : ℕ) → x ≡ Store i → ⊥) →
       bufferAfter st a buffer ≡ buffer

@@ -12,7 +12,7 @@ use Rattle.da728x.specs.declared.DA728x.{DA728x}
 use Rattle.da728x.specs.Record.{recordAt}
 use Rattle.outcome.specs.declared.Change.{Change}
 use Rattle.outcome.specs.declared.Change.the-variants.{Same, To}
-use Rattle.outcome.specs.Outcome.{changeFor, changeBy}
+use Rattle.outcome.specs.Outcome.{mayChange, changeFor, changeBy}
 
 pub passed : {A : Type 0} (b : Bool) (x y : A) → b ≡ true → x ≡ cond b x y
 passed b x y e = ap (λ (t : Bool). cond t x y) (sym e)
@@ -54,16 +54,19 @@ for-another (suc zero) next r h k = absurd (h refl)
 for-another (suc (suc zero)) next r h k = absurd (k refl)
 for-another (suc (suc (suc n))) next r h k = refl
 
--- for neither of the two
-pub for-neither : (st : List ℕ) (t : Report) (r : DA728x) → eqb (purposeIn st) 1 || eqb (purposeIn st) 2 ≡ false → Same ≡ changeBy st t r
+-- where an answer may not change a record, it does not
+pub unchanged : (st : List ℕ) (t : Report) (r : DA728x) → mayChange st (t .ended) ≡ false → Same ≡ changeBy st t r
 unfolding changeBy
-for-neither st t r e = go (isSession st && (t .ended && eqb (t .number) 0)) (purposeIn st) e where
-  go : (b : Bool) (purpose : ℕ) → eqb purpose 1 || eqb purpose 2 ≡ false → Same ≡ cond b (changeFor purpose (recordAt (recordIn st)) r) Same
-  go false purpose f = refl
-  go true zero f = refl
-  go true (suc zero) f = absurd (true≢false f)
-  go true (suc (suc zero)) f = absurd (true≢false f)
-  go true (suc (suc (suc n))) f = refl
+unchanged st t r e = go (t .ended) (isSession st) (eqb (t .number) 0) (purposeIn st) e where
+  go : (b s n : Bool) (purpose : ℕ) → b && (s && (eqb purpose 1 || eqb purpose 2)) ≡ false → Same ≡ cond (s && (b && n)) (changeFor purpose (recordAt (recordIn st)) r) Same
+  go false true n purpose f = refl
+  go false false n purpose f = refl
+  go true false n purpose f = refl
+  go true true false purpose f = refl
+  go true true true zero f = refl
+  go true true true (suc zero) f = absurd (true≢false f)
+  go true true true (suc (suc zero)) f = absurd (true≢false f)
+  go true true true (suc (suc (suc n))) f = refl
 
 pub no-session : (st : List ℕ) → (length st ≡ 279 → ⊥) → completed st ≡ false
 unfolding completed
