@@ -32,7 +32,7 @@ use Rattle.outcome.specs.declared.Change.the-variants.{Same, To}
 use Rattle.driver.specs.Operations as operation
 use Rattle.outcome.specs.Outcome.{bigEndian, changeFor, recordBy}
 use Rattle.driver.specs.Operations.{Start, declines, begins, startedIn, unless, withSettings, runs, Operation, negative, isDro, configured}
-use Rattle.driver.specs.Theorems.{Others, Each, AnswersAs, Answers, allSteps}
+use Rattle.driver.specs.Theorems.{Others, Each, Answered, AnswersAs, Answers, allSteps}
 use Rattle.driver.proofs.Begun.{Fits, Holds, holds, no-image, no-record, valueOf, answered, counted, within, all-made}
 use Rattle.exchange.proofs.Latest.{bytesWanted}
 use Rattle.driver.proofs.Upload.{few}
@@ -91,33 +91,33 @@ abbrev Gives : (List ℕ → ℕ) → Begun → List Step → Type 0
 Gives result b xs = (bytes : List ℕ) → length bytes ≡ bytesWanted (exchangesOf (b .address) 0 (b .image) (allSteps b xs) bytes) →
     valueOf (b .purpose) bytes (min (b .reads) 100) ≡ result bytes
 
-abbrev Sound : (List ℕ → ℕ) → Begun → List Step → Type 0
-Sound result b xs = Fits b xs × Gives result b xs
+abbrev Sound : ℕ → (List ℕ → ℕ) → Begun → List Step → Type 0
+Sound address result b xs = Fits b xs × Gives result b xs × (b .address ≡ address)
 
 abbrev pub SoundOperation : Operation → Type 0
-SoundOperation o = By (Sound (o .answers)) (o .start)
+SoundOperation o = By (Sound (o .address) (o .answers)) (o .start)
 
 -- and leaves the record
-abbrev Quiet : (List ℕ → ℕ) → Begun → List Step → Type 0
-Quiet result b xs = Fits b xs × Gives result b xs × ((next r : DA728x) → recordBy r (changeFor (b .purpose) next r) ≡ r)
+abbrev Quiet : ℕ → (List ℕ → ℕ) → Begun → List Step → Type 0
+Quiet address result b xs = Fits b xs × Gives result b xs × (b .address ≡ address) × ((next r : DA728x) → recordBy r (changeFor (b .purpose) next r) ≡ r)
 
 abbrev pub QuietOperation : Operation → Type 0
-QuietOperation o = By (Quiet (o .answers)) (o .start)
+QuietOperation o = By (Quiet (o .address) (o .answers)) (o .start)
 
-quiet-runs : (r : DA728x) (xs : List Step) → length xs ≤ 25 → By (Quiet (λ bytes. 0)) (runs r xs)
-quiet-runs r xs h = ((h, omega arith, no-image, no-record), λ bytes e. refl, λ next s. refl)
+quiet-runs : (r : DA728x) (xs : List Step) → length xs ≤ 25 → By (Quiet (r .address) (λ bytes. 0)) (runs r xs)
+quiet-runs r xs h = ((h, omega arith, no-image, no-record), λ bytes e. refl, refl, λ next s. refl)
 
 -- so its session holds what it was begun with
 pub quiet-holds : (o : Operation) → QuietOperation o → (b : Begun) (xs : List Step) → o .start ≡ begins b xs → (st : List ℕ) → isSession st ≡ true →
     Holds (begunIn st b xs) b (allSteps b xs) × ((next r : DA728x) → recordBy r (changeFor (b .purpose) next r) ≡ r)
-quiet-holds o q b xs e st s = let g = subst (λ (x : Start). By (Quiet (o .answers)) x) e q in (holds st b xs s (g .0), g .2)
+quiet-holds o q b xs e st s = let g = subst (λ (x : Start). By (Quiet (o .address) (o .answers)) x) e q in (holds st b xs s (g .0), g .3)
 
 -- ---- the sixteen
 
 one-byte : (r : DA728x) (xs : List Step) → length xs ≤ 25 →
     ((bytes : List ℕ) → length bytes ≡ bytesWanted (exchangesOf (r .address) 0 noImage (allSteps (blank 3 (r .address)) xs) bytes) → length bytes ≡ 1) →
-    By (Quiet (bigEndian 0)) (begins (blank 3 (r .address)) xs)
-one-byte r xs h w = ((h, omega arith, no-image, no-record), λ bytes e. go bytes (w bytes e), λ next s. refl)
+    By (Quiet (r .address) (bigEndian 0)) (begins (blank 3 (r .address)) xs)
+one-byte r xs h w = ((h, omega arith, no-image, no-record), λ bytes e. go bytes (w bytes e), refl, λ next s. refl)
   where
     go : (bytes : List ℕ) → length bytes ≡ 1 → valueOf 3 bytes (min 0 100) ≡ bigEndian 0 bytes
     go [] e = absurd (omega (arith, e))
@@ -140,7 +140,7 @@ numbers-small id loops = first-small (check (ltb 15 id) 11 ∷ check (ltb 15 loo
 pub quiet : Others QuietOperation
 quiet = record {
   get-chip-rev = λ r. one-byte r (Read (addressOf "CHIP_REV") ∷ []) (omega arith) (λ bytes e. e);
-  get-events = λ r. ((omega arith, omega arith, no-image, no-record), λ bytes e. three-bytes bytes e, λ next s. refl);
+  get-events = λ r. ((omega arith, omega arith, no-image, no-record), λ bytes e. three-bytes bytes e, refl, λ next s. refl);
   get-status = λ r. one-byte r (Read (addressOf "IRQ_STATUS1") ∷ []) (omega arith) (λ bytes e. e);
   set-frequency = λ r hz. by-settings _ (r .settings) _ (λ a d.
       by-unless _ (firstFailing (check (outsideBand (d .«driving_mode») hz) 11 ∷ [])) _
@@ -157,8 +157,8 @@ quiet = record {
   set-custom-drive-waveform = λ r. by-settings _ (r .settings) _ (λ a d. custom (eqb (drivingCode (d .«driving_mode»)) (drivingCode «CUSTOM_WAVEFORM»)));
   unlock-waveform-memory = λ r. quiet-runs r (unlockStep true ∷ []) (omega arith);
   lock-waveform-memory = λ r. quiet-runs r (unlockStep false ∷ []) (omega arith);
-  upload-waveform-memory = λ r m lockAfter e. ((few m lockAfter, omega arith, e, no-record), λ bytes h. refl, λ next s. refl);
-  read-waveform-memory = λ r len room h. ((omega arith, h, no-image, no-record), λ bytes e. omega arith, λ next s. refl);
+  upload-waveform-memory = λ r m lockAfter e. ((few m lockAfter, omega arith, e, no-record), λ bytes h. refl, refl, λ next s. refl);
+  read-waveform-memory = λ r len room h. ((omega arith, h, no-image, no-record), λ bytes e. omega arith, refl, λ next s. refl);
   select-sequence = λ r id loops. by-unless _ (numbers-checked id loops) _ (numbers-small id loops) (quiet-runs r (selectStep id loops ∷ []) (omega arith));
   start-sequence = λ r. quiet-runs r startSteps (omega arith);
   play-sequence = λ r id loops. by-unless _ (numbers-checked id loops) _ (numbers-small id loops) (quiet-runs r (selectStep id loops ∷ startSteps) (omega arith));
@@ -193,7 +193,7 @@ each-others f e = record {
 -- ---- all eighteen
 
 pub fits-new : (address : ℕ) (variant : _) → SoundOperation (operation.new address variant)
-fits-new address variant = ((omega arith, omega arith, no-image, record-length _), λ bytes e. refl)
+fits-new address variant = ((omega arith, omega arith, no-image, record-length _), λ bytes e. refl, refl)
 
 pub fits-configure : (r : DA728x) (a : ActuatorConfig) (d : DeviceConfig) → Fits (carrying 2 (configured r a d)) (configureSteps a d)
 fits-configure r a d = (at-most a d, omega arith, no-image, record-length (configured r a d))
@@ -201,13 +201,13 @@ fits-configure r a d = (at-most a d, omega arith, no-image, record-length (confi
 sound : Each SoundOperation
 sound = record {
   new = fits-new;
-  configure = λ r a d. by-unless _ (configureNumber (r .variant) a d) _ (configure-small r a d) (fits-configure r a d, λ bytes e. refl);
-  others = each-others (λ o q. go (o .answers) (o .start) q) quiet;
+  configure = λ r a d. by-unless _ (configureNumber (r .variant) a d) _ (configure-small r a d) (fits-configure r a d, λ bytes e. refl, refl);
+  others = each-others (λ o q. go (o .address) (o .answers) (o .start) q) quiet;
 }
   where
-    go : (result : List ℕ → ℕ) (s : Start) → By (Quiet result) s → By (Sound result) s
-    go result (declines number) q = q
-    go result (begins b xs) q = (q .0, q .1)
+    go : (address : ℕ) (result : List ℕ → ℕ) (s : Start) → By (Quiet address result) s → By (Sound address result) s
+    go address result (declines number) q = q
+    go address result (begins b xs) q = (q .0, q .1, q .2)
 
 each-sound : {Q : Operation → Type 0} → ((o : Operation) → SoundOperation o → Q o) → Each Q
 each-sound f = record {
@@ -227,9 +227,10 @@ holds-configure r a d st none s =
 pub answers : Answers
 answers = record {
   each = each-sound (λ o f b xs e st s cs.
-      let g = subst (λ (x : Start). By (Sound (o .answers)) x) e f in
-      answered (holds st b xs s (g .0)) cs (o .answers) (g .1));
-  listed = each-sound (λ o f number e. subst (λ (x : Start). By (Sound (o .answers)) x) e f);
+      let g = subst (λ (x : Start). By (Sound (o .address) (o .answers)) x) e f in
+      subst (λ (x : ℕ). Answered (begunIn st b xs) x (b .image) (allSteps b xs) (o .answers) cs) (g .2)
+      (answered (holds st b xs s (g .0)) cs (o .answers) (g .1)));
+  listed = each-sound (λ o f number e. subst (λ (x : Start). By (Sound (o .address) (o .answers)) x) e f);
   counts = λ r a d st cs none s.
       let h = holds-configure r a d st none s in
       let n = ap length (append-nil (configureSteps a d)) in

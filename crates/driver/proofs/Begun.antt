@@ -11,7 +11,7 @@ use borrow.Author.Tests.{eqb-true}
 use Rattle.exchange.specs.declared.Step.{Step}
 use Rattle.exchange.specs.declared.Step.the-variants.{Store}
 use Rattle.exchange.specs.declared.Exchange.{Exchange}
-use Rattle.exchange.specs.State.{at, isSession, isOpen, addressIn, countIn, readCount, purposeIn, imageIn, recordIn, indexed, left, noneLeft, completed, Begun, begunIn}
+use Rattle.exchange.specs.State.{at, isSession, isOpen, addressIn, countIn, roomIn, readCount, purposeIn, imageIn, recordIn, indexed, left, noneLeft, completed, Begun, begunIn}
 use Rattle.exchange.specs.Session.{AnswerCall, final, sent, came, brokenOff, exchangesOf}
 use Rattle.exchange.proofs.Latest.{bytesRead, bytesWanted}
 use Rattle.exchange.proofs.Begins.{begins as begun}
@@ -48,6 +48,7 @@ pub record Holds (s : List ℕ) (b : Begun) (xs : List Step) : Type 0 where
   pub «record» : recordIn s ≡ b .«record»
   pub purpose : purposeIn s ≡ b .purpose
   pub reads : readCount s ≡ min (b .reads) 100
+  pub room : roomIn s ≡ b .room
   pub count : countIn s ≡ 0
   pub session : isSession s ≡ true
   pub opened : isOpen s ≡ true
@@ -77,6 +78,7 @@ holds st b xs s f =
       «record» = k .5;
       purpose = k .6;
       reads = k .7;
+      room = k .3;
       count = k .2;
       session = o;
       opened = k .8;
@@ -161,7 +163,7 @@ module _ {s : List ℕ} {b : Begun} {xs : List Step} (h : Holds s b xs) (cs : Li
   -- all of it, where the result is this
   pub answered : (result : List ℕ → ℕ) →
       ((bytes : List ℕ) → length bytes ≡ bytesWanted (exchangesOf (b .address) 0 (b .image) xs bytes) → valueOf (b .purpose) bytes (min (b .reads) 100) ≡ result bytes) →
-      Answered s b xs result cs
+      Answered s (b .address) (b .image) xs result cs
   unfolding outcomeOf
   answered result g = record {
     order = in-order;

@@ -60,8 +60,12 @@ module _ (r : DA728x) (a : ActuatorConfig) (d : DeviceConfig) where
   settled-as : (s : DA728x) → madeBy b s ≡ recordBy s (settling (configured r a d) s)
   settled-as s = ap (λ (next : DA728x). recordBy s (settling next s)) (record-kept (configured r a d))
 
-  own : madeBy b r ≡ configured r a d
-  own = settled-as r ∙ simp (eq-eqb (r .address) (r .address) refl, eq-eqb (variantCode (r .variant)) (variantCode (r .variant)) refl)
+  same-chip : (s : DA728x) → isChipOf r s ≡ true → madeBy b s ≡ configured s a d
+  same-chip s h = settled-as s ∙ go (isChipOf r s) h
+    where
+      go : (k : Bool) → k ≡ true → recordBy s (cond k (To (record { address = s .address; variant = s .variant; settings = Given a d })) Same) ≡ configured s a d
+      go true e = refl
+      go false e = absurd (true≢false (sym e))
 
   other : (s : DA728x) → isChipOf r s ≡ false → madeBy b s ≡ s
   other s h = settled-as s ∙ go (isChipOf r s) h
@@ -82,10 +86,11 @@ stored = record {
       settled cs r _ h (omega arith)
       ∙ ap (λ (next : DA728x). cond (completed (final (begunIn st b (Match (addressOf "CHIP_REV") (revision variant) ∷ [])) cs)) next r) (record-kept (newRecord address variant))
       ∙ ap (λ (k : Bool). cond k (newRecord address variant) r) (creates (addressOf "CHIP_REV") (revision variant) cs _ (h .steps));
-  configures = λ r a d st cs none s.
-      let h = holds-configure r a d st none s in
-      settled cs r _ h (omega (arith, at-least a d, ap length (append-nil (configureSteps a d))))
-      ∙ ap (λ (next : DA728x). cond (completed (final (startedIn st (operation.configure r a d .start)) cs)) next r) (own r a d);
+  configures = λ r s a d st cs none e k.
+      let h = holds-configure r a d st none e in
+      settled cs s _ h (omega (arith, at-least a d, ap length (append-nil (configureSteps a d))))
+      ∙ ap (λ (next : DA728x). cond (completed (final (startedIn st (operation.configure r a d .start)) cs)) next s) (same-chip r a d s k);
+  own = λ r. simp (eq-eqb (r .address) (r .address) refl, eq-eqb (variantCode (r .variant)) (variantCode (r .variant)) refl);
   foreign = λ r s a d st cs none e k.
       let h = holds-configure r a d st none e in
       settled cs s _ h (omega (arith, at-least a d, ap length (append-nil (configureSteps a d))))

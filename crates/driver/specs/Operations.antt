@@ -65,21 +65,22 @@ recordAfter st a n r = recordBy r (changeBy (stateAfter st a n) (reportOf st a n
 
 -- ---- the operations, by their names in lib.rs
 
--- how it starts, and what it answers where these bytes came
+-- the chip's address, how it starts, and what it answers where these bytes came
 pub record Operation : Type 0 where
+  pub address : ℕ
   pub start : Start
   pub answers : List ℕ → ℕ
 
 -- one that answers nothing
-abbrev pub plain : Start → Operation
-plain s = record { start = s; answers = λ bytes. 0 }
+abbrev pub plain : ℕ → Start → Operation
+plain address s = record { address = address; start = s; answers = λ bytes. 0 }
 
 abbrev pub runs : DA728x → List Step → Start
 runs r xs = begins (blank 0 (r .address)) xs
 
 -- one that answers the bytes that came
 abbrev pub asking : ℕ → DA728x → List Step → Operation
-asking purpose r xs = record { start = begins (blank purpose (r .address)) xs; answers = bigEndian 0 }
+asking purpose r xs = record { address = r .address; start = begins (blank purpose (r .address)) xs; answers = bigEndian 0 }
 
 -- "CHIP_REV does not read BA for the DA7280, CA for the DA7281, DA for the DA7282"
 abbrev pub revision : Variant → ℕ
@@ -91,14 +92,14 @@ abbrev pub newRecord : ℕ → Variant → DA728x
 newRecord address variant = record { address = address; variant = variant; settings = Absent }
 
 abbrev pub new : ℕ → Variant → Operation
-new address variant = plain (begins (carrying 1 (newRecord address variant)) (Match (addressOf "CHIP_REV") (revision variant) ∷ []))
+new address variant = plain address (begins (carrying 1 (newRecord address variant)) (Match (addressOf "CHIP_REV") (revision variant) ∷ []))
 
 -- "Settings are stored only after the last"
 abbrev pub configured : DA728x → ActuatorConfig → DeviceConfig → DA728x
 configured r a d = record { address = r .address; variant = r .variant; settings = Given a d }
 
 abbrev pub configure : DA728x → ActuatorConfig → DeviceConfig → Operation
-configure r a d = plain (unless (configureNumber (r .variant) a d) (begins (carrying 2 (configured r a d)) (configureSteps a d)))
+configure r a d = plain (r .address) (unless (configureNumber (r .variant) a d) (begins (carrying 2 (configured r a d)) (configureSteps a d)))
 
 abbrev pub getChipRev : DA728x → Operation
 getChipRev r = asking 3 r (Read (addressOf "CHIP_REV") ∷ [])
@@ -118,7 +119,7 @@ getStatus r = asking 3 r (Read (addressOf "IRQ_STATUS1") ∷ [])
 
 abbrev pub setFrequency : DA728x → ℕ → Operation
 setFrequency r hz =
-    plain (withSettings (r .settings) (λ a d.
+    plain (r .address) (withSettings (r .settings) (λ a d.
     unless (firstFailing (check (outsideBand (d .«driving_mode») hz) 11 ∷ [])) (runs r (frequencySteps hz))))
 
 abbrev pub negative : ℤ → Bool
@@ -135,39 +136,40 @@ overriding address d value =
     (begins (blank 0 address) (Write (addressOf "TOP_CTL2") (overrideByte value) ∷ []))
 
 abbrev pub setOverrideValue : DA728x → ℤ → Operation
-setOverrideValue r value = plain (withSettings (r .settings) (λ a d. overriding (r .address) d value))
+setOverrideValue r value = plain (r .address) (withSettings (r .settings) (λ a d. overriding (r .address) d value))
 
 abbrev pub setTimebase : DA728x → WaveformMemoryTimebase → Operation
 setTimebase r timebase =
-    plain (runs r (Read (addressOf "SEQ_CTL1") ∷ updated (addressOf "SEQ_CTL1") seq-ctl1 (put "FREQ_WAVEFORM_TIMEBASE" (timebaseBit timebase)) ∷ []))
+    plain (r .address) (runs r (Read (addressOf "SEQ_CTL1") ∷ updated (addressOf "SEQ_CTL1") seq-ctl1 (put "FREQ_WAVEFORM_TIMEBASE" (timebaseBit timebase)) ∷ []))
 
 abbrev pub enable : DA728x → Operation
-enable r = plain (withSettings (r .settings) (λ a d. runs r (Write (addressOf "TOP_CTL1") (enabled (d .«operation_mode»)) ∷ [])))
+enable r = plain (r .address) (withSettings (r .settings) (λ a d. runs r (Write (addressOf "TOP_CTL1") (enabled (d .«operation_mode»)) ∷ [])))
 
 abbrev pub disable : DA728x → Operation
 disable r =
-    plain (withSettings (r .settings) (λ a d.
+    plain (r .address) (withSettings (r .settings) (λ a d.
     runs r (Read (addressOf "TOP_CTL1") ∷ updated (addressOf "TOP_CTL1") top-ctl1 (put "OPERATION_MODE" 0) ∷ [])))
 
 -- "15 comes first", then "that the mode is CUSTOM_WAVEFORM (12)"; "We refuse, the last with 14 after its Rust checks"
 abbrev pub setCustomDriveWaveform : DA728x → Operation
-setCustomDriveWaveform r = plain (withSettings (r .settings) (λ a d. declines (cond (eqb (drivingCode (d .«driving_mode»)) (drivingCode «CUSTOM_WAVEFORM»)) 14 12)))
+setCustomDriveWaveform r = plain (r .address) (withSettings (r .settings) (λ a d. declines (cond (eqb (drivingCode (d .«driving_mode»)) (drivingCode «CUSTOM_WAVEFORM»)) 14 12)))
 
 abbrev pub unlockWaveformMemory : DA728x → Operation
-unlockWaveformMemory r = plain (runs r (unlockStep true ∷ []))
+unlockWaveformMemory r = plain (r .address) (runs r (unlockStep true ∷ []))
 
 abbrev pub lockWaveformMemory : DA728x → Operation
-lockWaveformMemory r = plain (runs r (unlockStep false ∷ []))
+lockWaveformMemory r = plain (r .address) (runs r (unlockStep false ∷ []))
 
 abbrev pub uploadSteps : WaveformMemory → Bool → List Step
 uploadSteps m lockAfter = sendSteps (min (m .len) 100) lockAfter
 
 abbrev pub uploadWaveformMemory : DA728x → WaveformMemory → Bool → Operation
-uploadWaveformMemory r m lockAfter = plain (begins (begunWith (r .address) 0 0 0 (m .«data») blankRecord) (uploadSteps m lockAfter))
+uploadWaveformMemory r m lockAfter = plain (r .address) (begins (begunWith (r .address) 0 0 0 (m .«data») blankRecord) (uploadSteps m lockAfter))
 
 -- "min(len, 100, buffer length) bytes, one an exchange; zero needs none"
 abbrev pub readWaveformMemory : DA728x → ℕ → ℕ → Operation
 readWaveformMemory r len room = record {
+  address = r .address;
   start = begins (begunWith (r .address) (min (min len 100) room) room 5 noImage blankRecord) [];
   answers = λ bytes. min (min len 100) room;
 }
@@ -177,10 +179,10 @@ abbrev pub numbered : ℕ → ℕ → Start → Start
 numbered id loops s = unless (firstFailing (check (ltb 15 id) 11 ∷ check (ltb 15 loops) 11 ∷ [])) s
 
 abbrev pub selectSequence : DA728x → ℕ → ℕ → Operation
-selectSequence r id loops = plain (numbered id loops (runs r (selectStep id loops ∷ [])))
+selectSequence r id loops = plain (r .address) (numbered id loops (runs r (selectStep id loops ∷ [])))
 
 abbrev pub startSequence : DA728x → Operation
-startSequence r = plain (runs r startSteps)
+startSequence r = plain (r .address) (runs r startSteps)
 
 abbrev pub playSequence : DA728x → ℕ → ℕ → Operation
-playSequence r id loops = plain (numbered id loops (runs r (selectStep id loops ∷ startSteps)))
+playSequence r id loops = plain (r .address) (numbered id loops (runs r (selectStep id loops ∷ startSteps)))

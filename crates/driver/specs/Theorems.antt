@@ -4,7 +4,7 @@ use Prim.Native.Nat.{ℕ, _^_, _≤_, _<_, min}
 use mathlib.Core.Path.{_≡_}
 use mathlib.Core.Bool.{Bool, true, false, cond, not, _&&_}
 use mathlib.Core.List.{List, [], _∷_, _++_}
-use lib.Dec.{eqb}
+use lib.Dec.{ltb, eqb}
 use lib.IntN.{ℤ}
 use lib.ListN.{length, take}
 use Rattle.config.specs.declared.ActuatorConfig.{ActuatorConfig}
@@ -18,7 +18,7 @@ use Rattle.exchange.specs.declared.Step.the-variants.{Write, Read, Update, Matc
 use Rattle.exchange.specs.declared.Reply.{Reply}
 use Rattle.exchange.specs.Steps.{chunk}
 use Rattle.exchange.specs.State.{isSession, countIn, completed, indexed, left, Begun, begunIn}
-use Rattle.exchange.specs.Turn.{reportOf}
+use Rattle.exchange.specs.Turn.{changed, reportOf}
 use Rattle.exchange.specs.Session.{AnswerCall, afterCall, final, sent, came, brokenOff, exchangesOf, lending, filled}
 use Rattle.checks.specs.Checks.{configureNumber}
 use Rattle.da728x.specs.declared.DA728x.{DA728x}
@@ -55,13 +55,13 @@ pub record Each (P : Operation → Type 0) : Type 0 where
 
 -- ---- what is sent and answered
 
--- of a session begun as `s` with these steps, under a list of answers, where the operation's result is `result` of the bytes that came
-pub record Answered (s : List ℕ) (b : Begun) (xs : List Step) (result : List ℕ → ℕ) (cs : List AnswerCall) : Type 0 where
+-- of a session begun as `s` for the chip at an address, with these steps, under a list of answers, where the operation's result is `result` of the bytes that came
+pub record Answered (s : List ℕ) (address : ℕ) (image : List ℕ) (xs : List Step) (result : List ℕ → ℕ) (cs : List AnswerCall) : Type 0 where
   -- demand 2's exchanges: those of the steps, in order from the first, with the bytes read substituted
-  pub order : sent s cs ≡ take (length (sent s cs)) (exchangesOf (b .address) 0 (b .image) xs (came s cs))
+  pub order : sent s cs ≡ take (length (sent s cs)) (exchangesOf address 0 image xs (came s cs))
   -- completed exactly where no answer broke it off and as many were made as there are steps; then they are all that is to be sent
   pub completes : completed (final s cs) ≡ not (brokenOff s cs) && eqb (length (sent s cs)) (length xs)
-  pub whole : completed (final s cs) ≡ true → sent s cs ≡ exchangesOf (b .address) 0 (b .image) xs (came s cs)
+  pub whole : completed (final s cs) ≡ true → sent s cs ≡ exchangesOf address 0 image xs (came s cs)
   -- the count, completed or not, and once completed what the operation answers
   pub outcome : outcomeOf (final s cs)
       ≡ record { made = length (sent s cs); completed = completed (final s cs); value = cond (completed (final s cs)) (result (came s cs)) 0 }
@@ -72,7 +72,7 @@ allSteps b xs = xs ++ indexed Store 0 (min (b .reads) 100)
 
 abbrev pub AnswersAs : Operation → Type 0
 AnswersAs o = (b : Begun) (xs : List Step) → o .start ≡ begins b xs → (st : List ℕ) → isSession st ≡ true → (cs : List AnswerCall) →
-    Answered (begunIn st b xs) b (allSteps b xs) (o .answers) cs
+    Answered (begunIn st b xs) (o .address) (b .image) (allSteps b xs) (o .answers) cs
 
 pub record Answers : Type 0 where
   pub each : Each AnswersAs
@@ -97,7 +97,7 @@ cameOnly [] value = false
 cameOnly (b ∷ []) value = eqb b value
 cameOnly (b ∷ c ∷ bytes) value = false
 
--- for every record lent, every session's bytes (old, foreign, forged) and every list of answers
+-- for every record lent and every list of answers; the first three for every session's bytes (old, foreign, forged)
 pub record Stored : Type 0 where
   -- an answer that is refused (16, 17, 19) or is not the last leaves the record
   pub refused : (st : List ℕ) (a : Reply) (n : ℕ) (r : DA728x) → eqb (reportOf st a n .number) 0 ≡ false → recordAfter st a n r ≡ r
@@ -110,10 +110,11 @@ pub record Stored : Type 0 where
   pub creates : (address : ℕ) (variant : Variant) (st : List ℕ) (cs : List AnswerCall) (r : DA728x) → isSession st ≡ true →
       recordFinal (startedIn st (operation.new address variant .start)) cs r
       ≡ cond (cameOnly (came (startedIn st (operation.new address variant .start)) cs) (revision variant)) (newRecord address variant) r
-  -- `configure` stores its settings exactly if it is completed, in the record that it began with; a record of another chip stays
-  pub configures : (r : DA728x) (a : ActuatorConfig) (d : DeviceConfig) (st : List ℕ) (cs : List AnswerCall) → configureNumber (r .variant) a d ≡ 0 → isSession st ≡ true →
-      recordFinal (startedIn st (operation.configure r a d .start)) cs r
-      ≡ cond (completed (final (startedIn st (operation.configure r a d .start)) cs)) (configured r a d) r
+  -- `configure` stores its settings exactly if it is completed, in a record of its own chip; a record of another chip stays
+  pub configures : (r s : DA728x) (a : ActuatorConfig) (d : DeviceConfig) (st : List ℕ) (cs : List AnswerCall) → configureNumber (r .variant) a d ≡ 0 → isSession st ≡ true →
+      isChipOf r s ≡ true → recordFinal (startedIn st (operation.configure r a d .start)) cs s
+      ≡ cond (completed (final (startedIn st (operation.configure r a d .start)) cs)) (configured s a d) s
+  pub own : (r : DA728x) → isChipOf r r ≡ true
   pub foreign : (r s : DA728x) (a : ActuatorConfig) (d : DeviceConfig) (st : List ℕ) (cs : List AnswerCall) → configureNumber (r .variant) a d ≡ 0 → isSession st ≡ true →
       isChipOf r s ≡ false → recordFinal (startedIn st (operation.configure r a d .start)) cs s ≡ s
   -- no other operation changes it
@@ -141,3 +142,10 @@ pub record Exchanges : Type 0 where
       filled (startedIn st (operation.readWaveformMemory r len (length buffer) .start)) buffer replies
       ≡ over buffer 0 (came (startedIn st (operation.readWaveformMemory r len (length buffer) .start))
       (lending (startedIn st (operation.readWaveformMemory r len (length buffer) .start)) buffer replies))
+  -- once completed, as many bytes came as it reads
+  pub came-all : (r : DA728x) (len room : ℕ) (st : List ℕ) (cs : List AnswerCall) → isSession st ≡ true → room < 2 ^ 64 →
+      completed (final (startedIn st (operation.readWaveformMemory r len room .start)) cs) ≡ true →
+      length (came (startedIn st (operation.readWaveformMemory r len room .start)) cs) ≡ min (min len 100) room
+  -- an answer is out of turn where a buffer of another length is lent than was said at the start, if anything is read
+  pub another : (r : DA728x) (len room n : ℕ) (st : List ℕ) (cs : List AnswerCall) → isSession st ≡ true → room < 2 ^ 64 →
+      changed (final (startedIn st (operation.readWaveformMemory r len room .start)) cs) n ≡ ltb 0 (min (min len 100) room) && not (eqb n room)

@@ -10,4 +10,4 @@ use Rattle.examples.specs.Wire.{wireExamples}
 pub wired : Hold wireExamples
 unfolding withOf recordAt featureSteps limitSteps calibrationSteps pidSteps frequencySteps rapidStopSteps phaseSteps customSteps drivingSteps gpiByte gpiSteps givenSteps triggerSteps noImage enabled seqCtl2 memCtl2 chunkStep chunkSteps lockSteps sendSteps
 wired =
-    (refl, (refl, (refl, (refl, (refl, (refl, (refl, (refl, (refl, (refl, (refl, (refl, (refl, (refl, (refl, (refl, (refl, (refl, (refl, (refl, (refl, tt)))))))))))))))))))))
+    (refl, (refl, (refl, (refl, (refl, (refl, (refl, (refl, (refl, (refl, (refl, (refl, (refl, (refl, (refl, (refl, (refl, (refl, (refl, (refl, (refl, (refl, (refl, (refl, (refl, (refl, (refl, (refl, (refl, (refl, (refl, (refl, (refl, (refl, (refl, (refl, (refl, tt)))))))))))))))))))))))))))))))))))))
