@@ -31,7 +31,7 @@ use Rattle.sessions.specs.Sessions.{noImage, blank, carrying, enabled, selectSt
 use Rattle.outcome.specs.declared.Change.the-variants.{Same, To}
 use Rattle.driver.specs.Operations as operation
 use Rattle.outcome.specs.Outcome.{bigEndian, changeFor, recordBy}
-use Rattle.driver.specs.Operations.{Start, declines, begins, startedIn, unless, withSettings, runs, Operation, negative, isDro, configured}
+use Rattle.driver.specs.Operations.{Start, declines, begins, startedIn, unless, withSettings, runs, Operation, overrideChecks, numberChecks, configured}
 use Rattle.driver.specs.Theorems.{Others, Each, Answered, AnswersAs, Answers, allSteps}
 use Rattle.driver.proofs.Begun.{Fits, Holds, holds, no-image, no-record, valueOf, answered, counted, within, all-made}
 use Rattle.exchange.proofs.Latest.{bytesWanted}
@@ -131,11 +131,8 @@ three-bytes (a ∷ b ∷ []) e = absurd (omega (arith, e))
 three-bytes (a ∷ b ∷ c ∷ []) e = refl
 three-bytes (a ∷ b ∷ c ∷ d ∷ bytes) e = absurd (omega (arith, e))
 
-abbrev numbers-checked : ℕ → ℕ → ℕ
-numbers-checked id loops = firstFailing (check (ltb 15 id) 11 ∷ check (ltb 15 loops) 11 ∷ [])
-
-numbers-small : (id loops : ℕ) → Small (numbers-checked id loops)
-numbers-small id loops = first-small (check (ltb 15 id) 11 ∷ check (ltb 15 loops) 11 ∷ []) (s11, (s11, tt))
+numbers-small : (id loops : ℕ) → Small (firstFailing (numberChecks id loops))
+numbers-small id loops = first-small (numberChecks id loops) (s11, (s11, tt))
 
 pub quiet : Others QuietOperation
 quiet = record {
@@ -147,8 +144,7 @@ quiet = record {
       (first-small (check (outsideBand (d .«driving_mode») hz) 11 ∷ []) (s11, tt))
       (quiet-runs r (frequencySteps hz) (omega (arith, frequency hz))));
   set-override-value = λ r value. by-settings _ (r .settings) _ (λ a d.
-      let cs = check (d .acceleration && negative value) 11 ∷ check (not (isDro (d .«operation_mode»))) 12 ∷ [] in
-      by-unless _ (firstFailing cs) _ (first-small cs (s11, (s12, tt))) (quiet-runs r (Write (addressOf "TOP_CTL2") (overrideByte value) ∷ []) (omega arith)));
+      by-unless _ (firstFailing (overrideChecks d value)) _ (first-small (overrideChecks d value) (s11, (s12, tt))) (quiet-runs r (Write (addressOf "TOP_CTL2") (overrideByte value) ∷ []) (omega arith)));
   set-timebase = λ r timebase.
       quiet-runs r (Read (addressOf "SEQ_CTL1") ∷ updated (addressOf "SEQ_CTL1") seq-ctl1 (put "FREQ_WAVEFORM_TIMEBASE" (timebaseBit timebase)) ∷ []) (omega arith);
   enable = λ r. by-settings _ (r .settings) _ (λ a d. quiet-runs r (Write (addressOf "TOP_CTL1") (enabled (d .«operation_mode»)) ∷ []) (omega arith));
@@ -159,9 +155,9 @@ quiet = record {
   lock-waveform-memory = λ r. quiet-runs r (unlockStep false ∷ []) (omega arith);
   upload-waveform-memory = λ r m lockAfter e. ((few m lockAfter, omega arith, e, no-record), λ bytes h. refl, refl, λ next s. refl);
   read-waveform-memory = λ r len room h. ((omega arith, h, no-image, no-record), λ bytes e. omega arith, refl, λ next s. refl);
-  select-sequence = λ r id loops. by-unless _ (numbers-checked id loops) _ (numbers-small id loops) (quiet-runs r (selectStep id loops ∷ []) (omega arith));
+  select-sequence = λ r id loops. by-unless _ (firstFailing (numberChecks id loops)) _ (numbers-small id loops) (quiet-runs r (selectStep id loops ∷ []) (omega arith));
   start-sequence = λ r. quiet-runs r startSteps (omega arith);
-  play-sequence = λ r id loops. by-unless _ (numbers-checked id loops) _ (numbers-small id loops) (quiet-runs r (selectStep id loops ∷ startSteps) (omega arith));
+  play-sequence = λ r id loops. by-unless _ (firstFailing (numberChecks id loops)) _ (numbers-small id loops) (quiet-runs r (selectStep id loops ∷ startSteps) (omega arith));
 }
   where
     custom : (b : Bool) → (11 ≤ cond b 14 12) × (cond b 14 12 ≤ 15)

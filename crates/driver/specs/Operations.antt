@@ -1,4 +1,5 @@
--- Every operation of lib.rs: what it refuses before its first exchange, else its steps, and what it answers once they are made. Document 01, 'Settings to registers', 'Exchanges' and 'Who can cause which answer'.
+-- Every operation of lib.rs: what it refuses before its first exchange, else its steps, and what it answers once they are made.
+-- Document 01, 'Settings to registers', 'Exchanges' and 'Who can cause which answer'.
 use Prim.Native.Nat.{ℕ, zero, suc, min}
 use mathlib.Core.Bool.{Bool, true, false, cond, not, _&&_}
 use mathlib.Core.List.{List, [], _∷_}
@@ -18,7 +19,7 @@ use Rattle.memory.specs.declared.WaveformMemory.{WaveformMemory}
 use Rattle.memory.specs.declared.WaveformMemoryTimebase.{WaveformMemoryTimebase}
 use Rattle.memory.specs.Timebase.{timebaseBit}
 use Rattle.convert.specs.Convert.{overrideByte}
-use Rattle.checks.specs.Checks.{outsideBand, check, firstFailing, configureNumber}
+use Rattle.checks.specs.Checks.{outsideBand, Check, check, firstFailing, configureNumber}
 use Rattle.exchange.specs.declared.Step.{Step}
 use Rattle.exchange.specs.declared.Step.the-variants.{Write, Read, Match}
 use Rattle.exchange.specs.declared.Reply.{Reply}
@@ -130,9 +131,12 @@ abbrev pub isDro : OperationMode → Bool
 isDro mode = eqb (operationCode mode) (operationCode «DRO_MODE»)
 
 -- "Its checks: 15, negative under acceleration (11), not DRO_MODE (12)"
+abbrev pub overrideChecks : DeviceConfig → ℤ → List Check
+overrideChecks d value = check (d .acceleration && negative value) 11 ∷ check (not (isDro (d .«operation_mode»))) 12 ∷ []
+
 abbrev pub overriding : ℕ → DeviceConfig → ℤ → Start
 overriding address d value =
-    unless (firstFailing (check (d .acceleration && negative value) 11 ∷ check (not (isDro (d .«operation_mode»))) 12 ∷ []))
+    unless (firstFailing (overrideChecks d value))
     (begins (blank 0 address) (Write (addressOf "TOP_CTL2") (overrideByte value) ∷ []))
 
 abbrev pub setOverrideValue : DA728x → ℤ → Operation
@@ -175,8 +179,11 @@ readWaveformMemory r len room = record {
 }
 
 -- "a sequence number or loop count above 15 (11)"
+abbrev pub numberChecks : ℕ → ℕ → List Check
+numberChecks id loops = check (ltb 15 id) 11 ∷ check (ltb 15 loops) 11 ∷ []
+
 abbrev pub numbered : ℕ → ℕ → Start → Start
-numbered id loops s = unless (firstFailing (check (ltb 15 id) 11 ∷ check (ltb 15 loops) 11 ∷ [])) s
+numbered id loops s = unless (firstFailing (numberChecks id loops)) s
 
 abbrev pub selectSequence : DA728x → ℕ → ℕ → Operation
 selectSequence r id loops = plain (r .address) (numbered id loops (runs r (selectStep id loops ∷ [])))

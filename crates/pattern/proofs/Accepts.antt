@@ -7,7 +7,7 @@ use mathlib.Core.List.{List, [], _∷_, map}
 use native.Mathlib.Omega.{arith}
 use borrow.Author.Tests.{lt-ltb, le-ltb}
 use lib.Dec.{ltb, leb}
-use lib.ListN.{length}
+use lib.ListN.{length, length-map}
 use Rattle.errors.specs.Told.{Told, gives, refuses, onTold, Handed, refused, Built}
 use Rattle.snippet.specs.Snippet.{withMade, builtSnippet}
 use Rattle.frame.specs.declared.Frame.{Frame}
@@ -17,9 +17,11 @@ use Rattle.frame.specs.Frame.{bytesOf, frameBytes, builtFrame}
 use Rattle.sequence.specs.declared.SequenceBuilder.{SequenceBuilder}
 use Rattle.sequence.specs.Sequence.{withFrame, builtSequence}
 use Rattle.memory.specs.Memory.{newMemory, withSnippet, withSequence, imageNumber, builtMemory}
-use Rattle.content.specs.Content.{Content, pointBytes, framesBytes}
-use Rattle.pattern.specs.Calls.{SnippetCall, madeBy, snippetStep, snippetFrom, pointsFrom, FrameCall, gain, timebase, loopCount, frequencyHz, frameStep, Begin, new, silence, begunBy, FrameCalls, frameCalled, numberOf, frameFrom, sequenceStep, sequenceFrom, framesFrom, MemoryCall, addSnippet, addSequence, memoryStep, memoryFrom, contentFrom, builtFrom}
-use Rattle.pattern.specs.Accepts.{snippetFault, badBegin, fieldFault, sequenceFault, memoryFault, Accepts}
+use Rattle.snippet.specs.Point.{pointByte}
+use Rattle.snippet.specs.Point as made
+use Rattle.content.specs.Content.{Content, pointBytes, framesBytes, sizeOf}
+use Rattle.pattern.specs.Calls.{SnippetCall, ramp, step, point, snippetStep, snippetFrom, pointsFrom, FrameCall, gain, timebase, loopCount, frequencyHz, frameStep, Begin, new, silence, begunBy, FrameCalls, frameCalled, numberOf, frameFrom, sequenceStep, sequenceFrom, framesFrom, MemoryCall, addSnippet, addSequence, memoryStep, memoryFrom, contentFrom, builtFrom}
+use Rattle.pattern.specs.Accepts.{pointFault, madeFault, snippetFault, badBegin, fieldFault, sequenceFault, memoryFault, Accepts}
 use Rattle.pattern.proofs.Items.{frameRan, answerOn, withMadeFrame, snippets-held, sequences-held, content-held}
 use Rattle.pattern.proofs.Frames.{built-bytes, ran-fields}
 use Rattle.pattern.proofs.Snippets.{snippet-holds}
@@ -47,11 +49,22 @@ module _ (ks : List SnippetCall) where
   counted : snippetFrom ks .len ≡ length (pointsFrom ks)
   counted = snippet-holds ks .shows .counted
 
+  point-fault : (byte : ℕ) → withMade (snippetFrom ks) (gives byte) .number ≡ pointFault (pointsFrom ks)
+  point-fault byte = number-of (leb 16 (snippetFrom ks .len)) _ _ ∙ ap (λ (n : ℕ). cond (leb 16 n) 6 0) counted
+
+  made-fault : (r : Bool) (t a : ℕ) → withMade (snippetFrom ks) (made.point r t a) .number ≡ madeFault (pointsFrom ks) t a
+  made-fault r t a = go (ltb t 1) (ltb 8 t) (ltb 15 a) where
+    go : (x y z : Bool) → withMade (snippetFrom ks) (cond x (refuses 1) (cond y (refuses 1) (cond z (refuses 2) (gives (pointByte r t a))))) .number
+        ≡ cond (x || y) 1 (cond z 2 (pointFault (pointsFrom ks)))
+    go true y z = refl
+    go false true z = refl
+    go false false true = refl
+    go false false false = point-fault (pointByte r t a)
+
   snippet-fault : (k : SnippetCall) → snippetStep (snippetFrom ks) k .number ≡ snippetFault (pointsFrom ks) k
-  snippet-fault k = go (madeBy k) where
-    go : (t : Told ℕ) → withMade (snippetFrom ks) t .number ≡ onTold t (λ byte. cond (leb 16 (length (pointsFrom ks))) 6 0) (λ n. n)
-    go (gives byte) = number-of (leb 16 (snippetFrom ks .len)) _ _ ∙ ap (λ (n : ℕ). cond (leb 16 n) 6 0) counted
-    go (refuses n) = refl
+  snippet-fault (ramp t a) = made-fault true t a
+  snippet-fault (step t a) = made-fault false t a
+  snippet-fault (point x) = point-fault _
 
   empty-snippet : builtSnippet (snippetFrom ks) .number ≡ cond (ltb (length (pointsFrom ks)) 1) 9 0
   empty-snippet = built-number (ltb (snippetFrom ks .len) 1) _ _ ∙ ap (λ (n : ℕ). cond (ltb n 1) 9 0) counted
@@ -132,13 +145,16 @@ memory-fault a ks (addSequence ms) =
     ∙ ap (cond (ltb (sequenceFrom ms .len) 1) 10) (number-of (leb 16 (memoryFrom a ks .«num_sequences»)) _ _)
     ∙ ap₂ (λ (t : Bool) (n : ℕ). cond t 10 (cond (leb 16 n) 7 0)) (no-frames ms) (memory-holds a ks .sequences .counted ∙ ap length (sym (sequences-held ks (newMemory a))))
 
-build-fault : (a : Bool) (ks : List MemoryCall)
-    → builtFrom a ks .number ≡ imageNumber (map pointBytes (contentFrom a ks .snippets)) (map framesBytes (contentFrom a ks .sequences))
+build-fault : (a : Bool) (ks : List MemoryCall) → let c = contentFrom a ks in
+    builtFrom a ks .number ≡ cond (ltb (length (c .snippets)) 1) 9 (cond (ltb (length (c .sequences)) 1) 10 (cond (ltb 100 (sizeOf c)) 8 0))
 unfolding builtMemory
 build-fault a ks =
     let h = memory-holds a ks in
+    let c = contentFrom a ks in
     ap₂ imageNumber (h .snippets .shown) (h .sequences .shown)
     ∙ ap (λ (c : Content). imageNumber (map pointBytes (c .snippets)) (map framesBytes (c .sequences))) (content-held a ks)
+    ∙ ap₂ (λ (s q : ℕ). cond (ltb s 1) 9 (cond (ltb q 1) 10 (cond (ltb 100 (sizeOf c)) 8 0)))
+    (length-map (c .snippets) pointBytes) (length-map (c .sequences) framesBytes)
 
 pub accepts : Accepts
 accepts =

@@ -13,15 +13,23 @@ use Rattle.frame.specs.Builder.{plainFrame}
 use Rattle.frame.specs.Frame.{bytesOf}
 use Rattle.snippet.specs.Snippet.{builtSnippet}
 use Rattle.sequence.specs.Sequence.{builtSequence}
-use Rattle.memory.specs.Memory.{imageNumber}
-use Rattle.content.specs.Content.{Point, Content, pointBytes, framesBytes}
-use Rattle.pattern.specs.Calls.{SnippetCall, madeBy, snippetStep, snippetFrom, pointsFrom, FrameCall, gain, timebase, loopCount, frequencyHz, Begin, new, silence, begunBy, FrameCalls, frameCalled, numberOf, frameFrom, sequenceStep, sequenceFrom, framesFrom, MemoryCall, addSnippet, addSequence, memoryStep, memoryFrom, contentFrom, builtFrom}
+use Rattle.content.specs.Content.{Point, Content, framesBytes, sizeOf}
+use Rattle.pattern.specs.Calls.{SnippetCall, ramp, step, point, snippetStep, snippetFrom, pointsFrom, FrameCall, gain, timebase, loopCount, frequencyHz, Begin, new, silence, begunBy, FrameCalls, frameCalled, numberOf, frameFrom, sequenceStep, sequenceFrom, framesFrom, MemoryCall, addSnippet, addSequence, memoryStep, memoryFrom, contentFrom, builtFrom}
 
 -- ---- a snippet that holds these points
 
--- "1 InvalidTimebase .. 2 InvalidAmplitude", "both before a full builder": "6 TooManySnippets, a 17th point"
+-- "6 TooManySnippets, a 17th point"
+abbrev pub pointFault : List Point → ℕ
+pointFault ps = cond (leb 16 (length ps)) 6 0
+
+-- "1 InvalidTimebase, length not 1..8. 2 InvalidAmplitude, above 15", "both before a full builder"
+abbrev pub madeFault : List Point → ℕ → ℕ → ℕ
+madeFault ps timebases amplitude = cond (ltb timebases 1 || ltb 8 timebases) 1 (cond (ltb 15 amplitude) 2 (pointFault ps))
+
 abbrev pub snippetFault : List Point → SnippetCall → ℕ
-snippetFault ps k = onTold (madeBy k) (λ byte. cond (leb 16 (length ps)) 6 0) (λ n. n)
+snippetFault ps (ramp t a) = madeFault ps t a
+snippetFault ps (step t a) = madeFault ps t a
+snippetFault ps (point x) = pointFault ps
 
 -- ---- a frame
 
@@ -67,5 +75,6 @@ pub record Accepts : Type 0 where
   pub sequenceBuild : (ms : List FrameCalls) → builtSequence (sequenceFrom ms) .number ≡ cond (ltb (length (framesFrom ms)) 1) 10 0
   pub memory : (a : Bool) (ks : List MemoryCall) (k : MemoryCall)
       → memoryStep (memoryFrom a ks) k .number ≡ memoryFault (contentFrom a ks) k
+  -- "`build` tests no snippets, no sequences, then the size 2 + s + q + data ≤ 100"
   pub memoryBuild : (a : Bool) (ks : List MemoryCall) → let c = contentFrom a ks in
-      builtFrom a ks .number ≡ imageNumber (map pointBytes (c .snippets)) (map framesBytes (c .sequences))
+      builtFrom a ks .number ≡ cond (ltb (length (c .snippets)) 1) 9 (cond (ltb (length (c .sequences)) 1) 10 (cond (ltb 100 (sizeOf c)) 8 0))
