@@ -18,11 +18,7 @@ ghost use Rattle.readings.specs.Readings.{countsAnswer, pointAnswer, frameAnswe
 ghost use Rattle.readings.specs.Lists.{listsOut};
 ghost use Rattle.field.specs.Field.{codeOf};
 ghost use Rattle.field.specs.Layout.{readings, replacements};
-ghost use Rattle.registers.specs.Addresses.{addresses};
-ghost use Rattle.registers_interrupts.specs.Table as interrupts;
-ghost use Rattle.registers_actuator.specs.Table as actuator;
-ghost use Rattle.registers_control.specs.Table as control;
-ghost use Rattle.registers_trigger.specs.Table as trigger;
+ghost use Rattle.registers.specs.Table.{interrupts, actuator, control, trigger, readOnly, addresses};
 ghost use Rattle.capi.specs.Items.{snippetItem, frameItem, sequenceItem, fullLength, copiedLength, itemOut};
 use calls::UnderWay;
 use errors::Error;
@@ -206,8 +202,8 @@ pub extern "C" fn da728x_register_addresses(out: &mut [u8]) -> usize
 
 #[no_mangle]
 pub extern "C" fn da728x_read_interrupts(byte: u8, out: &mut [u8]) -> usize
-    ensures { λ r. ⌜ r ≡ min (length (readings interrupts.tables byte)) (length (now (out .entry))) ⌝ }
-    ensures { λ _. ⌜ now (out .exit) ≡ copied (now (out .entry)) (readings interrupts.tables byte) ⌝ }
+    ensures { λ r. ⌜ r ≡ min (length (readings interrupts byte)) (length (now (out .entry))) ⌝ }
+    ensures { λ _. ⌜ now (out .exit) ≡ copied (now (out .entry)) (readings interrupts byte) ⌝ }
 {
     let values = registers_interrupts::fields(byte);
     laws::copy_into(out, &values)
@@ -216,8 +212,8 @@ pub extern "C" fn da728x_read_interrupts(byte: u8, out: &mut [u8]) -> usize
 #[no_mangle]
 pub extern "C" fn da728x_replace_interrupts(byte: u8, value: u8, out: &mut [u8]) -> usize
     ensures { λ r. ⌜ r
-        ≡ min (length (replacements interrupts.read-only interrupts.tables byte value)) (length (now (out .entry))) ⌝ }
-    ensures { λ _. ⌜ now (out .exit) ≡ copied (now (out .entry)) (replacements interrupts.read-only interrupts.tables byte value) ⌝ }
+        ≡ min (length (replacements readOnly interrupts byte value)) (length (now (out .entry))) ⌝ }
+    ensures { λ _. ⌜ now (out .exit) ≡ copied (now (out .entry)) (replacements readOnly interrupts byte value) ⌝ }
 {
     let bytes = registers_interrupts::replaced(byte, value);
     laws::copy_into(out, &bytes)
@@ -225,8 +221,8 @@ pub extern "C" fn da728x_replace_interrupts(byte: u8, value: u8, out: &mut [u8])
 
 #[no_mangle]
 pub extern "C" fn da728x_read_actuator(byte: u8, out: &mut [u8]) -> usize
-    ensures { λ r. ⌜ r ≡ min (length (readings actuator.tables byte)) (length (now (out .entry))) ⌝ }
-    ensures { λ _. ⌜ now (out .exit) ≡ copied (now (out .entry)) (readings actuator.tables byte) ⌝ }
+    ensures { λ r. ⌜ r ≡ min (length (readings actuator byte)) (length (now (out .entry))) ⌝ }
+    ensures { λ _. ⌜ now (out .exit) ≡ copied (now (out .entry)) (readings actuator byte) ⌝ }
 {
     let values = registers_actuator::fields(byte);
     laws::copy_into(out, &values)
@@ -235,8 +231,8 @@ pub extern "C" fn da728x_read_actuator(byte: u8, out: &mut [u8]) -> usize
 #[no_mangle]
 pub extern "C" fn da728x_replace_actuator(byte: u8, value: u8, out: &mut [u8]) -> usize
     ensures { λ r. ⌜ r
-        ≡ min (length (replacements actuator.read-only actuator.tables byte value)) (length (now (out .entry))) ⌝ }
-    ensures { λ _. ⌜ now (out .exit) ≡ copied (now (out .entry)) (replacements actuator.read-only actuator.tables byte value) ⌝ }
+        ≡ min (length (replacements readOnly actuator byte value)) (length (now (out .entry))) ⌝ }
+    ensures { λ _. ⌜ now (out .exit) ≡ copied (now (out .entry)) (replacements readOnly actuator byte value) ⌝ }
 {
     let bytes = registers_actuator::replaced(byte, value);
     laws::copy_into(out, &bytes)
@@ -244,8 +240,8 @@ pub extern "C" fn da728x_replace_actuator(byte: u8, value: u8, out: &mut [u8]) -
 
 #[no_mangle]
 pub extern "C" fn da728x_read_control(byte: u8, out: &mut [u8]) -> usize
-    ensures { λ r. ⌜ r ≡ min (length (readings control.tables byte)) (length (now (out .entry))) ⌝ }
-    ensures { λ _. ⌜ now (out .exit) ≡ copied (now (out .entry)) (readings control.tables byte) ⌝ }
+    ensures { λ r. ⌜ r ≡ min (length (readings control byte)) (length (now (out .entry))) ⌝ }
+    ensures { λ _. ⌜ now (out .exit) ≡ copied (now (out .entry)) (readings control byte) ⌝ }
 {
     let values = registers_control::fields(byte);
     laws::copy_into(out, &values)
@@ -254,8 +250,8 @@ pub extern "C" fn da728x_read_control(byte: u8, out: &mut [u8]) -> usize
 #[no_mangle]
 pub extern "C" fn da728x_replace_control(byte: u8, value: u8, out: &mut [u8]) -> usize
     ensures { λ r. ⌜ r
-        ≡ min (length (replacements control.read-only control.tables byte value)) (length (now (out .entry))) ⌝ }
-    ensures { λ _. ⌜ now (out .exit) ≡ copied (now (out .entry)) (replacements control.read-only control.tables byte value) ⌝ }
+        ≡ min (length (replacements readOnly control byte value)) (length (now (out .entry))) ⌝ }
+    ensures { λ _. ⌜ now (out .exit) ≡ copied (now (out .entry)) (replacements readOnly control byte value) ⌝ }
 {
     let bytes = registers_control::replaced(byte, value);
     laws::copy_into(out, &bytes)
@@ -263,8 +259,8 @@ pub extern "C" fn da728x_replace_control(byte: u8, value: u8, out: &mut [u8]) ->
 
 #[no_mangle]
 pub extern "C" fn da728x_read_trigger(byte: u8, out: &mut [u8]) -> usize
-    ensures { λ r. ⌜ r ≡ min (length (readings trigger.tables byte)) (length (now (out .entry))) ⌝ }
-    ensures { λ _. ⌜ now (out .exit) ≡ copied (now (out .entry)) (readings trigger.tables byte) ⌝ }
+    ensures { λ r. ⌜ r ≡ min (length (readings trigger byte)) (length (now (out .entry))) ⌝ }
+    ensures { λ _. ⌜ now (out .exit) ≡ copied (now (out .entry)) (readings trigger byte) ⌝ }
 {
     let values = registers_trigger::fields(byte);
     laws::copy_into(out, &values)
@@ -273,8 +269,8 @@ pub extern "C" fn da728x_read_trigger(byte: u8, out: &mut [u8]) -> usize
 #[no_mangle]
 pub extern "C" fn da728x_replace_trigger(byte: u8, value: u8, out: &mut [u8]) -> usize
     ensures { λ r. ⌜ r
-        ≡ min (length (replacements trigger.read-only trigger.tables byte value)) (length (now (out .entry))) ⌝ }
-    ensures { λ _. ⌜ now (out .exit) ≡ copied (now (out .entry)) (replacements trigger.read-only trigger.tables byte value) ⌝ }
+        ≡ min (length (replacements readOnly trigger byte value)) (length (now (out .entry))) ⌝ }
+    ensures { λ _. ⌜ now (out .exit) ≡ copied (now (out .entry)) (replacements readOnly trigger byte value) ⌝ }
 {
     let bytes = registers_trigger::replaced(byte, value);
     laws::copy_into(out, &bytes)

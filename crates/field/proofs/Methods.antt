@@ -7,7 +7,7 @@ use native.Mathlib.Nat.{mod-lt}
 use native.Mathlib.Omega.{arith}
 use lib.Dec.{ltb}
 use lib.Pow.{pow-pos, mod-mod-pow}
-use Rattle.field.specs.Field.{getOf, room, withOf, flagOf, codeOf}
+use Rattle.field.specs.Field.{getOf, widthIn, withOf, flagOf, codeOf}
 
 -- a number below 2 is the code of whether it is set
 bit : (n : ℕ) → n < 2 → codeOf (ltb 0 n) ≡ n
@@ -24,10 +24,10 @@ flag-code b s = bit _ (mod-lt _ (pow-pos 1))
 pub with-masked : (b s w v : ℕ) → withOf b s w (v % 2 ^ w) ≡ withOf b s w v
 unfolding withOf
 with-masked b s w v =
-    let e : w - room s w + room s w ≡ w = omega arith in
-    let m : v % 2 ^ w % 2 ^ room s w ≡ v % 2 ^ room s w =
-    ap (λ (k : ℕ). v % 2 ^ k % 2 ^ room s w) (sym e) ∙ mod-mod-pow v (w - room s w) (room s w) in
-    ap (λ (k : ℕ). b / 2 ^ (s + room s w) * 2 ^ (s + room s w) + k * 2 ^ s + b % 2 ^ s) m
+    let e : w - widthIn s w + widthIn s w ≡ w = omega arith in
+    let m : v % 2 ^ w % 2 ^ widthIn s w ≡ v % 2 ^ widthIn s w =
+    ap (λ (k : ℕ). v % 2 ^ k % 2 ^ widthIn s w) (sym e) ∙ mod-mod-pow v (w - widthIn s w) (widthIn s w) in
+    ap (λ (k : ℕ). b / 2 ^ (s + widthIn s w) * 2 ^ (s + widthIn s w) + k * 2 ^ s + b % 2 ^ s) m
 
 -- what a call with no `requires` asks
 pub asked : {A B : Type 0} → A → B → Prim.Unit {0}

@@ -6,7 +6,7 @@ use native.Mathlib.Nat.{mod-eq-of-lt, div-eq-of-lt, lt-of-lt-of-le, lt-of-le-of-
 use native.Mathlib.Omega.{arith}
 use lib.Bits.{bitAnd, bitOr, and-mask, or-shifted, or-lt}
 use lib.Pow.{pow-pos, pow-mono, shl-lt, shr-lt, shl-exact, shr-le, split}
-use Rattle.field.specs.Field.{getOf, room, spliced, withOf}
+use Rattle.field.specs.Field.{getOf, widthIn, spliced, withOf}
 use Rattle.field.proofs.Own.{nested}
 
 -- the shift of 1 does not wrap
@@ -33,7 +33,7 @@ get-wide b s w hb h = sym (mod-eq-of-lt (lt-of-le-of-lt (shr-le b s) (lt-of-lt-o
 pub with-out : (b s w v : ℕ) → 8 ≤ s → b ≡ withOf b s w v
 unfolding withOf
 with-out b s w v h =
-    let e : room s w ≡ 0 = omega arith in
+    let e : widthIn s w ≡ 0 = omega arith in
     let z : s + 0 ≡ s = omega arith in
     let o : v % 1 ≡ 0 = omega arith in
     simp (e, z, o) (omega (arith, split b s))
@@ -82,7 +82,7 @@ module _ (b s w v j : ℕ) (hb : b < 256) (hj : j + (s + w) ≡ 8) where
       ∙ sym (nested b s w v)
 
 -- with what the calls of `cut` and `low` answered
-module _ (b s d v w l m : ℕ) (hb : b < 256) (h : s < 8) (e : w ≡ room s d) (f : l ≡ v % 2 ^ w) (g : m ≡ b % 2 ^ s) where
+module _ (b s d v w l m : ℕ) (hb : b < 256) (h : s < 8) (e : w ≡ widthIn s d) (f : l ≡ v % 2 ^ w) (g : m ≡ b % 2 ^ s) where
   -- what is left of the byte above the field
   fits : 8 - s - w + (s + w) ≡ 8
   fits = omega arith

@@ -9,8 +9,8 @@ unfoldable pub getOf : ℕ → ℕ → ℕ → ℕ
 getOf b s w = b / 2 ^ s % 2 ^ w
 
 -- as much of a field as the byte has room for
-abbrev pub room : ℕ → ℕ → ℕ
-room s w = min w (8 - s)
+abbrev pub widthIn : ℕ → ℕ → ℕ
+widthIn s w = min w (8 - s)
 
 -- what stands above the field, the value, what stands below the field
 abbrev pub spliced : ℕ → ℕ → ℕ → ℕ → ℕ
@@ -18,7 +18,7 @@ spliced b s w v = b / 2 ^ (s + w) * 2 ^ (s + w) + v % 2 ^ w * 2 ^ s + b % 2 ^ s
 
 -- the byte with the field replaced by a value
 unfoldable pub withOf : ℕ → ℕ → ℕ → ℕ → ℕ
-withOf b s w v = spliced b s (room s w) v
+withOf b s w v = spliced b s (widthIn s w) v
 
 -- a flag is a field of one bit: whether it is set
 unfoldable pub flagOf : ℕ → ℕ → Bool

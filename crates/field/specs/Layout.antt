@@ -11,6 +11,15 @@ use Rattle.field.specs.Field.{getOf, flagOf, withOf}
 pub data Part : Type 0 where
   part : String → ℕ → Part
 
+-- a register: its name, its address and its parts, the first from bit 0 on
+pub record Entry : Type 0 where
+  pub name : String
+  pub address : ℕ
+  pub parts : List Part
+
+abbrev pub entry : String → ℕ → List Part → Entry
+entry name address parts = record { name = name; address = address; parts = parts }
+
 -- a field's first bit
 abbrev pub startOf : List Part → String → ℕ
 startOf [] n = 0
@@ -49,14 +58,14 @@ byFieldFrom f out s [] = []
 byFieldFrom f out s (part m w ∷ ps) = cond (among m out) [] (f s w ∷ []) ++ byFieldFrom f out (s + w) ps
 
 -- the same over a list of registers
-abbrev pub byField : (ℕ → ℕ → ℕ) → List String → List (List Part) → List ℕ
+abbrev pub byField : (ℕ → ℕ → ℕ) → List String → List Entry → List ℕ
 byField f out [] = []
-byField f out (ps ∷ pss) = byFieldFrom f out 0 ps ++ byField f out pss
+byField f out (e ∷ es) = byFieldFrom f out 0 (e .parts) ++ byField f out es
 
 -- what each field reads when its register holds `b`
-abbrev pub readings : List (List Part) → ℕ → List ℕ
-readings pss b = byField (getOf b) ("__" ∷ []) pss
+abbrev pub readings : List Entry → ℕ → List ℕ
+readings es b = byField (getOf b) ("__" ∷ []) es
 
 -- what each field's register holds once the field is replaced by `v` in `b`; read-only fields are left out
-abbrev pub replacements : List String → List (List Part) → ℕ → ℕ → List ℕ
-replacements readOnly pss b v = byField (λ s w. withOf b s w v) ("__" ∷ readOnly) pss
+abbrev pub replacements : List String → List Entry → ℕ → ℕ → List ℕ
+replacements readOnly es b v = byField (λ s w. withOf b s w v) ("__" ∷ readOnly) es

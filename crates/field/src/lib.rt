@@ -7,7 +7,7 @@
 // as it was; proofs/Named.antt says the same of the fields of a register by their names. Nothing is left out.
 ghost use mathlib.Core.Path.{_≡_};
 ghost use Prim.Native.Nat.{_%_, _^_, _<_, _≤_};
-ghost use Rattle.field.specs.Field.{getOf, room, withOf, flagOf, codeOf};
+ghost use Rattle.field.specs.Field.{getOf, widthIn, withOf, flagOf, codeOf};
 
 // The field's value.
 pub fn get(b: u8, shift: u8, width: u8) -> u8
@@ -53,7 +53,7 @@ pub fn with_flag(b: u8, shift: u8, on: bool) -> u8
 // As much of the width as a byte has room for.
 fn cut(shift: u8, width: u8) -> u8
     requires { ⌜ shift < 8 ⌝ }
-    ensures { λ r. ⌜ r ≡ room shift width ⌝ }
+    ensures { λ r. ⌜ r ≡ widthIn shift width ⌝ }
 {
     let left = 8 - shift;
     if width <= left {

@@ -1,2 +1,2 @@
--- The definitions that the contracts of `registers` cite.
-pub mod Addresses
+-- The definitions that the contracts of `registers` and of the register crates cite.
+pub mod Table

@@ -1,11 +1,11 @@
 // The register addresses of the DA728x: `Register` of registers.rs, document 01, "Settings to registers". Each address is a
 // constant of the type, and only this crate makes a `Register`.
 //
-// Proved: `address` is the register's address, and `all` lists the addresses of specs/Addresses.antt. The four private functions at the
+// Proved: `address` is the register's address, and `all` lists the addresses of specs/Table.antt. The four private functions at the
 // end, which nothing calls, are proved only if each constant has the address that the table lists under its name. Nothing is left out.
 ghost use mathlib.Core.Path.{_≡_};
 ghost use mathlib.Core.Bool.{true};
-ghost use Rattle.registers.specs.Addresses.{registers, addresses, lists};
+ghost use Rattle.registers.specs.Table.{registers, addresses, lists};
 
 // A register, by its address.
 pub struct Register(u8);

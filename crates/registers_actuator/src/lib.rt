@@ -1,13 +1,13 @@
 // The registers of the actuator's ratings and of the drive: FRQ_LRA_PER_H to TOP_CFG4 of registers.rs, document 01, "Settings
 // to registers". A register is a byte: `new` is zero, `from` keeps every bit, `bits` hands the byte back; the method of a
 // field's name reads the field, and `with_` before the name alters it. Proved: each method's result, by the field's name in
-// specs/Table.antt, which has the names and widths of the Rust in the written order; `fields` and `replaced` list what all
+// registers/specs/Table.antt, which has the names and widths of the Rust in the written order; `fields` and `replaced` list what all
 // the getters and all the `with_` make of one byte, and equal definitions that go through the table part by part. Left out:
 // what else the attribute `bitfield` makes, such as `set_` methods and printing.
 ghost use mathlib.Core.Path.{_≡_};
 ghost use Rattle.field.specs.Field.{codeOf};
 ghost use Rattle.field.specs.Layout.{getAt, isAt, withAt, readings, replacements};
-ghost use Rattle.registers_actuator.specs.Table.{frq-lra-per-h, frq-lra-per-l, actuator1, actuator2, actuator3, calib-v2i-h, calib-v2i-l, top-cfg1, top-cfg2, top-cfg4, tables, read-only};
+ghost use Rattle.registers.specs.Table.{actuator, readOnly, partsOf};
 use field::flag;
 use field::get;
 use field::with;
@@ -36,13 +36,13 @@ impl FRQ_LRA_PER_H {
     }
 
     pub fn LRA_PER_H(self) -> u8
-        ensures { λ r. ⌜ r ≡ getAt frq-lra-per-h "LRA_PER_H" (self .0) ⌝ }
+        ensures { λ r. ⌜ r ≡ getAt (partsOf "FRQ_LRA_PER_H") "LRA_PER_H" (self .0) ⌝ }
     {
         get(self.0, 0, 8)
     }
 
     pub fn with_LRA_PER_H(self, value: u8) -> Self
-        ensures { λ r. ⌜ r .0 ≡ withAt frq-lra-per-h "LRA_PER_H" (self .0) value ⌝ }
+        ensures { λ r. ⌜ r .0 ≡ withAt (partsOf "FRQ_LRA_PER_H") "LRA_PER_H" (self .0) value ⌝ }
     {
         FRQ_LRA_PER_H(with(self.0, 0, 8, value))
     }
@@ -71,13 +71,13 @@ impl FRQ_LRA_PER_L {
     }
 
     pub fn LRA_PER_L(self) -> u8
-        ensures { λ r. ⌜ r ≡ getAt frq-lra-per-l "LRA_PER_L" (self .0) ⌝ }
+        ensures { λ r. ⌜ r ≡ getAt (partsOf "FRQ_LRA_PER_L") "LRA_PER_L" (self .0) ⌝ }
     {
         get(self.0, 0, 7)
     }
 
     pub fn with_LRA_PER_L(self, value: u8) -> Self
-        ensures { λ r. ⌜ r .0 ≡ withAt frq-lra-per-l "LRA_PER_L" (self .0) value ⌝ }
+        ensures { λ r. ⌜ r .0 ≡ withAt (partsOf "FRQ_LRA_PER_L") "LRA_PER_L" (self .0) value ⌝ }
     {
         FRQ_LRA_PER_L(with(self.0, 0, 7, value))
     }
@@ -106,13 +106,13 @@ impl ACTUATOR1 {
     }
 
     pub fn ACTUATOR_NOMMAX(self) -> u8
-        ensures { λ r. ⌜ r ≡ getAt actuator1 "ACTUATOR_NOMMAX" (self .0) ⌝ }
+        ensures { λ r. ⌜ r ≡ getAt (partsOf "ACTUATOR1") "ACTUATOR_NOMMAX" (self .0) ⌝ }
     {
         get(self.0, 0, 8)
     }
 
     pub fn with_ACTUATOR_NOMMAX(self, value: u8) -> Self
-        ensures { λ r. ⌜ r .0 ≡ withAt actuator1 "ACTUATOR_NOMMAX" (self .0) value ⌝ }
+        ensures { λ r. ⌜ r .0 ≡ withAt (partsOf "ACTUATOR1") "ACTUATOR_NOMMAX" (self .0) value ⌝ }
     {
         ACTUATOR1(with(self.0, 0, 8, value))
     }
@@ -141,13 +141,13 @@ impl ACTUATOR2 {
     }
 
     pub fn ACTUATOR_ABSMAX(self) -> u8
-        ensures { λ r. ⌜ r ≡ getAt actuator2 "ACTUATOR_ABSMAX" (self .0) ⌝ }
+        ensures { λ r. ⌜ r ≡ getAt (partsOf "ACTUATOR2") "ACTUATOR_ABSMAX" (self .0) ⌝ }
     {
         get(self.0, 0, 8)
     }
 
     pub fn with_ACTUATOR_ABSMAX(self, value: u8) -> Self
-        ensures { λ r. ⌜ r .0 ≡ withAt actuator2 "ACTUATOR_ABSMAX" (self .0) value ⌝ }
+        ensures { λ r. ⌜ r .0 ≡ withAt (partsOf "ACTUATOR2") "ACTUATOR_ABSMAX" (self .0) value ⌝ }
     {
         ACTUATOR2(with(self.0, 0, 8, value))
     }
@@ -176,13 +176,13 @@ impl ACTUATOR3 {
     }
 
     pub fn IMAX(self) -> u8
-        ensures { λ r. ⌜ r ≡ getAt actuator3 "IMAX" (self .0) ⌝ }
+        ensures { λ r. ⌜ r ≡ getAt (partsOf "ACTUATOR3") "IMAX" (self .0) ⌝ }
     {
         get(self.0, 0, 5)
     }
 
     pub fn with_IMAX(self, value: u8) -> Self
-        ensures { λ r. ⌜ r .0 ≡ withAt actuator3 "IMAX" (self .0) value ⌝ }
+        ensures { λ r. ⌜ r .0 ≡ withAt (partsOf "ACTUATOR3") "IMAX" (self .0) value ⌝ }
     {
         ACTUATOR3(with(self.0, 0, 5, value))
     }
@@ -211,13 +211,13 @@ impl CALIB_V2I_H {
     }
 
     pub fn V2I_FACTOR_H(self) -> u8
-        ensures { λ r. ⌜ r ≡ getAt calib-v2i-h "V2I_FACTOR_H" (self .0) ⌝ }
+        ensures { λ r. ⌜ r ≡ getAt (partsOf "CALIB_V2I_H") "V2I_FACTOR_H" (self .0) ⌝ }
     {
         get(self.0, 0, 8)
     }
 
     pub fn with_V2I_FACTOR_H(self, value: u8) -> Self
-        ensures { λ r. ⌜ r .0 ≡ withAt calib-v2i-h "V2I_FACTOR_H" (self .0) value ⌝ }
+        ensures { λ r. ⌜ r .0 ≡ withAt (partsOf "CALIB_V2I_H") "V2I_FACTOR_H" (self .0) value ⌝ }
     {
         CALIB_V2I_H(with(self.0, 0, 8, value))
     }
@@ -246,13 +246,13 @@ impl CALIB_V2I_L {
     }
 
     pub fn V2I_FACTOR_L(self) -> u8
-        ensures { λ r. ⌜ r ≡ getAt calib-v2i-l "V2I_FACTOR_L" (self .0) ⌝ }
+        ensures { λ r. ⌜ r ≡ getAt (partsOf "CALIB_V2I_L") "V2I_FACTOR_L" (self .0) ⌝ }
     {
         get(self.0, 0, 8)
     }
 
     pub fn with_V2I_FACTOR_L(self, value: u8) -> Self
-        ensures { λ r. ⌜ r .0 ≡ withAt calib-v2i-l "V2I_FACTOR_L" (self .0) value ⌝ }
+        ensures { λ r. ⌜ r .0 ≡ withAt (partsOf "CALIB_V2I_L") "V2I_FACTOR_L" (self .0) value ⌝ }
     {
         CALIB_V2I_L(with(self.0, 0, 8, value))
     }
@@ -281,86 +281,86 @@ impl TOP_CFG1 {
     }
 
     pub fn AMP_PID_EN(self) -> bool
-        ensures { λ r. ⌜ r ≡ isAt top-cfg1 "AMP_PID_EN" (self .0) ⌝ }
+        ensures { λ r. ⌜ r ≡ isAt (partsOf "TOP_CFG1") "AMP_PID_EN" (self .0) ⌝ }
     {
         flag(self.0, 0)
     }
 
     pub fn with_AMP_PID_EN(self, on: bool) -> Self
-        ensures { λ r. ⌜ r .0 ≡ withAt top-cfg1 "AMP_PID_EN" (self .0) (codeOf on) ⌝ }
+        ensures { λ r. ⌜ r .0 ≡ withAt (partsOf "TOP_CFG1") "AMP_PID_EN" (self .0) (codeOf on) ⌝ }
     {
         TOP_CFG1(with_flag(self.0, 0, on))
     }
 
     pub fn RAPID_STOP_EN(self) -> bool
-        ensures { λ r. ⌜ r ≡ isAt top-cfg1 "RAPID_STOP_EN" (self .0) ⌝ }
+        ensures { λ r. ⌜ r ≡ isAt (partsOf "TOP_CFG1") "RAPID_STOP_EN" (self .0) ⌝ }
     {
         flag(self.0, 1)
     }
 
     pub fn with_RAPID_STOP_EN(self, on: bool) -> Self
-        ensures { λ r. ⌜ r .0 ≡ withAt top-cfg1 "RAPID_STOP_EN" (self .0) (codeOf on) ⌝ }
+        ensures { λ r. ⌜ r .0 ≡ withAt (partsOf "TOP_CFG1") "RAPID_STOP_EN" (self .0) (codeOf on) ⌝ }
     {
         TOP_CFG1(with_flag(self.0, 1, on))
     }
 
     pub fn ACCELERATION_EN(self) -> bool
-        ensures { λ r. ⌜ r ≡ isAt top-cfg1 "ACCELERATION_EN" (self .0) ⌝ }
+        ensures { λ r. ⌜ r ≡ isAt (partsOf "TOP_CFG1") "ACCELERATION_EN" (self .0) ⌝ }
     {
         flag(self.0, 2)
     }
 
     pub fn with_ACCELERATION_EN(self, on: bool) -> Self
-        ensures { λ r. ⌜ r .0 ≡ withAt top-cfg1 "ACCELERATION_EN" (self .0) (codeOf on) ⌝ }
+        ensures { λ r. ⌜ r .0 ≡ withAt (partsOf "TOP_CFG1") "ACCELERATION_EN" (self .0) (codeOf on) ⌝ }
     {
         TOP_CFG1(with_flag(self.0, 2, on))
     }
 
     pub fn FREQ_TRACK_EN(self) -> bool
-        ensures { λ r. ⌜ r ≡ isAt top-cfg1 "FREQ_TRACK_EN" (self .0) ⌝ }
+        ensures { λ r. ⌜ r ≡ isAt (partsOf "TOP_CFG1") "FREQ_TRACK_EN" (self .0) ⌝ }
     {
         flag(self.0, 3)
     }
 
     pub fn with_FREQ_TRACK_EN(self, on: bool) -> Self
-        ensures { λ r. ⌜ r .0 ≡ withAt top-cfg1 "FREQ_TRACK_EN" (self .0) (codeOf on) ⌝ }
+        ensures { λ r. ⌜ r .0 ≡ withAt (partsOf "TOP_CFG1") "FREQ_TRACK_EN" (self .0) (codeOf on) ⌝ }
     {
         TOP_CFG1(with_flag(self.0, 3, on))
     }
 
     pub fn BEMF_SENSE_EN(self) -> bool
-        ensures { λ r. ⌜ r ≡ isAt top-cfg1 "BEMF_SENSE_EN" (self .0) ⌝ }
+        ensures { λ r. ⌜ r ≡ isAt (partsOf "TOP_CFG1") "BEMF_SENSE_EN" (self .0) ⌝ }
     {
         flag(self.0, 4)
     }
 
     pub fn with_BEMF_SENSE_EN(self, on: bool) -> Self
-        ensures { λ r. ⌜ r .0 ≡ withAt top-cfg1 "BEMF_SENSE_EN" (self .0) (codeOf on) ⌝ }
+        ensures { λ r. ⌜ r .0 ≡ withAt (partsOf "TOP_CFG1") "BEMF_SENSE_EN" (self .0) (codeOf on) ⌝ }
     {
         TOP_CFG1(with_flag(self.0, 4, on))
     }
 
     pub fn ACTUATOR_TYPE(self) -> u8
-        ensures { λ r. ⌜ r ≡ getAt top-cfg1 "ACTUATOR_TYPE" (self .0) ⌝ }
+        ensures { λ r. ⌜ r ≡ getAt (partsOf "TOP_CFG1") "ACTUATOR_TYPE" (self .0) ⌝ }
     {
         get(self.0, 5, 1)
     }
 
     pub fn with_ACTUATOR_TYPE(self, value: u8) -> Self
-        ensures { λ r. ⌜ r .0 ≡ withAt top-cfg1 "ACTUATOR_TYPE" (self .0) value ⌝ }
+        ensures { λ r. ⌜ r .0 ≡ withAt (partsOf "TOP_CFG1") "ACTUATOR_TYPE" (self .0) value ⌝ }
     {
         TOP_CFG1(with(self.0, 5, 1, value))
     }
 
     // Whether faults are cleared when the chip enters IDLE.
     pub fn EMBEDDED_MODE(self) -> bool
-        ensures { λ r. ⌜ r ≡ isAt top-cfg1 "EMBEDDED_MODE" (self .0) ⌝ }
+        ensures { λ r. ⌜ r ≡ isAt (partsOf "TOP_CFG1") "EMBEDDED_MODE" (self .0) ⌝ }
     {
         flag(self.0, 7)
     }
 
     pub fn with_EMBEDDED_MODE(self, on: bool) -> Self
-        ensures { λ r. ⌜ r .0 ≡ withAt top-cfg1 "EMBEDDED_MODE" (self .0) (codeOf on) ⌝ }
+        ensures { λ r. ⌜ r .0 ≡ withAt (partsOf "TOP_CFG1") "EMBEDDED_MODE" (self .0) (codeOf on) ⌝ }
     {
         TOP_CFG1(with_flag(self.0, 7, on))
     }
@@ -394,25 +394,25 @@ impl TOP_CFG2 {
     }
 
     pub fn FULL_BRAKE_THR(self) -> u8
-        ensures { λ r. ⌜ r ≡ getAt top-cfg2 "FULL_BRAKE_THR" (self .0) ⌝ }
+        ensures { λ r. ⌜ r ≡ getAt (partsOf "TOP_CFG2") "FULL_BRAKE_THR" (self .0) ⌝ }
     {
         get(self.0, 0, 4)
     }
 
     pub fn with_FULL_BRAKE_THR(self, value: u8) -> Self
-        ensures { λ r. ⌜ r .0 ≡ withAt top-cfg2 "FULL_BRAKE_THR" (self .0) value ⌝ }
+        ensures { λ r. ⌜ r .0 ≡ withAt (partsOf "TOP_CFG2") "FULL_BRAKE_THR" (self .0) value ⌝ }
     {
         TOP_CFG2(with(self.0, 0, 4, value))
     }
 
     pub fn MEM_DATA_SIGNED(self) -> bool
-        ensures { λ r. ⌜ r ≡ isAt top-cfg2 "MEM_DATA_SIGNED" (self .0) ⌝ }
+        ensures { λ r. ⌜ r ≡ isAt (partsOf "TOP_CFG2") "MEM_DATA_SIGNED" (self .0) ⌝ }
     {
         flag(self.0, TOP_CFG2::MEM_DATA_SIGNED_SHIFT)
     }
 
     pub fn with_MEM_DATA_SIGNED(self, on: bool) -> Self
-        ensures { λ r. ⌜ r .0 ≡ withAt top-cfg2 "MEM_DATA_SIGNED" (self .0) (codeOf on) ⌝ }
+        ensures { λ r. ⌜ r .0 ≡ withAt (partsOf "TOP_CFG2") "MEM_DATA_SIGNED" (self .0) (codeOf on) ⌝ }
     {
         TOP_CFG2(with_flag(self.0, TOP_CFG2::MEM_DATA_SIGNED_SHIFT, on))
     }
@@ -441,25 +441,25 @@ impl TOP_CFG4 {
     }
 
     pub fn TST_CALIB_IMPEDANCE_DIS(self) -> bool
-        ensures { λ r. ⌜ r ≡ isAt top-cfg4 "TST_CALIB_IMPEDANCE_DIS" (self .0) ⌝ }
+        ensures { λ r. ⌜ r ≡ isAt (partsOf "TOP_CFG4") "TST_CALIB_IMPEDANCE_DIS" (self .0) ⌝ }
     {
         flag(self.0, 6)
     }
 
     pub fn with_TST_CALIB_IMPEDANCE_DIS(self, on: bool) -> Self
-        ensures { λ r. ⌜ r .0 ≡ withAt top-cfg4 "TST_CALIB_IMPEDANCE_DIS" (self .0) (codeOf on) ⌝ }
+        ensures { λ r. ⌜ r .0 ≡ withAt (partsOf "TOP_CFG4") "TST_CALIB_IMPEDANCE_DIS" (self .0) (codeOf on) ⌝ }
     {
         TOP_CFG4(with_flag(self.0, 6, on))
     }
 
     pub fn V2I_FACTOR_FREEZE(self) -> bool
-        ensures { λ r. ⌜ r ≡ isAt top-cfg4 "V2I_FACTOR_FREEZE" (self .0) ⌝ }
+        ensures { λ r. ⌜ r ≡ isAt (partsOf "TOP_CFG4") "V2I_FACTOR_FREEZE" (self .0) ⌝ }
     {
         flag(self.0, 7)
     }
 
     pub fn with_V2I_FACTOR_FREEZE(self, on: bool) -> Self
-        ensures { λ r. ⌜ r .0 ≡ withAt top-cfg4 "V2I_FACTOR_FREEZE" (self .0) (codeOf on) ⌝ }
+        ensures { λ r. ⌜ r .0 ≡ withAt (partsOf "TOP_CFG4") "V2I_FACTOR_FREEZE" (self .0) (codeOf on) ⌝ }
     {
         TOP_CFG4(with_flag(self.0, 7, on))
     }
@@ -467,7 +467,7 @@ impl TOP_CFG4 {
 
 // What each named field reads when its register holds `byte`, registers and fields in the written order; a flag reads 0 or 1.
 pub fn fields(byte: u8) -> [u8; 18]
-    ensures { λ r. ⌜ r ≡ readings tables byte ⌝ }
+    ensures { λ r. ⌜ r ≡ readings actuator byte ⌝ }
 {
     let frq_lra_per_h = FRQ_LRA_PER_H::from(byte);
     let frq_lra_per_l = FRQ_LRA_PER_L::from(byte);
@@ -504,7 +504,7 @@ pub fn fields(byte: u8) -> [u8; 18]
 // For each field that is not read-only, in the same order, what its register holds once the field is replaced by `value` in
 // `byte`; a flag is set where `value` is odd.
 pub fn replaced(byte: u8, value: u8) -> [u8; 18]
-    ensures { λ r. ⌜ r ≡ replacements read-only tables byte value ⌝ }
+    ensures { λ r. ⌜ r ≡ replacements readOnly actuator byte value ⌝ }
 {
     let on = flag(value, 0);
     let frq_lra_per_h = FRQ_LRA_PER_H::from(byte);

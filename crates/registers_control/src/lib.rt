@@ -1,13 +1,13 @@
 // The registers of the control loop, of operation and of custom waveforms: TOP_INT_CFG1 to SWG_C3 of registers.rs, document
 // 01, "Settings to registers". A register is a byte: `new` is zero, `from` keeps every bit, `bits` hands the byte back; the
 // method of a field's name reads the field, and `with_` before the name alters it. Proved: each method's result, by the
-// field's name in specs/Table.antt, which has the names and widths of the Rust in the written order; `fields` and `replaced`
+// field's name in registers/specs/Table.antt, which has the names and widths of the Rust in the written order; `fields` and `replaced`
 // list what all the getters and all the `with_` make of one byte, and equal definitions that go through the table part by
 // part. Left out: what else the attribute `bitfield` makes, such as `set_` methods and printing.
 ghost use mathlib.Core.Path.{_≡_};
 ghost use Rattle.field.specs.Field.{codeOf};
 ghost use Rattle.field.specs.Layout.{getAt, isAt, withAt, readings, replacements};
-ghost use Rattle.registers_control.specs.Table.{top-int-cfg1, top-int-cfg6-h, top-int-cfg6-l, top-int-cfg7-h, top-int-cfg7-l, top-int-cfg8, top-ctl1, top-ctl2, seq-ctl1, swg-c1, swg-c2, swg-c3, tables, read-only};
+ghost use Rattle.registers.specs.Table.{control, readOnly, partsOf};
 use field::flag;
 use field::get;
 use field::with;
@@ -36,25 +36,25 @@ impl TOP_INT_CFG1 {
     }
 
     pub fn BEMF_FAULT_LIM(self) -> u8
-        ensures { λ r. ⌜ r ≡ getAt top-int-cfg1 "BEMF_FAULT_LIM" (self .0) ⌝ }
+        ensures { λ r. ⌜ r ≡ getAt (partsOf "TOP_INT_CFG1") "BEMF_FAULT_LIM" (self .0) ⌝ }
     {
         get(self.0, 0, 2)
     }
 
     pub fn with_BEMF_FAULT_LIM(self, value: u8) -> Self
-        ensures { λ r. ⌜ r .0 ≡ withAt top-int-cfg1 "BEMF_FAULT_LIM" (self .0) value ⌝ }
+        ensures { λ r. ⌜ r .0 ≡ withAt (partsOf "TOP_INT_CFG1") "BEMF_FAULT_LIM" (self .0) value ⌝ }
     {
         TOP_INT_CFG1(with(self.0, 0, 2, value))
     }
 
     pub fn FRQ_LOCKED_LIM(self) -> u8
-        ensures { λ r. ⌜ r ≡ getAt top-int-cfg1 "FRQ_LOCKED_LIM" (self .0) ⌝ }
+        ensures { λ r. ⌜ r ≡ getAt (partsOf "TOP_INT_CFG1") "FRQ_LOCKED_LIM" (self .0) ⌝ }
     {
         get(self.0, 2, 6)
     }
 
     pub fn with_FRQ_LOCKED_LIM(self, value: u8) -> Self
-        ensures { λ r. ⌜ r .0 ≡ withAt top-int-cfg1 "FRQ_LOCKED_LIM" (self .0) value ⌝ }
+        ensures { λ r. ⌜ r .0 ≡ withAt (partsOf "TOP_INT_CFG1") "FRQ_LOCKED_LIM" (self .0) value ⌝ }
     {
         TOP_INT_CFG1(with(self.0, 2, 6, value))
     }
@@ -83,13 +83,13 @@ impl TOP_INT_CFG6_H {
     }
 
     pub fn FRQ_PID_Kp_H(self) -> u8
-        ensures { λ r. ⌜ r ≡ getAt top-int-cfg6-h "FRQ_PID_Kp_H" (self .0) ⌝ }
+        ensures { λ r. ⌜ r ≡ getAt (partsOf "TOP_INT_CFG6_H") "FRQ_PID_Kp_H" (self .0) ⌝ }
     {
         get(self.0, 0, 8)
     }
 
     pub fn with_FRQ_PID_Kp_H(self, value: u8) -> Self
-        ensures { λ r. ⌜ r .0 ≡ withAt top-int-cfg6-h "FRQ_PID_Kp_H" (self .0) value ⌝ }
+        ensures { λ r. ⌜ r .0 ≡ withAt (partsOf "TOP_INT_CFG6_H") "FRQ_PID_Kp_H" (self .0) value ⌝ }
     {
         TOP_INT_CFG6_H(with(self.0, 0, 8, value))
     }
@@ -118,13 +118,13 @@ impl TOP_INT_CFG6_L {
     }
 
     pub fn FRQ_PID_Kp_L(self) -> u8
-        ensures { λ r. ⌜ r ≡ getAt top-int-cfg6-l "FRQ_PID_Kp_L" (self .0) ⌝ }
+        ensures { λ r. ⌜ r ≡ getAt (partsOf "TOP_INT_CFG6_L") "FRQ_PID_Kp_L" (self .0) ⌝ }
     {
         get(self.0, 0, 8)
     }
 
     pub fn with_FRQ_PID_Kp_L(self, value: u8) -> Self
-        ensures { λ r. ⌜ r .0 ≡ withAt top-int-cfg6-l "FRQ_PID_Kp_L" (self .0) value ⌝ }
+        ensures { λ r. ⌜ r .0 ≡ withAt (partsOf "TOP_INT_CFG6_L") "FRQ_PID_Kp_L" (self .0) value ⌝ }
     {
         TOP_INT_CFG6_L(with(self.0, 0, 8, value))
     }
@@ -153,13 +153,13 @@ impl TOP_INT_CFG7_H {
     }
 
     pub fn FRQ_PID_Ki_H(self) -> u8
-        ensures { λ r. ⌜ r ≡ getAt top-int-cfg7-h "FRQ_PID_Ki_H" (self .0) ⌝ }
+        ensures { λ r. ⌜ r ≡ getAt (partsOf "TOP_INT_CFG7_H") "FRQ_PID_Ki_H" (self .0) ⌝ }
     {
         get(self.0, 0, 8)
     }
 
     pub fn with_FRQ_PID_Ki_H(self, value: u8) -> Self
-        ensures { λ r. ⌜ r .0 ≡ withAt top-int-cfg7-h "FRQ_PID_Ki_H" (self .0) value ⌝ }
+        ensures { λ r. ⌜ r .0 ≡ withAt (partsOf "TOP_INT_CFG7_H") "FRQ_PID_Ki_H" (self .0) value ⌝ }
     {
         TOP_INT_CFG7_H(with(self.0, 0, 8, value))
     }
@@ -188,13 +188,13 @@ impl TOP_INT_CFG7_L {
     }
 
     pub fn FRQ_PID_Ki_L(self) -> u8
-        ensures { λ r. ⌜ r ≡ getAt top-int-cfg7-l "FRQ_PID_Ki_L" (self .0) ⌝ }
+        ensures { λ r. ⌜ r ≡ getAt (partsOf "TOP_INT_CFG7_L") "FRQ_PID_Ki_L" (self .0) ⌝ }
     {
         get(self.0, 0, 8)
     }
 
     pub fn with_FRQ_PID_Ki_L(self, value: u8) -> Self
-        ensures { λ r. ⌜ r .0 ≡ withAt top-int-cfg7-l "FRQ_PID_Ki_L" (self .0) value ⌝ }
+        ensures { λ r. ⌜ r .0 ≡ withAt (partsOf "TOP_INT_CFG7_L") "FRQ_PID_Ki_L" (self .0) value ⌝ }
     {
         TOP_INT_CFG7_L(with(self.0, 0, 8, value))
     }
@@ -228,19 +228,19 @@ impl TOP_INT_CFG8 {
     }
 
     pub fn FRQ_TRACK_BEMF_LIM(self) -> u8
-        ensures { λ r. ⌜ r ≡ getAt top-int-cfg8 "FRQ_TRACK_BEMF_LIM" (self .0) ⌝ }
+        ensures { λ r. ⌜ r ≡ getAt (partsOf "TOP_INT_CFG8") "FRQ_TRACK_BEMF_LIM" (self .0) ⌝ }
     {
         get(self.0, 0, 4)
     }
 
     pub fn with_FRQ_TRACK_BEMF_LIM(self, value: u8) -> Self
-        ensures { λ r. ⌜ r .0 ≡ withAt top-int-cfg8 "FRQ_TRACK_BEMF_LIM" (self .0) value ⌝ }
+        ensures { λ r. ⌜ r .0 ≡ withAt (partsOf "TOP_INT_CFG8") "FRQ_TRACK_BEMF_LIM" (self .0) value ⌝ }
     {
         TOP_INT_CFG8(with(self.0, 0, 4, value))
     }
 
     pub fn RAPID_STOP_LIM(self) -> u8
-        ensures { λ r. ⌜ r ≡ getAt top-int-cfg8 "RAPID_STOP_LIM" (self .0) ⌝ }
+        ensures { λ r. ⌜ r ≡ getAt (partsOf "TOP_INT_CFG8") "RAPID_STOP_LIM" (self .0) ⌝ }
     {
         get(
             self.0,
@@ -250,7 +250,7 @@ impl TOP_INT_CFG8 {
     }
 
     pub fn with_RAPID_STOP_LIM(self, value: u8) -> Self
-        ensures { λ r. ⌜ r .0 ≡ withAt top-int-cfg8 "RAPID_STOP_LIM" (self .0) value ⌝ }
+        ensures { λ r. ⌜ r .0 ≡ withAt (partsOf "TOP_INT_CFG8") "RAPID_STOP_LIM" (self .0) value ⌝ }
     {
         TOP_INT_CFG8(with(
             self.0,
@@ -293,7 +293,7 @@ impl TOP_CTL1 {
     }
 
     pub fn OPERATION_MODE(self) -> u8
-        ensures { λ r. ⌜ r ≡ getAt top-ctl1 "OPERATION_MODE" (self .0) ⌝ }
+        ensures { λ r. ⌜ r ≡ getAt (partsOf "TOP_CTL1") "OPERATION_MODE" (self .0) ⌝ }
     {
         get(
             self.0,
@@ -303,7 +303,7 @@ impl TOP_CTL1 {
     }
 
     pub fn with_OPERATION_MODE(self, value: u8) -> Self
-        ensures { λ r. ⌜ r .0 ≡ withAt top-ctl1 "OPERATION_MODE" (self .0) value ⌝ }
+        ensures { λ r. ⌜ r .0 ≡ withAt (partsOf "TOP_CTL1") "OPERATION_MODE" (self .0) value ⌝ }
     {
         TOP_CTL1(with(
             self.0,
@@ -314,25 +314,25 @@ impl TOP_CTL1 {
     }
 
     pub fn STANDBY_EN(self) -> bool
-        ensures { λ r. ⌜ r ≡ isAt top-ctl1 "STANDBY_EN" (self .0) ⌝ }
+        ensures { λ r. ⌜ r ≡ isAt (partsOf "TOP_CTL1") "STANDBY_EN" (self .0) ⌝ }
     {
         flag(self.0, 3)
     }
 
     pub fn with_STANDBY_EN(self, on: bool) -> Self
-        ensures { λ r. ⌜ r .0 ≡ withAt top-ctl1 "STANDBY_EN" (self .0) (codeOf on) ⌝ }
+        ensures { λ r. ⌜ r .0 ≡ withAt (partsOf "TOP_CTL1") "STANDBY_EN" (self .0) (codeOf on) ⌝ }
     {
         TOP_CTL1(with_flag(self.0, 3, on))
     }
 
     pub fn SEQ_START(self) -> bool
-        ensures { λ r. ⌜ r ≡ isAt top-ctl1 "SEQ_START" (self .0) ⌝ }
+        ensures { λ r. ⌜ r ≡ isAt (partsOf "TOP_CTL1") "SEQ_START" (self .0) ⌝ }
     {
         flag(self.0, TOP_CTL1::SEQ_START_SHIFT)
     }
 
     pub fn with_SEQ_START(self, on: bool) -> Self
-        ensures { λ r. ⌜ r .0 ≡ withAt top-ctl1 "SEQ_START" (self .0) (codeOf on) ⌝ }
+        ensures { λ r. ⌜ r .0 ≡ withAt (partsOf "TOP_CTL1") "SEQ_START" (self .0) (codeOf on) ⌝ }
     {
         TOP_CTL1(with_flag(self.0, TOP_CTL1::SEQ_START_SHIFT, on))
     }
@@ -361,13 +361,13 @@ impl TOP_CTL2 {
     }
 
     pub fn OVERRIDE_VAL(self) -> u8
-        ensures { λ r. ⌜ r ≡ getAt top-ctl2 "OVERRIDE_VAL" (self .0) ⌝ }
+        ensures { λ r. ⌜ r ≡ getAt (partsOf "TOP_CTL2") "OVERRIDE_VAL" (self .0) ⌝ }
     {
         get(self.0, 0, 8)
     }
 
     pub fn with_OVERRIDE_VAL(self, value: u8) -> Self
-        ensures { λ r. ⌜ r .0 ≡ withAt top-ctl2 "OVERRIDE_VAL" (self .0) value ⌝ }
+        ensures { λ r. ⌜ r .0 ≡ withAt (partsOf "TOP_CTL2") "OVERRIDE_VAL" (self .0) value ⌝ }
     {
         TOP_CTL2(with(self.0, 0, 8, value))
     }
@@ -401,31 +401,31 @@ impl SEQ_CTL1 {
     }
 
     pub fn SEQ_CONTINUE(self) -> bool
-        ensures { λ r. ⌜ r ≡ isAt seq-ctl1 "SEQ_CONTINUE" (self .0) ⌝ }
+        ensures { λ r. ⌜ r ≡ isAt (partsOf "SEQ_CTL1") "SEQ_CONTINUE" (self .0) ⌝ }
     {
         flag(self.0, 0)
     }
 
     pub fn with_SEQ_CONTINUE(self, on: bool) -> Self
-        ensures { λ r. ⌜ r .0 ≡ withAt seq-ctl1 "SEQ_CONTINUE" (self .0) (codeOf on) ⌝ }
+        ensures { λ r. ⌜ r .0 ≡ withAt (partsOf "SEQ_CTL1") "SEQ_CONTINUE" (self .0) (codeOf on) ⌝ }
     {
         SEQ_CTL1(with_flag(self.0, 0, on))
     }
 
     pub fn WAVEGEN_MODE(self) -> bool
-        ensures { λ r. ⌜ r ≡ isAt seq-ctl1 "WAVEGEN_MODE" (self .0) ⌝ }
+        ensures { λ r. ⌜ r ≡ isAt (partsOf "SEQ_CTL1") "WAVEGEN_MODE" (self .0) ⌝ }
     {
         flag(self.0, 1)
     }
 
     pub fn with_WAVEGEN_MODE(self, on: bool) -> Self
-        ensures { λ r. ⌜ r .0 ≡ withAt seq-ctl1 "WAVEGEN_MODE" (self .0) (codeOf on) ⌝ }
+        ensures { λ r. ⌜ r .0 ≡ withAt (partsOf "SEQ_CTL1") "WAVEGEN_MODE" (self .0) (codeOf on) ⌝ }
     {
         SEQ_CTL1(with_flag(self.0, 1, on))
     }
 
     pub fn FREQ_WAVEFORM_TIMEBASE(self) -> u8
-        ensures { λ r. ⌜ r ≡ getAt seq-ctl1 "FREQ_WAVEFORM_TIMEBASE" (self .0) ⌝ }
+        ensures { λ r. ⌜ r ≡ getAt (partsOf "SEQ_CTL1") "FREQ_WAVEFORM_TIMEBASE" (self .0) ⌝ }
     {
         get(
             self.0,
@@ -435,7 +435,7 @@ impl SEQ_CTL1 {
     }
 
     pub fn with_FREQ_WAVEFORM_TIMEBASE(self, value: u8) -> Self
-        ensures { λ r. ⌜ r .0 ≡ withAt seq-ctl1 "FREQ_WAVEFORM_TIMEBASE" (self .0) value ⌝ }
+        ensures { λ r. ⌜ r .0 ≡ withAt (partsOf "SEQ_CTL1") "FREQ_WAVEFORM_TIMEBASE" (self .0) value ⌝ }
     {
         SEQ_CTL1(with(
             self.0,
@@ -469,13 +469,13 @@ impl SWG_C1 {
     }
 
     pub fn CUSTOM_WAVE_GEN_COEFF1(self) -> u8
-        ensures { λ r. ⌜ r ≡ getAt swg-c1 "CUSTOM_WAVE_GEN_COEFF1" (self .0) ⌝ }
+        ensures { λ r. ⌜ r ≡ getAt (partsOf "SWG_C1") "CUSTOM_WAVE_GEN_COEFF1" (self .0) ⌝ }
     {
         get(self.0, 0, 8)
     }
 
     pub fn with_CUSTOM_WAVE_GEN_COEFF1(self, value: u8) -> Self
-        ensures { λ r. ⌜ r .0 ≡ withAt swg-c1 "CUSTOM_WAVE_GEN_COEFF1" (self .0) value ⌝ }
+        ensures { λ r. ⌜ r .0 ≡ withAt (partsOf "SWG_C1") "CUSTOM_WAVE_GEN_COEFF1" (self .0) value ⌝ }
     {
         SWG_C1(with(self.0, 0, 8, value))
     }
@@ -504,13 +504,13 @@ impl SWG_C2 {
     }
 
     pub fn CUSTOM_WAVE_GEN_COEFF2(self) -> u8
-        ensures { λ r. ⌜ r ≡ getAt swg-c2 "CUSTOM_WAVE_GEN_COEFF2" (self .0) ⌝ }
+        ensures { λ r. ⌜ r ≡ getAt (partsOf "SWG_C2") "CUSTOM_WAVE_GEN_COEFF2" (self .0) ⌝ }
     {
         get(self.0, 0, 8)
     }
 
     pub fn with_CUSTOM_WAVE_GEN_COEFF2(self, value: u8) -> Self
-        ensures { λ r. ⌜ r .0 ≡ withAt swg-c2 "CUSTOM_WAVE_GEN_COEFF2" (self .0) value ⌝ }
+        ensures { λ r. ⌜ r .0 ≡ withAt (partsOf "SWG_C2") "CUSTOM_WAVE_GEN_COEFF2" (self .0) value ⌝ }
     {
         SWG_C2(with(self.0, 0, 8, value))
     }
@@ -539,13 +539,13 @@ impl SWG_C3 {
     }
 
     pub fn CUSTOM_WAVE_GEN_COEFF3(self) -> u8
-        ensures { λ r. ⌜ r ≡ getAt swg-c3 "CUSTOM_WAVE_GEN_COEFF3" (self .0) ⌝ }
+        ensures { λ r. ⌜ r ≡ getAt (partsOf "SWG_C3") "CUSTOM_WAVE_GEN_COEFF3" (self .0) ⌝ }
     {
         get(self.0, 0, 8)
     }
 
     pub fn with_CUSTOM_WAVE_GEN_COEFF3(self, value: u8) -> Self
-        ensures { λ r. ⌜ r .0 ≡ withAt swg-c3 "CUSTOM_WAVE_GEN_COEFF3" (self .0) value ⌝ }
+        ensures { λ r. ⌜ r .0 ≡ withAt (partsOf "SWG_C3") "CUSTOM_WAVE_GEN_COEFF3" (self .0) value ⌝ }
     {
         SWG_C3(with(self.0, 0, 8, value))
     }
@@ -553,7 +553,7 @@ impl SWG_C3 {
 
 // What each named field reads when its register holds `byte`, registers and fields in the written order; a flag reads 0 or 1.
 pub fn fields(byte: u8) -> [u8; 18]
-    ensures { λ r. ⌜ r ≡ readings tables byte ⌝ }
+    ensures { λ r. ⌜ r ≡ readings control byte ⌝ }
 {
     let top_int_cfg1 = TOP_INT_CFG1::from(byte);
     let top_int_cfg6_h = TOP_INT_CFG6_H::from(byte);
@@ -592,7 +592,7 @@ pub fn fields(byte: u8) -> [u8; 18]
 // For each field that is not read-only, in the same order, what its register holds once the field is replaced by `value` in
 // `byte`; a flag is set where `value` is odd.
 pub fn replaced(byte: u8, value: u8) -> [u8; 18]
-    ensures { λ r. ⌜ r ≡ replacements read-only tables byte value ⌝ }
+    ensures { λ r. ⌜ r ≡ replacements readOnly control byte value ⌝ }
 {
     let on = flag(value, 0);
     let top_int_cfg1 = TOP_INT_CFG1::from(byte);

@@ -1,14 +1,14 @@
 // The registers of sequences, triggers, the waveform memory and trims: SEQ_CTL2 to IRQ_MASK2 of registers.rs, document 01,
 // "Settings to registers". A register is a byte: `new` is zero, `from` keeps every bit, `bits` hands the byte back; the
 // method of a field's name reads the field, and `with_` before the name alters it; WAV_MEM_BASE_ADDR is read-only and has no
-// `with_`. Proved: each method's result, by the field's name in specs/Table.antt, which has the names and widths of the Rust
+// `with_`. Proved: each method's result, by the field's name in registers/specs/Table.antt, which has the names and widths of the Rust
 // in the written order; `fields` and `replaced` list what all the getters and all the `with_` make of one byte, and equal
 // definitions that go through the table part by part. Left out: what else the attribute `bitfield` makes, such as `set_`
 // methods and printing.
 ghost use mathlib.Core.Path.{_≡_};
 ghost use Rattle.field.specs.Field.{codeOf};
 ghost use Rattle.field.specs.Layout.{getAt, isAt, withAt, readings, replacements};
-ghost use Rattle.registers_trigger.specs.Table.{seq-ctl2, gpi-0-ctl, gpi-1-ctl, gpi-2-ctl, mem-ctl1, mem-ctl2, frq-phase-h, frq-phase-l, trim4, top-cfg5, irq-mask2, tables, read-only};
+ghost use Rattle.registers.specs.Table.{trigger, readOnly, partsOf};
 use field::flag;
 use field::get;
 use field::with;
@@ -37,25 +37,25 @@ impl SEQ_CTL2 {
     }
 
     pub fn PS_SEQ_ID(self) -> u8
-        ensures { λ r. ⌜ r ≡ getAt seq-ctl2 "PS_SEQ_ID" (self .0) ⌝ }
+        ensures { λ r. ⌜ r ≡ getAt (partsOf "SEQ_CTL2") "PS_SEQ_ID" (self .0) ⌝ }
     {
         get(self.0, 0, 4)
     }
 
     pub fn with_PS_SEQ_ID(self, value: u8) -> Self
-        ensures { λ r. ⌜ r .0 ≡ withAt seq-ctl2 "PS_SEQ_ID" (self .0) value ⌝ }
+        ensures { λ r. ⌜ r .0 ≡ withAt (partsOf "SEQ_CTL2") "PS_SEQ_ID" (self .0) value ⌝ }
     {
         SEQ_CTL2(with(self.0, 0, 4, value))
     }
 
     pub fn PS_SEQ_LOOP(self) -> u8
-        ensures { λ r. ⌜ r ≡ getAt seq-ctl2 "PS_SEQ_LOOP" (self .0) ⌝ }
+        ensures { λ r. ⌜ r ≡ getAt (partsOf "SEQ_CTL2") "PS_SEQ_LOOP" (self .0) ⌝ }
     {
         get(self.0, 4, 4)
     }
 
     pub fn with_PS_SEQ_LOOP(self, value: u8) -> Self
-        ensures { λ r. ⌜ r .0 ≡ withAt seq-ctl2 "PS_SEQ_LOOP" (self .0) value ⌝ }
+        ensures { λ r. ⌜ r .0 ≡ withAt (partsOf "SEQ_CTL2") "PS_SEQ_LOOP" (self .0) value ⌝ }
     {
         SEQ_CTL2(with(self.0, 4, 4, value))
     }
@@ -84,37 +84,37 @@ impl GPI_0_CTL {
     }
 
     pub fn GPI0_POLARITY(self) -> u8
-        ensures { λ r. ⌜ r ≡ getAt gpi-0-ctl "GPI0_POLARITY" (self .0) ⌝ }
+        ensures { λ r. ⌜ r ≡ getAt (partsOf "GPI_0_CTL") "GPI0_POLARITY" (self .0) ⌝ }
     {
         get(self.0, 0, 2)
     }
 
     pub fn with_GPI0_POLARITY(self, value: u8) -> Self
-        ensures { λ r. ⌜ r .0 ≡ withAt gpi-0-ctl "GPI0_POLARITY" (self .0) value ⌝ }
+        ensures { λ r. ⌜ r .0 ≡ withAt (partsOf "GPI_0_CTL") "GPI0_POLARITY" (self .0) value ⌝ }
     {
         GPI_0_CTL(with(self.0, 0, 2, value))
     }
 
     pub fn GPI0_MODE(self) -> bool
-        ensures { λ r. ⌜ r ≡ isAt gpi-0-ctl "GPI0_MODE" (self .0) ⌝ }
+        ensures { λ r. ⌜ r ≡ isAt (partsOf "GPI_0_CTL") "GPI0_MODE" (self .0) ⌝ }
     {
         flag(self.0, 2)
     }
 
     pub fn with_GPI0_MODE(self, on: bool) -> Self
-        ensures { λ r. ⌜ r .0 ≡ withAt gpi-0-ctl "GPI0_MODE" (self .0) (codeOf on) ⌝ }
+        ensures { λ r. ⌜ r .0 ≡ withAt (partsOf "GPI_0_CTL") "GPI0_MODE" (self .0) (codeOf on) ⌝ }
     {
         GPI_0_CTL(with_flag(self.0, 2, on))
     }
 
     pub fn GPI0_SEQUENCE_ID(self) -> u8
-        ensures { λ r. ⌜ r ≡ getAt gpi-0-ctl "GPI0_SEQUENCE_ID" (self .0) ⌝ }
+        ensures { λ r. ⌜ r ≡ getAt (partsOf "GPI_0_CTL") "GPI0_SEQUENCE_ID" (self .0) ⌝ }
     {
         get(self.0, 3, 4)
     }
 
     pub fn with_GPI0_SEQUENCE_ID(self, value: u8) -> Self
-        ensures { λ r. ⌜ r .0 ≡ withAt gpi-0-ctl "GPI0_SEQUENCE_ID" (self .0) value ⌝ }
+        ensures { λ r. ⌜ r .0 ≡ withAt (partsOf "GPI_0_CTL") "GPI0_SEQUENCE_ID" (self .0) value ⌝ }
     {
         GPI_0_CTL(with(self.0, 3, 4, value))
     }
@@ -143,37 +143,37 @@ impl GPI_1_CTL {
     }
 
     pub fn GPI1_POLARITY(self) -> u8
-        ensures { λ r. ⌜ r ≡ getAt gpi-1-ctl "GPI1_POLARITY" (self .0) ⌝ }
+        ensures { λ r. ⌜ r ≡ getAt (partsOf "GPI_1_CTL") "GPI1_POLARITY" (self .0) ⌝ }
     {
         get(self.0, 0, 2)
     }
 
     pub fn with_GPI1_POLARITY(self, value: u8) -> Self
-        ensures { λ r. ⌜ r .0 ≡ withAt gpi-1-ctl "GPI1_POLARITY" (self .0) value ⌝ }
+        ensures { λ r. ⌜ r .0 ≡ withAt (partsOf "GPI_1_CTL") "GPI1_POLARITY" (self .0) value ⌝ }
     {
         GPI_1_CTL(with(self.0, 0, 2, value))
     }
 
     pub fn GPI1_MODE(self) -> bool
-        ensures { λ r. ⌜ r ≡ isAt gpi-1-ctl "GPI1_MODE" (self .0) ⌝ }
+        ensures { λ r. ⌜ r ≡ isAt (partsOf "GPI_1_CTL") "GPI1_MODE" (self .0) ⌝ }
     {
         flag(self.0, 2)
     }
 
     pub fn with_GPI1_MODE(self, on: bool) -> Self
-        ensures { λ r. ⌜ r .0 ≡ withAt gpi-1-ctl "GPI1_MODE" (self .0) (codeOf on) ⌝ }
+        ensures { λ r. ⌜ r .0 ≡ withAt (partsOf "GPI_1_CTL") "GPI1_MODE" (self .0) (codeOf on) ⌝ }
     {
         GPI_1_CTL(with_flag(self.0, 2, on))
     }
 
     pub fn GPI1_SEQUENCE_ID(self) -> u8
-        ensures { λ r. ⌜ r ≡ getAt gpi-1-ctl "GPI1_SEQUENCE_ID" (self .0) ⌝ }
+        ensures { λ r. ⌜ r ≡ getAt (partsOf "GPI_1_CTL") "GPI1_SEQUENCE_ID" (self .0) ⌝ }
     {
         get(self.0, 3, 4)
     }
 
     pub fn with_GPI1_SEQUENCE_ID(self, value: u8) -> Self
-        ensures { λ r. ⌜ r .0 ≡ withAt gpi-1-ctl "GPI1_SEQUENCE_ID" (self .0) value ⌝ }
+        ensures { λ r. ⌜ r .0 ≡ withAt (partsOf "GPI_1_CTL") "GPI1_SEQUENCE_ID" (self .0) value ⌝ }
     {
         GPI_1_CTL(with(self.0, 3, 4, value))
     }
@@ -202,37 +202,37 @@ impl GPI_2_CTL {
     }
 
     pub fn GPI2_POLARITY(self) -> u8
-        ensures { λ r. ⌜ r ≡ getAt gpi-2-ctl "GPI2_POLARITY" (self .0) ⌝ }
+        ensures { λ r. ⌜ r ≡ getAt (partsOf "GPI_2_CTL") "GPI2_POLARITY" (self .0) ⌝ }
     {
         get(self.0, 0, 2)
     }
 
     pub fn with_GPI2_POLARITY(self, value: u8) -> Self
-        ensures { λ r. ⌜ r .0 ≡ withAt gpi-2-ctl "GPI2_POLARITY" (self .0) value ⌝ }
+        ensures { λ r. ⌜ r .0 ≡ withAt (partsOf "GPI_2_CTL") "GPI2_POLARITY" (self .0) value ⌝ }
     {
         GPI_2_CTL(with(self.0, 0, 2, value))
     }
 
     pub fn GPI2_MODE(self) -> bool
-        ensures { λ r. ⌜ r ≡ isAt gpi-2-ctl "GPI2_MODE" (self .0) ⌝ }
+        ensures { λ r. ⌜ r ≡ isAt (partsOf "GPI_2_CTL") "GPI2_MODE" (self .0) ⌝ }
     {
         flag(self.0, 2)
     }
 
     pub fn with_GPI2_MODE(self, on: bool) -> Self
-        ensures { λ r. ⌜ r .0 ≡ withAt gpi-2-ctl "GPI2_MODE" (self .0) (codeOf on) ⌝ }
+        ensures { λ r. ⌜ r .0 ≡ withAt (partsOf "GPI_2_CTL") "GPI2_MODE" (self .0) (codeOf on) ⌝ }
     {
         GPI_2_CTL(with_flag(self.0, 2, on))
     }
 
     pub fn GPI2_SEQUENCE_ID(self) -> u8
-        ensures { λ r. ⌜ r ≡ getAt gpi-2-ctl "GPI2_SEQUENCE_ID" (self .0) ⌝ }
+        ensures { λ r. ⌜ r ≡ getAt (partsOf "GPI_2_CTL") "GPI2_SEQUENCE_ID" (self .0) ⌝ }
     {
         get(self.0, 3, 4)
     }
 
     pub fn with_GPI2_SEQUENCE_ID(self, value: u8) -> Self
-        ensures { λ r. ⌜ r .0 ≡ withAt gpi-2-ctl "GPI2_SEQUENCE_ID" (self .0) value ⌝ }
+        ensures { λ r. ⌜ r .0 ≡ withAt (partsOf "GPI_2_CTL") "GPI2_SEQUENCE_ID" (self .0) value ⌝ }
     {
         GPI_2_CTL(with(self.0, 3, 4, value))
     }
@@ -261,7 +261,7 @@ impl MEM_CTL1 {
     }
 
     pub fn WAV_MEM_BASE_ADDR(self) -> u8
-        ensures { λ r. ⌜ r ≡ getAt mem-ctl1 "WAV_MEM_BASE_ADDR" (self .0) ⌝ }
+        ensures { λ r. ⌜ r ≡ getAt (partsOf "MEM_CTL1") "WAV_MEM_BASE_ADDR" (self .0) ⌝ }
     {
         get(self.0, 0, 8)
     }
@@ -290,13 +290,13 @@ impl MEM_CTL2 {
     }
 
     pub fn WAV_MEM_LOCK(self) -> bool
-        ensures { λ r. ⌜ r ≡ isAt mem-ctl2 "WAV_MEM_LOCK" (self .0) ⌝ }
+        ensures { λ r. ⌜ r ≡ isAt (partsOf "MEM_CTL2") "WAV_MEM_LOCK" (self .0) ⌝ }
     {
         flag(self.0, 7)
     }
 
     pub fn with_WAV_MEM_LOCK(self, on: bool) -> Self
-        ensures { λ r. ⌜ r .0 ≡ withAt mem-ctl2 "WAV_MEM_LOCK" (self .0) (codeOf on) ⌝ }
+        ensures { λ r. ⌜ r .0 ≡ withAt (partsOf "MEM_CTL2") "WAV_MEM_LOCK" (self .0) (codeOf on) ⌝ }
     {
         MEM_CTL2(with_flag(self.0, 7, on))
     }
@@ -325,13 +325,13 @@ impl FRQ_PHASE_H {
     }
 
     pub fn DELAY_H(self) -> u8
-        ensures { λ r. ⌜ r ≡ getAt frq-phase-h "DELAY_H" (self .0) ⌝ }
+        ensures { λ r. ⌜ r ≡ getAt (partsOf "FRQ_PHASE_H") "DELAY_H" (self .0) ⌝ }
     {
         get(self.0, 0, 8)
     }
 
     pub fn with_DELAY_H(self, value: u8) -> Self
-        ensures { λ r. ⌜ r .0 ≡ withAt frq-phase-h "DELAY_H" (self .0) value ⌝ }
+        ensures { λ r. ⌜ r .0 ≡ withAt (partsOf "FRQ_PHASE_H") "DELAY_H" (self .0) value ⌝ }
     {
         FRQ_PHASE_H(with(self.0, 0, 8, value))
     }
@@ -360,25 +360,25 @@ impl FRQ_PHASE_L {
     }
 
     pub fn DELAY_SHIFT_L(self) -> u8
-        ensures { λ r. ⌜ r ≡ getAt frq-phase-l "DELAY_SHIFT_L" (self .0) ⌝ }
+        ensures { λ r. ⌜ r ≡ getAt (partsOf "FRQ_PHASE_L") "DELAY_SHIFT_L" (self .0) ⌝ }
     {
         get(self.0, 0, 3)
     }
 
     pub fn with_DELAY_SHIFT_L(self, value: u8) -> Self
-        ensures { λ r. ⌜ r .0 ≡ withAt frq-phase-l "DELAY_SHIFT_L" (self .0) value ⌝ }
+        ensures { λ r. ⌜ r .0 ≡ withAt (partsOf "FRQ_PHASE_L") "DELAY_SHIFT_L" (self .0) value ⌝ }
     {
         FRQ_PHASE_L(with(self.0, 0, 3, value))
     }
 
     pub fn DELAY_FREEZE(self) -> bool
-        ensures { λ r. ⌜ r ≡ isAt frq-phase-l "DELAY_FREEZE" (self .0) ⌝ }
+        ensures { λ r. ⌜ r ≡ isAt (partsOf "FRQ_PHASE_L") "DELAY_FREEZE" (self .0) ⌝ }
     {
         flag(self.0, 7)
     }
 
     pub fn with_DELAY_FREEZE(self, on: bool) -> Self
-        ensures { λ r. ⌜ r .0 ≡ withAt frq-phase-l "DELAY_FREEZE" (self .0) (codeOf on) ⌝ }
+        ensures { λ r. ⌜ r .0 ≡ withAt (partsOf "FRQ_PHASE_L") "DELAY_FREEZE" (self .0) (codeOf on) ⌝ }
     {
         FRQ_PHASE_L(with_flag(self.0, 7, on))
     }
@@ -407,25 +407,25 @@ impl TRIM4 {
     }
 
     pub fn LOOP_FILT_RES_TRIM(self) -> u8
-        ensures { λ r. ⌜ r ≡ getAt trim4 "LOOP_FILT_RES_TRIM" (self .0) ⌝ }
+        ensures { λ r. ⌜ r ≡ getAt (partsOf "TRIM4") "LOOP_FILT_RES_TRIM" (self .0) ⌝ }
     {
         get(self.0, 0, 2)
     }
 
     pub fn with_LOOP_FILT_RES_TRIM(self, value: u8) -> Self
-        ensures { λ r. ⌜ r .0 ≡ withAt trim4 "LOOP_FILT_RES_TRIM" (self .0) value ⌝ }
+        ensures { λ r. ⌜ r .0 ≡ withAt (partsOf "TRIM4") "LOOP_FILT_RES_TRIM" (self .0) value ⌝ }
     {
         TRIM4(with(self.0, 0, 2, value))
     }
 
     pub fn LOOP_FILT_CAP_TRIM(self) -> u8
-        ensures { λ r. ⌜ r ≡ getAt trim4 "LOOP_FILT_CAP_TRIM" (self .0) ⌝ }
+        ensures { λ r. ⌜ r ≡ getAt (partsOf "TRIM4") "LOOP_FILT_CAP_TRIM" (self .0) ⌝ }
     {
         get(self.0, 2, 2)
     }
 
     pub fn with_LOOP_FILT_CAP_TRIM(self, value: u8) -> Self
-        ensures { λ r. ⌜ r .0 ≡ withAt trim4 "LOOP_FILT_CAP_TRIM" (self .0) value ⌝ }
+        ensures { λ r. ⌜ r .0 ≡ withAt (partsOf "TRIM4") "LOOP_FILT_CAP_TRIM" (self .0) value ⌝ }
     {
         TRIM4(with(self.0, 2, 2, value))
     }
@@ -454,13 +454,13 @@ impl TOP_CFG5 {
     }
 
     pub fn V2I_FACTOR_OFFSET_EN(self) -> bool
-        ensures { λ r. ⌜ r ≡ isAt top-cfg5 "V2I_FACTOR_OFFSET_EN" (self .0) ⌝ }
+        ensures { λ r. ⌜ r ≡ isAt (partsOf "TOP_CFG5") "V2I_FACTOR_OFFSET_EN" (self .0) ⌝ }
     {
         flag(self.0, 0)
     }
 
     pub fn with_V2I_FACTOR_OFFSET_EN(self, on: bool) -> Self
-        ensures { λ r. ⌜ r .0 ≡ withAt top-cfg5 "V2I_FACTOR_OFFSET_EN" (self .0) (codeOf on) ⌝ }
+        ensures { λ r. ⌜ r .0 ≡ withAt (partsOf "TOP_CFG5") "V2I_FACTOR_OFFSET_EN" (self .0) (codeOf on) ⌝ }
     {
         TOP_CFG5(with_flag(self.0, 0, on))
     }
@@ -489,13 +489,13 @@ impl IRQ_MASK2 {
     }
 
     pub fn ADC_SAT_M(self) -> bool
-        ensures { λ r. ⌜ r ≡ isAt irq-mask2 "ADC_SAT_M" (self .0) ⌝ }
+        ensures { λ r. ⌜ r ≡ isAt (partsOf "IRQ_MASK2") "ADC_SAT_M" (self .0) ⌝ }
     {
         flag(self.0, 7)
     }
 
     pub fn with_ADC_SAT_M(self, on: bool) -> Self
-        ensures { λ r. ⌜ r .0 ≡ withAt irq-mask2 "ADC_SAT_M" (self .0) (codeOf on) ⌝ }
+        ensures { λ r. ⌜ r .0 ≡ withAt (partsOf "IRQ_MASK2") "ADC_SAT_M" (self .0) (codeOf on) ⌝ }
     {
         IRQ_MASK2(with_flag(self.0, 7, on))
     }
@@ -503,7 +503,7 @@ impl IRQ_MASK2 {
 
 // What each named field reads when its register holds `byte`, registers and fields in the written order; a flag reads 0 or 1.
 pub fn fields(byte: u8) -> [u8; 20]
-    ensures { λ r. ⌜ r ≡ readings tables byte ⌝ }
+    ensures { λ r. ⌜ r ≡ readings trigger byte ⌝ }
 {
     let seq_ctl2 = SEQ_CTL2::from(byte);
     let gpi_0_ctl = GPI_0_CTL::from(byte);
@@ -543,7 +543,7 @@ pub fn fields(byte: u8) -> [u8; 20]
 // For each field that is not read-only, in the same order, what its register holds once the field is replaced by `value` in
 // `byte`; a flag is set where `value` is odd.
 pub fn replaced(byte: u8, value: u8) -> [u8; 19]
-    ensures { λ r. ⌜ r ≡ replacements read-only tables byte value ⌝ }
+    ensures { λ r. ⌜ r ≡ replacements readOnly trigger byte value ⌝ }
 {
     let on = flag(value, 0);
     let seq_ctl2 = SEQ_CTL2::from(byte);

@@ -8,14 +8,9 @@ use harness::{compared, text};
 
 const PUBLISHED: &str = "rust/oracle/src/registers.rs";
 
-const TABLES: [&str; 4] = [
-    "crates/registers_interrupts/specs/Table.antt",
-    "crates/registers_actuator/specs/Table.antt",
-    "crates/registers_control/specs/Table.antt",
-    "crates/registers_trigger/specs/Table.antt",
-];
+const TABLE: &str = "crates/registers/specs/Table.antt";
 
-/// The code of the register types, in the order of [`TABLES`].
+/// The code of the register types, in the written order.
 const METHODS: [&str; 4] = [
     "crates/registers_interrupts/src/lib.rt",
     "crates/registers_actuator/src/lib.rt",
@@ -92,85 +87,76 @@ fn words(path: &str) -> Vec<String> {
         .collect()
 }
 
-/// The name and the parts of each `name = part "FIELD" width ∷ ... ∷ []` in a file.
-fn table(path: &str) -> Vec<(String, Vec<(String, u32)>)> {
-    let words = words(path);
+/// A row of the table: a name, an address and the parts.
+type Row = (String, u8, Vec<(String, u32)>);
+
+/// The rows `entry "NAME" address (part "FIELD" width ∷ ... ∷ [])` of the table, and the names of `readOnly = "FIELD" ∷ ... ∷ []`.
+fn table() -> (Vec<Row>, Vec<String>) {
+    let words = words(TABLE);
+    let unquoted = |word: &String| word.trim_matches('"').to_string();
     let mut rows = Vec::new();
-    for at in 1..words.len().saturating_sub(1) {
-        if words[at] != "=" || words[at + 1] != "part" {
+    let mut read_only = Vec::new();
+    for at in 1..words.len().saturating_sub(2) {
+        if words[at] == "readOnly" && words[at + 1] == "=" {
+            let names = words[at + 2..].iter().take_while(|word| *word != "[]");
+            read_only.extend(names.filter(|word| *word != "∷").map(unquoted));
+        }
+        if words[at] != "entry" || !words[at + 1].starts_with('"') {
             continue;
         }
-        let name = words[at - 1].clone();
+        let name = unquoted(&words[at + 1]);
         let mut parts = Vec::new();
-        let mut rest = &words[at + 1..];
+        let mut rest = &words[at + 3..];
         while let [part, field, width, cons, more @ ..] = rest
             && part == "part"
         {
-            assert_eq!(cons, "∷", "{path}: {name}");
-            parts.push((field.trim_matches('"').to_string(), number(width)));
+            assert_eq!(cons, "∷", "{name}");
+            parts.push((unquoted(field), number(width)));
             rest = more;
         }
-        assert_eq!(rest.first().map(String::as_str), Some("[]"), "{path}: {name}");
-        rows.push((name, parts));
+        assert_eq!(rest.first().map(String::as_str), Some("[]"), "{name}");
+        rows.push((name, number(&words[at + 2]) as u8, parts));
     }
-    // A quoted name anywhere else would be a part that was not read.
+    // A quoted name anywhere else would be a register or a part that was not read.
     let quoted = words.iter().filter(|word| word.starts_with('"')).count();
-    let parts = rows.iter().map(|(_, parts)| parts.len()).sum::<usize>();
-    assert_eq!(quoted, parts + read_only(path).len(), "{path}");
-    rows
-}
-
-/// The names of `read-only = "FIELD" ∷ ... ∷ []` in a file.
-fn read_only(path: &str) -> Vec<String> {
-    let words = words(path);
-    let at = words.windows(2).position(|pair| pair[0] == "read-only" && pair[1] == "=");
-    let names = words[at.unwrap_or_else(|| panic!("{path}")) + 2..].iter();
-    names
-        .take_while(|word| *word != "[]")
-        .filter(|word| *word != "∷")
-        .map(|word| word.trim_matches('"').to_string())
-        .collect()
+    let parts = rows.iter().map(|(_, _, parts)| parts.len()).sum::<usize>();
+    assert_eq!(quoted, rows.len() + parts + read_only.len());
+    (rows, read_only)
 }
 
 #[test]
 fn read_only_fields_are_the_published_ones() {
     let fields = published_types().into_iter().flat_map(|(_, fields)| fields);
     let wanted: Vec<_> = fields.filter(|field| field.read_only).map(|field| field.name).collect();
-    let listed: Vec<_> = TABLES.iter().flat_map(|path| read_only(path)).collect();
+    let (_, listed) = table();
     assert_eq!(listed, wanted);
     compared("read-only fields", listed.len(), 3);
 }
 
 #[test]
-fn tables_are_the_published_fields() {
+fn parts_are_the_published_fields() {
     let wanted: Vec<(String, Vec<(String, u32)>)> = published_types()
         .into_iter()
         .map(|(name, fields)| {
-            let parts = fields.into_iter().map(|field| (field.name, field.width)).collect();
-            (name.to_lowercase().replace('_', "-"), parts)
+            (name, fields.into_iter().map(|field| (field.name, field.width)).collect())
         })
         .collect();
-    let tables: Vec<_> = TABLES.iter().flat_map(|path| table(path)).collect();
-    assert_eq!(tables, wanted);
+    let rows = table().0.into_iter().filter(|(_, _, parts)| !parts.is_empty());
+    let listed: Vec<_> = rows.map(|(name, _, parts)| (name, parts)).collect();
+    assert_eq!(listed, wanted);
 
-    for (name, parts) in &tables {
+    for (name, parts) in &listed {
         assert_eq!(parts.iter().map(|(_, width)| width).sum::<u32>(), 8, "{name}");
     }
-    let parts = tables.iter().flat_map(|(_, parts)| parts);
+    let parts = listed.iter().flat_map(|(_, parts)| parts);
     let named = parts.filter(|(name, _)| name != PADDING).count();
-    compared("register types", tables.len(), 39);
+    compared("register types", listed.len(), 39);
     compared("named fields", named, 89);
 }
 
-/// The rows `entry "NAME" address` are the published names and addresses, in order.
 #[test]
 fn addresses_are_the_published_ones() {
-    let words = words("crates/registers/specs/Addresses.antt");
-    let listed: Vec<(String, u8)> = words
-        .windows(3)
-        .filter(|it| it[0] == "entry" && it[1].starts_with('"'))
-        .map(|it| (it[1].trim_matches('"').to_string(), number(&it[2]) as u8))
-        .collect();
+    let listed: Vec<_> = table().0.into_iter().map(|(name, address, _)| (name, address)).collect();
     assert_eq!(listed, published_addresses());
     compared("addresses", listed.len(), 42);
 }
@@ -232,14 +218,9 @@ fn methods_cite_their_own_fields() {
             else {
                 continue;
             };
-            let cited: Vec<_> =
-                line.split(*at).nth(1).unwrap().split_whitespace().take(2).collect();
-            assert_eq!(cited[0], of.to_lowercase().replace('_', "-"), "{of}::{method}");
-            assert_eq!(
-                cited[1].trim_matches('"'),
-                method.trim_start_matches("with_"),
-                "{of}::{method}"
-            );
+            let field = method.trim_start_matches("with_");
+            let cited = format!("≡ {at}(partsOf \"{of}\") \"{field}\" (self .0)");
+            assert!(line.contains(&cited), "{of}::{method}");
             assert_eq!(*at == "withAt ", method.starts_with("with_"), "{of}::{method}");
             methods.push((of.clone(), method.clone()));
         }

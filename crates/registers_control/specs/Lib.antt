@@ -1,2 +1,0 @@
--- The definitions that the contracts of `registers_control` cite.
-pub mod Table

@@ -1,2 +1,0 @@
--- The definitions that the contracts of `registers_trigger` cite.
-pub mod Table
