@@ -11,7 +11,8 @@ use lib.Seq.{set-append-seam, take-at, drop-at, take-append-add, take-all, drop-
 use borrow.Author.Tests.{lt-ltb, le-ltb}
 use borrow.Rule.Slice.PartMut.{midOf}
 use Rattle.laws.specs.Copied.{copied, over}
-use Rattle.memory.specs.Image.{joined, endPointers, imageSize, imageBytes}
+use Rattle.laws.specs.Lists.{joined}
+use Rattle.memory.specs.Image.{endPointers, imageSize, imageBytes}
 use Rattle.memory.proofs.Images.{joined-length}
 use Rattle.assemble.specs.Kept.{kept, sumOf, ends, Pushed, ImageLaid}
 use Rattle.assemble.proofs.Lists.{sumOf-lengths, ends-pointers, ends-append, ends-length, joined-append, copied-more, over-more}

@@ -10,7 +10,8 @@ use native.Mathlib.Omega.{arith}
 use lib.ListN.{length, take, drop, getD, set, length-append, length-take, length-drop, drop-of-length-le}
 use lib.Seq.{drop-cons, sets, take-all, take-at, drop-at, drop-drop, take-append-le, take-append-add}
 use Rattle.laws.specs.Copied.{copied, over}
-use Rattle.memory.specs.Image.{joined, endPointers}
+use Rattle.laws.specs.Lists.{joined}
+use Rattle.memory.specs.Image.{endPointers}
 use Rattle.assemble.specs.Kept.{sumOf, ends}
 
 -- ---- one turn

@@ -19,8 +19,7 @@ begunAnew = call 2 1 1 ++ call 1 0 0 ++ call 4 170 0 ++ call 13 0 0 ++ call 6 0 
 
 -- "snippet 3, half gain, Ms43_52, loop 2, 300 Hz: 33 96 2C", and a frame of four different arguments
 abbrev pub twoFrames : List ℕ
-twoFrames =
-    (call 5 3 0 ++ call 7 1 0 ++ call 8 2 0 ++ call 9 2 0 ++ call 10 44 1 ++ call 12 0 0)
+twoFrames = (call 5 3 0 ++ call 7 1 0 ++ call 8 2 0 ++ call 9 2 0 ++ call 10 44 1 ++ call 12 0 0)
     ++ (call 5 4 0 ++ call 7 1 0 ++ call 8 3 0 ++ call 9 5 0 ++ call 12 0 0)
 
 -- a frame of snippet 1 added, a `new` that is refused, and an add again

@@ -6,7 +6,8 @@ use mathlib.Core.List.{List, [], _∷_, _++_, map}
 use lib.Dec.{ltb}
 use lib.ListN.{length, getD, replicate}
 use Rattle.laws.specs.Copied.{copied}
-use Rattle.memory.specs.Image.{joined, imageBytes}
+use Rattle.laws.specs.Lists.{joined}
+use Rattle.memory.specs.Image.{imageBytes}
 use Rattle.memory.specs.Memory.{imageNumber}
 
 -- how many bytes that takes, for `most` items

@@ -79,8 +79,7 @@ answersOf bytes = answersTo grouped noGroups (callsIn bytes)
 -- the snippet, the frame and the sequence under construction after the calls
 abbrev pub buildersIn : Groups → Builders
 buildersIn g =
-    builders (snippetFrom (g .snippet))
-    (onTold (begunBy (g .frame .begin)) (λ f. UnderWay.Begun (ran frameStep f (g .frame .calls))) (λ n. UnderWay.NotBegun))
+    builders (snippetFrom (g .snippet)) (onTold (begunBy (g .frame .begin)) (λ f. UnderWay.Begun (ran frameStep f (g .frame .calls))) (λ n. UnderWay.NotBegun))
     (sequenceFrom (g .sequence))
 
 abbrev pub buildersOf : List ℕ → Builders

@@ -33,21 +33,13 @@ chosen k code = cond (ltb 3 code) Call.Unknown (Call.Builder (Call.OnFrame k))
 abbrev pub callsByCode : ℕ → ℕ → List Call
 callsByCode a b =
     Call.Unknown
-    ∷ Call.Builder Call.SnippetNew
-    ∷ Call.Builder (Call.OnSnippet (ramp a b))
-    ∷ Call.Builder (Call.OnSnippet (step a b))
-    ∷ Call.Builder (Call.OnSnippet (point a))
-    ∷ Call.Builder (Call.BeginFrame (new a))
-    ∷ Call.Builder (Call.BeginFrame silence)
-    ∷ chosen (gain (gainAt a)) a
-    ∷ chosen (timebase (timebaseAt a)) a
-    ∷ Call.Builder (Call.OnFrame (loopCount a))
-    ∷ Call.Builder (Call.OnFrame (frequencyHz (a + b * 256)))
-    ∷ Call.Builder Call.SequenceNew
-    ∷ Call.Builder Call.AddFrame
-    ∷ Call.AddSnippet
-    ∷ Call.AddSequence
-    ∷ []
+    -- 1 to 4: the snippet
+    ∷ Call.Builder Call.SnippetNew ∷ Call.Builder (Call.OnSnippet (ramp a b)) ∷ Call.Builder (Call.OnSnippet (step a b)) ∷ Call.Builder (Call.OnSnippet (point a))
+    -- 5 to 10: the frame
+    ∷ Call.Builder (Call.BeginFrame (new a)) ∷ Call.Builder (Call.BeginFrame silence) ∷ chosen (gain (gainAt a)) a ∷ chosen (timebase (timebaseAt a)) a
+    ∷ Call.Builder (Call.OnFrame (loopCount a)) ∷ Call.Builder (Call.OnFrame (frequencyHz (a + b * 256)))
+    -- 11 and 12: the sequence; 13 and 14: the memory
+    ∷ Call.Builder Call.SequenceNew ∷ Call.Builder Call.AddFrame ∷ Call.AddSnippet ∷ Call.AddSequence ∷ []
 
 abbrev pub recordOf : ℕ → ℕ → ℕ → Record
 recordOf code a b = record { code = code; a = a; b = b }

@@ -1,5 +1,5 @@
--- The codes of the settings' choices, by the order in which config.rs and lib.rs write them: document 01, "`Option` settings: an enum of
--- given or absent". A code past the last counts as the last.
+-- The codes of the settings' choices, by the order in which config.rs and lib.rs write them. That a code past the last counts as the last is
+-- ours: document 01 has no such code.
 use Prim.Native.Nat.{ℕ}
 use mathlib.Core.List.{[], _∷_}
 use lib.ListN.{getD}

@@ -9,9 +9,10 @@ use Prim.Native.Nat.{ℕ, zero, suc, _+_, _-_, _≤_, _<_}
 use native.Mathlib.Omega.{arith}
 use lib.ListN.{length, replicate, length-map, length-append}
 use Rattle.laws.specs.Bytes.{All, Bytes}
+use Rattle.laws.specs.Lists.{joined}
 use Rattle.frame.specs.declared.FrameBuilder.{FrameBuilder}
 use Rattle.frame.proofs.Canon.{canon}
-use Rattle.memory.specs.Image.{joined, endPointers, imageSize, imageBytes}
+use Rattle.memory.specs.Image.{endPointers, imageSize, imageBytes}
 use Rattle.content.specs.Content.{Point, Content, pointBytes, framesBytes, imageOf, Admitted, Same}
 use Rattle.content.proofs.Admits.{SnippetAdmitted, SequenceAdmitted}
 use Rattle.content.specs.ReadImage.{andThen, every, readSnippet, readSequence, Items, readItems, contentIn, readImage}

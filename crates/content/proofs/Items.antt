@@ -11,7 +11,8 @@ use lib.Dec.{ltb, leb, eqb}
 use lib.ListN.{length, take, drop, replicate, length-append, length-drop, length-replicate, take-append-drop}
 use lib.Seq.{take-at, drop-at, length-take-le}
 use Rattle.laws.specs.Bytes.{All}
-use Rattle.memory.specs.Image.{joined, endPointers, imageSize, imageBytes}
+use Rattle.laws.specs.Lists.{joined}
+use Rattle.memory.specs.Image.{endPointers, imageSize, imageBytes}
 use Rattle.content.specs.ReadImage.{andThen, Cut, cut, allZero, Items, countsFit, itemsFrom, readItems}
 use Rattle.content.proofs.Codec.{cond-some, cond-on, some-inj, none-some, then-some, cons-eq}
 

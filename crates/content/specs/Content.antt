@@ -6,11 +6,12 @@ use mathlib.Core.Bool.{Bool}
 use mathlib.Core.List.{List, [], _∷_, map}
 use lib.ListN.{length}
 use Rattle.laws.specs.Bytes.{All}
+use Rattle.laws.specs.Lists.{joined}
 use Rattle.snippet.specs.Point.{pointByte, PointAdmitted}
 use Rattle.frame.specs.declared.FrameBuilder.{FrameBuilder}
 use Rattle.frame.specs.Frame.{bytesOf}
 use Rattle.frame.specs.Agreement.{Agree, FrameAdmitted}
-use Rattle.memory.specs.Image.{joined, imageSize, imageBytes}
+use Rattle.memory.specs.Image.{imageSize, imageBytes}
 
 -- "Points are the same when kind, length and amplitude are"
 pub record Point : Type 0 where

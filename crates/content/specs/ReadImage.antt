@@ -56,8 +56,7 @@ abbrev pub cut : ℕ → List ℕ → List ℕ → Option Cut
 cut before [] l = some (record { items = []; left = l })
 cut before (e ∷ es) l =
     cond (ltb before e && leb (e - before) (length l))
-    (andThen (cut e es (drop (e - before) l)) (λ c. some (record { items = take (e - before) l ∷ c .items; left = c .left })))
-    none
+    (andThen (cut e es (drop (e - before) l)) (λ c. some (record { items = take (e - before) l ∷ c .items; left = c .left }))) none
 
 abbrev pub allZero : List ℕ → Bool
 allZero [] = true
@@ -78,16 +77,13 @@ unfoldable pub readItems : List ℕ → Option Items
 readItems [] = none
 readItems (s ∷ []) = none
 readItems (s ∷ q ∷ l) =
-    cond (eqb (length l) 98 && countsFit s q)
-    (andThen (cut (1 + s + q) (take (s + q) l) (drop (s + q) l)) (itemsFrom s))
-    none
+    cond (eqb (length l) 98 && countsFit s q) (andThen (cut (1 + s + q) (take (s + q) l) (drop (s + q) l)) (itemsFrom s)) none
 
 -- ---- the whole
 
 abbrev pub contentIn : Items → Option Content
 contentIn r =
-    andThen (every readSnippet (r .snippets)) (λ s.
-    andThen (every readSequence (r .sequences)) (λ q. some (record { snippets = s; sequences = q })))
+    andThen (every readSnippet (r .snippets)) (λ s. andThen (every readSequence (r .sequences)) (λ q. some (record { snippets = s; sequences = q })))
 
 unfoldable pub readImage : List ℕ → Option Content
 readImage l = andThen (readItems l) contentIn

@@ -36,9 +36,6 @@ numberAndCode Error.OutOfTurn = (19, 0)
 abbrev pub errorNumber : Error → ℕ
 errorNumber e = numberAndCode e .0
 
-abbrev pub errorCode : Error → ℕ
-errorCode e = numberAndCode e .1
-
 -- 0 where nothing was refused
 abbrev pub answerNumber : Answer → ℕ
 answerNumber Answer.Done = 0
@@ -46,4 +43,4 @@ answerNumber (Answer.Refused e) = errorNumber e
 
 abbrev pub busCode : Answer → ℕ
 busCode Answer.Done = 0
-busCode (Answer.Refused e) = errorCode e
+busCode (Answer.Refused e) = numberAndCode e .1

@@ -3,7 +3,7 @@
 // `I2c` carries the bus's own failure code. Proved: `number` is document 01's list, `bus_code` that code (specs/Number.antt). Left out:
 // the texts for printing.
 ghost use mathlib.Core.Path.{_≡_};
-ghost use Rattle.errors.specs.Number.{errorNumber, answerNumber, errorCode, busCode};
+ghost use Rattle.errors.specs.Number.{numberAndCode, errorNumber, answerNumber, busCode};
 
 pub enum Error {
     I2c(u8),
@@ -36,7 +36,7 @@ pub enum Answer {
 impl Error {
     // The bus's own code, or 0.
     pub fn bus_code(self) -> u8
-        ensures { λ r. ⌜ r ≡ errorCode self ⌝ }
+        ensures { λ r. ⌜ r ≡ numberAndCode self .1 ⌝ }
     {
         match self {
             Error::I2c(code) => code,

@@ -12,13 +12,13 @@ use Rattle.exchange.specs.declared.Turn.{Turn}
 use Rattle.exchange.specs.declared.Fit.{Fit}
 use Rattle.exchange.specs.declared.Fit.the-variants.{Unfit}
 use Rattle.exchange.specs.State.{countIn, noneLeft, left}
-use Rattle.exchange.specs.Turn.{fittingOf, changed, fitsNext, fitOf, effectOf, going, stateBy, stateAfter, bufferAfter, reportBy, reportOf, turnReport, turnIn}
-use Rattle.exchange.proofs.Moves.{left-counts}
+use Rattle.exchange.specs.Turn.{fittingOf, resized, fitsNext, fitOf, Effect, effectOf, going, Report, stateAfter, bufferAfter, reportOf, turnReport, turnIn}
+use Rattle.exchange.proofs.Moves.{left-counts, stateBy}
 
 -- an answer that counts came to a session that has a step left
 pub fits-going : (st : List ℕ) (a : Reply) (n : ℕ) (f : Fit) → fitOf st a n ≡ f → effectOf f .made ≡ true → going st
 unfolding fitOf
-fits-going st a n f e h = go (changed st n) (left st) refl (ap (λ (f : Fit). effectOf f .made) e ∙ h) where
+fits-going st a n f e h = go (resized st n) (left st) refl (ap (λ (f : Fit). effectOf f .made) e ∙ h) where
   go : (t : Bool) (xs : List Step) → left st ≡ xs → effectOf (cond t Unfit (fitsNext xs a)) .made ≡ true → going st
   go true xs k w = absurd (true≢false (sym w))
   go false [] k w = absurd (true≢false (sym w))
@@ -29,16 +29,20 @@ fits-going st a n f e h = go (changed st n) (left st) refl (ap (λ (f : Fit). ef
 -- a session without a step left refuses
 pub unfit-none : (st : List ℕ) (a : Reply) (n : ℕ) → left st ≡ [] → fitOf st a n ≡ Unfit
 unfolding fitOf
-unfit-none st a n e = ap (λ (xs : List Step). cond (changed st n) Unfit (fitsNext xs a)) e ∙ go (changed st n) where
+unfit-none st a n e = ap (λ (xs : List Step). cond (resized st n) Unfit (fitsNext xs a)) e ∙ go (resized st n) where
   go : (t : Bool) → cond t Unfit Unfit ≡ Unfit
   go true = refl
   go false = refl
 
-pub fit-next : (st : List ℕ) (a : Reply) (n : ℕ) (x : Step) (xs : List Step) → left st ≡ x ∷ xs → fitOf st a n ≡ cond (changed st n) Unfit (fittingOf x a)
+pub fit-next : (st : List ℕ) (a : Reply) (n : ℕ) (x : Step) (xs : List Step) → left st ≡ x ∷ xs → fitOf st a n ≡ cond (resized st n) Unfit (fittingOf x a)
 unfolding fitOf
-fit-next st a n x xs e = ap (λ (ys : List Step). cond (changed st n) Unfit (fitsNext ys a)) e
+fit-next st a n x xs e = ap (λ (ys : List Step). cond (resized st n) Unfit (fitsNext ys a)) e
 
 -- ---- what is reported and kept, from how the answer fits
+
+abbrev reportBy : List ℕ → Effect → Report
+reportBy st e = record { number = e .number; code = e .code; made = countIn (stateBy st e); ended = noneLeft (left (stateBy st e)) }
+
 pub answered : (st next : List ℕ) (a : Reply) (buffer filled : List ℕ) (f : Fit) (w : Answer) (t : Turn)
     → fitOf st a (length buffer) ≡ f → t ≡ turnIn next w → next ≡ stateBy st (effectOf f) → filled ≡ effectOf f .buffer buffer
     → answerNumber w ≡ effectOf f .number → busCode w ≡ effectOf f .code

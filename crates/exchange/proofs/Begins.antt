@@ -5,20 +5,22 @@ use native.Mathlib.Omega.{arith}
 use native.Mathlib.Nat.{min-eq-left}
 use mathlib.Core.Path.{_≡_, refl, sym, _∙_, ap}
 use mathlib.Core.Bool.{Bool, true, cond}
-use mathlib.Core.List.{List, [], _∷_, _++_, append-assoc}
+use mathlib.Core.List.{List, [], _∷_, _++_, map, append-assoc}
 use lib.ListN.{length, take, drop, replicate, length-append, length-replicate}
 use lib.Seq.{take-at, drop-at, drop-drop}
 use borrow.Author.Tests.{eq-eqb}
+use Rattle.laws.specs.Lists.{joined, lowBytes}
 use Rattle.exchange.specs.declared.Step.{Step}
 use Rattle.exchange.specs.declared.Step.the-variants.{Store}
-use Rattle.exchange.specs.State.{isSession, isOpen, addressIn, countIn, readCount, purposeIn, wordAt, roomIn, imageIn, recordIn, indexed, plan, left, little, Begun, joinedSteps, begunBytes, begunIn}
+use Rattle.exchange.specs.Steps.{stepBytes}
+use Rattle.exchange.specs.State.{isSession, isUnbroken, addressIn, countIn, readCount, purposeIn, wordAt, roomIn, imageIn, recordIn, indexed, plan, left, Begun, begunBytes, begunIn}
 use Rattle.exchange.proofs.Latest.{bytesRead}
 use Rattle.exchange.proofs.Moves.{going-left}
 use Rattle.exchange.proofs.Plan.{stepAt, length-joined, joined-steps, plan-parts}
 
 -- a number below 2 to the 64 is its eight bytes
-little-again : (n : ℕ) → n < 2 ^ 64 → wordAt (little 8 n) 0 + 4294967296 * wordAt (little 8 n) 4 ≡ n
-little-again n h = omega arith
+low-again : (n : ℕ) → n < 2 ^ 64 → wordAt (lowBytes 8 n) 0 + 4294967296 * wordAt (lowBytes 8 n) 4 ≡ n
+low-again n h = omega arith
 
 module _ (b : Begun) (xs : List Step) (few : length xs ≤ 25) (image : length (b .image) ≡ 100) (recorded : length (b .«record») ≡ 37) where
   -- it has the size of a session
@@ -27,11 +29,11 @@ module _ (b : Begun) (xs : List Step) (few : length xs ≤ 25) (image : length (
 
   -- the bytes of the steps, and zeros
   abbrev rest : List ℕ
-  rest = joinedSteps xs ++ replicate (125 - 5 * length xs) 0
+  rest = joined (map stepBytes xs) ++ replicate (125 - 5 * length xs) 0
 
   -- what stands where
   behind-head : drop 17 (begunBytes b xs) ≡ b .image ++ (b .«record» ++ rest)
-  behind-head = append-assoc (b .image ++ b .«record») (joinedSteps xs) (replicate (125 - 5 * length xs) 0) ∙ append-assoc (b .image) (b .«record») rest
+  behind-head = append-assoc (b .image ++ b .«record») (joined (map stepBytes xs)) (replicate (125 - 5 * length xs) 0) ∙ append-assoc (b .image) (b .«record») rest
 
   behind-image : drop 117 (begunBytes b xs) ≡ b .«record» ++ rest
   behind-image = sym (drop-drop 100 17 (begunBytes b xs)) ∙ ap (drop 100) behind-head ∙ drop-at (b .image) (b .«record» ++ rest) 100 image
@@ -58,7 +60,7 @@ pub begins : (st : List ℕ) (b : Begun) (xs : List Step) → isSession st ≡ t
     × (recordIn (begunIn st b xs) ≡ b .«record»)
     × (purposeIn (begunIn st b xs) ≡ b .purpose)
     × (readCount (begunIn st b xs) ≡ min (b .reads) 100)
-    × (isOpen (begunIn st b xs) ≡ true)
+    × (isUnbroken (begunIn st b xs) ≡ true)
     × (bytesRead (begunIn st b xs) ≡ 0 ∷ 0 ∷ 0 ∷ [])
 unfolding begunIn
 begins st b xs s few room image recorded =
@@ -67,7 +69,7 @@ begins st b xs s few room image recorded =
       going-left (begunBytes b xs) _ (record { session = l; stage = refl; steps = planned b xs few image recorded }),
       refl,
       rw l,
-      little-again (b .room) room,
+      low-again (b .room) room,
       ap (take 100) (behind-head b xs few image recorded) ∙ take-at (b .image) _ 100 image,
       ap (take 37) (behind-image b xs few image recorded) ∙ take-at (b .«record») _ 37 recorded,
       refl,

@@ -7,21 +7,20 @@ use mathlib.Core.Bool.{Bool, true, false, cond, _||_, true≢false}
 use mathlib.Core.List.{List, [], _∷_, _++_}
 use lib.Dec.{eqb}
 use lib.ListN.{length}
-use Rattle.field.specs.Field.{codeOf}
 use Rattle.exchange.specs.declared.Step.{Step}
 use Rattle.exchange.specs.declared.Step.the-variants.{Write, Read, Update, Match, Chunk, Store}
 use Rattle.exchange.specs.declared.Fit.{Fit}
 use Rattle.exchange.specs.declared.Fit.the-variants.{Unfit, Broke, Went, Got, Kept, Wrong}
 use Rattle.exchange.specs.Steps.{exchangeFor}
 use Rattle.exchange.specs.State.{left}
-use Rattle.exchange.specs.Turn.{pendingOf, pendingFor, wantsByte, fitOf, effectOf}
+use Rattle.exchange.specs.Turn.{pendingOf, pendingFor, wanted, fitOf, effectOf}
 use Rattle.exchange.specs.Session.{AnswerCall, afterCall, sent, came, brokenOff}
 use Rattle.exchange.proofs.Latest.{bytesWanted}
 use Rattle.exchange.proofs.Effects.{made-taken, came-taken, stage-breaks}
 use Rattle.exchange.proofs.Turns.{Turned, turned}
 
--- the exchange of a step wants a byte where the step does
-wants : (address last : ℕ) (image : List ℕ) (x : Step) → exchangeFor address last image x .wanted ≡ codeOf (wantsByte x)
+-- the exchange of a step wants as many bytes as the step
+wants : (address last : ℕ) (image : List ℕ) (x : Step) → exchangeFor address last image x .wanted ≡ wanted x
 wants address last image (Write r v) = refl
 wants address last image (Read r) = refl
 wants address last image (Update r s w v) = refl
@@ -29,8 +28,8 @@ wants address last image (Match r v) = refl
 wants address last image (Chunk i n) = refl
 wants address last image (Store i) = refl
 
-pending-wants : (st : List ℕ) (x : Step) (xs : List Step) (w : Bool) → left st ≡ x ∷ xs → wantsByte x ≡ w → pendingOf st .wanted ≡ codeOf w
-pending-wants st x xs w e h = ap (λ (l : List Step). pendingFor st l .wanted) e ∙ wants _ _ _ x ∙ ap codeOf h
+pending-wants : (st : List ℕ) (x : Step) (xs : List Step) (n : ℕ) → left st ≡ x ∷ xs → wanted x ≡ n → pendingOf st .wanted ≡ n
+pending-wants st x xs n e h = ap (λ (l : List Step). pendingFor st l .wanted) e ∙ wants _ _ _ x ∙ h
 
 -- by how the first answer fits
 comes-by : (f : Fit) (st t : List ℕ) (cs : List AnswerCall) → Turned f st t →
@@ -38,9 +37,9 @@ comes-by : (f : Fit) (st t : List ℕ) (cs : List AnswerCall) → Turned f st t 
     length (effectOf f .came ++ came t cs) ≡ bytesWanted (cond (effectOf f .made) (pendingOf st ∷ []) [] ++ sent t cs)
 comes-by Unfit st t cs g k h = k h
 comes-by (Broke code) st t cs g k h = absurd (true≢false h)
-comes-by Went st t cs g k h = omega (arith, k h, pending-wants st _ _ _ (g .before) (g .wanted))
-comes-by (Got b) st t cs g k h = omega (arith, k h, pending-wants st _ _ _ (g .before) (g .wanted))
-comes-by (Kept i b) st t cs g k h = omega (arith, k h, pending-wants st _ _ _ (g .before) (g .wanted))
+comes-by Went st t cs g k h = omega (arith, k h, pending-wants st _ _ _ (g .before) (g .reads))
+comes-by (Got b) st t cs g k h = omega (arith, k h, pending-wants st _ _ _ (g .before) (g .reads))
+comes-by (Kept i b) st t cs g k h = omega (arith, k h, pending-wants st _ _ _ (g .before) (g .reads))
 comes-by (Wrong b) st t cs g k h = absurd (true≢false h)
 
 -- every list of answers

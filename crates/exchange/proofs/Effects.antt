@@ -6,14 +6,16 @@ use mathlib.Core.Bool.{Bool, true, false, cond, not, true≢false}
 use mathlib.Core.List.{List, [], _∷_}
 use lib.Dec.{eqb}
 use Rattle.exchange.specs.declared.Step.{Step}
+use Rattle.exchange.specs.declared.Step.the-variants.{Write, Read, Update, Match, Chunk, Store}
 use Rattle.exchange.specs.declared.Reply.{Reply}
 use Rattle.exchange.specs.declared.Reply.the-variants.{Done, Byte, Failed}
 use Rattle.exchange.specs.declared.Fit.{Fit}
 use Rattle.exchange.specs.declared.Fit.the-variants.{Unfit, Broke, Went, Got, Kept, Wrong}
 use Rattle.exchange.specs.State.{left, completed}
-use Rattle.exchange.specs.Turn.{wantsByte, asks, byteFit, fitsNext, changed, fitOf, effectOf, stateBy, stateAfter, reportOf}
+use Rattle.exchange.specs.Turn.{wanted, fitsNext, resized, fitOf, effectOf, stateAfter, reportOf}
 use Rattle.exchange.specs.Session.{AnswerCall, taken, byteOf, breaks}
 use Rattle.exchange.proofs.Left.{closed}
+use Rattle.exchange.proofs.Moves.{stateBy}
 use Rattle.exchange.proofs.Takes.{takes}
 use Rattle.exchange.proofs.Turns.{Turned, turned-by}
 
@@ -41,26 +43,25 @@ came-by : (k : Bool) (l : List Step) (a : Reply) → cond (effectOf (cond k Unfi
 came-by true l a = refl
 came-by false [] a = refl
 came-by false (x ∷ xs) (Failed code) = refl
-came-by false (x ∷ xs) Done = go (wantsByte x)
+came-by false (x ∷ xs) Done = go (eqb (wanted x) 0)
   where
-    go : (w : Bool) → cond (effectOf (cond w Unfit Went) .made) [] [] ≡ effectOf (cond w Unfit Went) .came
+    go : (w : Bool) → cond (effectOf (cond w Went Unfit) .made) [] [] ≡ effectOf (cond w Went Unfit) .came
     go true = refl
     go false = refl
-came-by false (x ∷ xs) (Byte b) = go (wantsByte x) (asks x .must) (asks x .index)
+came-by false (Write r v ∷ xs) (Byte b) = refl
+came-by false (Read r ∷ xs) (Byte b) = refl
+came-by false (Update r s w v ∷ xs) (Byte b) = refl
+came-by false (Match r v ∷ xs) (Byte b) = go (eqb b v)
   where
-    test : (q : Bool) → cond (effectOf (cond q (Got b) (Wrong b)) .made) (b ∷ []) [] ≡ effectOf (cond q (Got b) (Wrong b)) .came
-    test true = refl
-    test false = refl
-
-    go : (w : Bool) (must index : List ℕ) → cond (effectOf (cond w (byteFit must index b) Unfit) .made) (b ∷ []) [] ≡ effectOf (cond w (byteFit must index b) Unfit) .came
-    go false must index = refl
-    go true [] [] = refl
-    go true [] (i ∷ is) = refl
-    go true (v ∷ vs) is = test (eqb b v)
+    go : (q : Bool) → cond (effectOf (cond q (Got b) (Wrong b)) .made) (b ∷ []) [] ≡ effectOf (cond q (Got b) (Wrong b)) .came
+    go true = refl
+    go false = refl
+came-by false (Chunk i n ∷ xs) (Byte b) = refl
+came-by false (Store i ∷ xs) (Byte b) = refl
 
 pub came-taken : (st : List ℕ) (a : Reply) (n : ℕ) → cond (taken st a n) (byteOf a) [] ≡ effectOf (fitOf st a n) .came
 unfolding fitOf
-came-taken st a n = ap (λ (k : Bool). cond k (byteOf a) []) (made-taken st a n) ∙ came-by (changed st n) (left st) a
+came-taken st a n = ap (λ (k : Bool). cond k (byteOf a) []) (made-taken st a n) ∙ came-by (resized st n) (left st) a
 
 -- whether it breaks the session off
 pub stage-breaks : (st : List ℕ) (a : Reply) (n : ℕ) → breaks (reportOf st a n .number) ≡ eqb (effectOf (fitOf st a n) .stage) 2
@@ -91,7 +92,7 @@ quiet st a n = go (fitOf st a n)
 -- 16 and 17 leave no step, and the session is not completed
 pub ends : (st : List ℕ) (a : Reply) (n : ℕ) → breaks (reportOf st a n .number) ≡ true → (left (stateAfter st a n) ≡ []) × (completed (stateAfter st a n) ≡ false)
 unfolding reportOf stateAfter fitOf
-ends st a n = go (cond (changed st n) Unfit (fitsNext (left st) a)) (turned-by st (changed st n) (left st) refl a)
+ends st a n = go (cond (resized st n) Unfit (fitsNext (left st) a)) (turned-by st (resized st n) (left st) refl a)
   where
     go : (f : Fit) → Turned f st (stateBy st (effectOf f)) → breaks (effectOf f .number) ≡ true →
         (left (stateBy st (effectOf f)) ≡ []) × (completed (stateBy st (effectOf f)) ≡ false)

@@ -8,7 +8,7 @@ use lib.Dec.{leb, leb·zero, leb·suc-zero, leb·suc-suc}
 use lib.ListN.{length, drop}
 use lib.Seq.{drop-nil}
 use Rattle.exchange.specs.declared.Step.{Step}
-use Rattle.exchange.specs.State.{isOpen, madeIn, stepCount, readCount, stepIn, indexed, plan, left, noneLeft, completed}
+use Rattle.exchange.specs.State.{isUnbroken, madeIn, stepCount, readCount, stepIn, indexed, plan, left, noneLeft, completed}
 use Rattle.exchange.specs.Session.{AnswerCall, final, sent, brokenOff}
 use Rattle.exchange.proofs.Order.{follows}
 
@@ -19,16 +19,16 @@ none-past f i (suc n) zero = leb·suc-zero n
 none-past f i (suc n) (suc m) = leb·suc-suc n m ∙ none-past f (suc i) n m
 
 -- a session is completed where it is open and none is left
-completed-left : (st : List ℕ) → completed st ≡ isOpen st && noneLeft (left st)
+completed-left : (st : List ℕ) → completed st ≡ isUnbroken st && noneLeft (left st)
 unfolding completed left
-completed-left st = go (isOpen st)
+completed-left st = go (isUnbroken st)
   where
     go : (b : Bool) → b && leb (stepCount st + readCount st) (madeIn st) ≡ b && noneLeft (cond b (drop (madeIn st) (plan st)) [])
     go true = none-past (stepIn st) 0 (stepCount st + readCount st) (madeIn st)
     go false = refl
 
 -- completed after a run: no step left, and none that broke it off
-pub whole : (st : List ℕ) (cs : List AnswerCall) → isOpen st ≡ true →
+pub whole : (st : List ℕ) (cs : List AnswerCall) → isUnbroken st ≡ true →
     completed (final st cs) ≡ not (brokenOff st cs) && noneLeft (drop (length (sent st cs)) (left st))
 whole st cs o =
     let k = follows cs st in

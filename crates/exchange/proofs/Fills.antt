@@ -16,10 +16,10 @@ use Rattle.exchange.specs.declared.Reply.the-variants.{Done, Byte, Faile
 use Rattle.exchange.specs.declared.Fit.{Fit}
 use Rattle.exchange.specs.declared.Fit.the-variants.{Unfit}
 use Rattle.exchange.specs.State.{indexed, left}
-use Rattle.exchange.specs.Turn.{fitsNext, changed, fitOf, effectOf, stateBy, stateAfter, bufferAfter}
+use Rattle.exchange.specs.Turn.{fitsNext, resized, fitOf, effectOf, stateAfter, bufferAfter}
 use Rattle.exchange.specs.Session.{afterCall, came, lending, filled}
 use Rattle.exchange.proofs.Effects.{came-taken}
-use Rattle.exchange.proofs.Moves.{left-moved, left-broken}
+use Rattle.exchange.proofs.Moves.{left-moved, left-broken, stateBy}
 
 -- no bytes laid over a list
 over-none : (l : List ℕ) (i : ℕ) → l ≡ over l i []
@@ -62,7 +62,7 @@ pub fills : (replies : List Reply) (st : List ℕ) (i n : ℕ) (buffer : List �
 unfolding fitOf afterCall stateAfter bufferAfter
 fills [] st i n buffer e h = over-none buffer i
 fills (a ∷ replies) st i n buffer e h =
-    let k = changed st (length buffer) in
+    let k = resized st (length buffer) in
     subst (λ (l : List Step). FilledBy (cond k Unfit (fitsNext l a)) st buffer i replies) (sym e)
     (fills-by replies (fills replies) st k i n buffer a e h)
     ∙ ap (λ (l : List ℕ). over buffer i (l ++ came (stateAfter st a (length buffer)) (lending (stateAfter st a (length buffer)) (bufferAfter st a buffer) replies))) (sym (came-taken st a (length buffer)))

@@ -10,11 +10,11 @@ use lib.Seq.{take-take}
 use Rattle.exchange.specs.declared.Fit.{Fit}
 use Rattle.exchange.specs.declared.Fit.the-variants.{Unfit, Broke, Went, Got, Kept, Wrong}
 use Rattle.exchange.specs.State.{isSession, readCount, purposeIn, roomIn, recordIn}
-use Rattle.exchange.specs.Turn.{fitOf, effectOf, moved, stateBy, stateAfter}
+use Rattle.exchange.specs.Turn.{fitOf, effectOf, moved, stateAfter}
 use Rattle.exchange.specs.Session.{AnswerCall, afterCall, final, came}
 use Rattle.exchange.proofs.Latest.{bytesRead}
 use Rattle.exchange.proofs.Effects.{came-taken}
-use Rattle.exchange.proofs.Moves.{latest, moves}
+use Rattle.exchange.proofs.Moves.{latest, moves, stateBy}
 
 -- of bytes behind others no more than n show among the first n
 first-more : (n b : ℕ) (l : List ℕ) → take n (b ∷ take n l) ≡ take n (b ∷ l)

@@ -9,11 +9,12 @@ use lib.ListN.{length, take, drop, set, replicate, length-append, length-take, l
 use Rattle.laws.specs.Copied.{over}
 use Rattle.laws.proofs.Copies.{over-behind}
 use Rattle.laws.proofs.Lists.{take-shown}
+use Rattle.laws.specs.Lists.{at}
 use borrow.Author.Tests.{lt-ltb, eq-eqb}
 use Rattle.exchange.specs.declared.Step.{Step}
 use Rattle.exchange.specs.declared.Exchange.{Exchange}
 use Rattle.exchange.specs.Steps.{exchange, memoryAddress, chunk, stepBytes}
-use Rattle.exchange.specs.State.{at, headOf, Begun, begunBytes, begunIn, pushed}
+use Rattle.exchange.specs.State.{headOf, Begun, begunBytes, begunIn, pushed}
 
 -- four parts laid over a list that they fill
 pub over-filled : (l a b c d : List ℕ) (i j k : ℕ) → length a ≡ i → i + length b ≡ j → j + length c ≡ k → length l ≡ k + length d

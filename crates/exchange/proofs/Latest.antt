@@ -2,8 +2,9 @@
 use Prim.Native.Nat.{ℕ, _+_}
 use mathlib.Core.Bool.{cond}
 use mathlib.Core.List.{List, [], _∷_}
+use Rattle.laws.specs.Lists.{at}
 use Rattle.exchange.specs.declared.Exchange.{Exchange}
-use Rattle.exchange.specs.State.{at, isSession}
+use Rattle.exchange.specs.State.{isSession}
 
 -- the latest first
 abbrev pub bytesRead : List ℕ → List ℕ

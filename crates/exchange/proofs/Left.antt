@@ -7,11 +7,12 @@ use native.Mathlib.Omega.{arith}
 use lib.Dec.{leb}
 use lib.ListN.{length, drop}
 use borrow.Author.Tests.{lt-ltb, le-ltb, eq-eqb, ne-eqb}
+use Rattle.laws.specs.Lists.{at}
 use Rattle.exchange.specs.declared.Step.{Step}
 use Rattle.exchange.specs.declared.Step.the-variants.{Store}
 use Rattle.exchange.specs.declared.Slot.{Slot}
 use Rattle.exchange.specs.declared.Slot.the-variants.{Idle, At}
-use Rattle.exchange.specs.State.{at, isSession, isOpen, madeIn, stepCount, readCount, encodedStep, stepIn, indexed, plan, left, completed, slotOf}
+use Rattle.exchange.specs.State.{isSession, isUnbroken, madeIn, stepCount, readCount, encodedStep, stepIn, indexed, plan, left, completed, slotOf}
 
 -- ---- `indexed`
 
@@ -27,25 +28,25 @@ drop-indexed f (suc k) i (suc n) = drop-indexed f k (suc i) n ∙ indexed-same f
 -- ---- `left`
 
 -- bytes of another length are no open session, nor are those of another stage
-pub no-session : (st : List ℕ) → (length st ≡ 279 → ⊥) → isOpen st ≡ false
+pub no-session : (st : List ℕ) → (length st ≡ 279 → ⊥) → isUnbroken st ≡ false
 no-session st h = simp (ne-eqb _ _ h)
 
-pub not-begun : (st : List ℕ) → (at st 1 ≡ 1 → ⊥) → isOpen st ≡ false
+pub not-begun : (st : List ℕ) → (at st 1 ≡ 1 → ⊥) → isUnbroken st ≡ false
 not-begun st h = ap (λ (t : Bool). isSession st && t) (ne-eqb _ _ h) ∙ and-false (isSession st)
 
-pub opened : (st : List ℕ) → length st ≡ 279 → at st 1 ≡ 1 → isOpen st ≡ true
+pub opened : (st : List ℕ) → length st ≡ 279 → at st 1 ≡ 1 → isUnbroken st ≡ true
 opened st l h = simp (eq-eqb _ _ l, eq-eqb _ _ h)
 
 -- no step is left of one that is not open, and it is not completed
-pub left-closed : (st : List ℕ) → isOpen st ≡ false → left st ≡ []
+pub left-closed : (st : List ℕ) → isUnbroken st ≡ false → left st ≡ []
 unfolding left
 left-closed st h = ap (λ (t : Bool). cond t (drop (madeIn st) (plan st)) []) h
 
-pub closed : (st : List ℕ) → isOpen st ≡ false → (left st ≡ []) × (completed st ≡ false)
+pub closed : (st : List ℕ) → isUnbroken st ≡ false → (left st ≡ []) × (completed st ≡ false)
 unfolding completed
 closed st h = (left-closed st h, ap (λ (t : Bool). t && leb (stepCount st + readCount st) (madeIn st)) h)
 
-module _ (st : List ℕ) (o : isOpen st ≡ true) where
+module _ (st : List ℕ) (o : isUnbroken st ≡ true) where
   -- what is left of one that is open
   left-rest : left st ≡ indexed (stepIn st) (madeIn st) (stepCount st + readCount st - madeIn st)
   unfolding left

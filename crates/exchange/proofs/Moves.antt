@@ -10,10 +10,11 @@ use lib.ListN.{length, take, drop, length-drop}
 use lib.Seq.{getD-drop, drop-drop}
 use borrow.Author.Tests.{eq-eqb, eqb-true}
 use Rattle.laws.specs.Copied.{over}
+use Rattle.laws.specs.Lists.{at}
 use Rattle.exchange.specs.declared.Step.{Step}
 use Rattle.exchange.specs.declared.Step.the-variants.{Store}
-use Rattle.exchange.specs.State.{at, isSession, isOpen, addressIn, madeIn, countIn, roomIn, stepCount, readCount, purposeIn, imageIn, recordIn, stepIn, indexed, plan, left}
-use Rattle.exchange.specs.Turn.{going, moved}
+use Rattle.exchange.specs.State.{isSession, isUnbroken, addressIn, madeIn, countIn, roomIn, stepCount, readCount, purposeIn, imageIn, recordIn, stepIn, indexed, plan, left}
+use Rattle.exchange.specs.Turn.{going, Effect, moved}
 use Rattle.exchange.proofs.Latest.{bytesRead}
 use Rattle.exchange.proofs.Left.{left-closed}
 use Rattle.exchange.proofs.Plan.{length-indexed, stepAt, plan-parts}
@@ -100,6 +101,10 @@ moves st w came s =
       steps = plan-same t st d;
     }
 
+-- the state after an answer that does this
+abbrev pub stateBy : List ℕ → Effect → List ℕ
+stateBy st e = cond (e .made) (moved st (e .stage) (e .came)) st
+
 -- of a session that was begun it is counted
 pub counts-more : (st t : List ℕ) (w : ℕ) (came : List ℕ) → Moved st t w came → isSession st ≡ true → at st 1 ≡ 1 → ltb 0 w ≡ true → countIn t ≡ countIn st + 1
 counts-more st t w came m s h k = rw (m .session, m .stage, k, s, h) (m .made)
@@ -126,7 +131,7 @@ left-going st x xs e = go (isSession st) (eqb (at st 1) 1) refl refl e
     go true true p q e = record { session = p; stage = eqb-true _ _ q; steps = e }
 
 -- and the other way
-pub going-open : (st : List ℕ) (l : List Step) → Going st l → isOpen st ≡ true
+pub going-open : (st : List ℕ) (l : List Step) → Going st l → isUnbroken st ≡ true
 going-open st l g = rw (g .session, g .stage)
 
 pub going-left : (st : List ℕ) (l : List Step) → Going st l → left st ≡ l
@@ -160,7 +165,7 @@ module _ (st : List ℕ) (x : Step) (xs : List Step) (e : left st ≡ x ∷ xs) 
   left-moved = going-left (moved st 1 came) xs goes-on
 
   -- or breaks the session off
-  pub breaks-off : isOpen (moved st 2 came) ≡ false
+  pub breaks-off : isUnbroken (moved st 2 came) ≡ false
   breaks-off = let m = moves st 2 came (left-going st x xs e .session) in rw (m .session, m .stage)
 
   pub left-broken : left (moved st 2 came) ≡ []

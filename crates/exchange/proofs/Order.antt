@@ -7,15 +7,16 @@ use mathlib.Core.Path.{_≡_, refl, sym, _∙_, ap, subst}
 use mathlib.Core.Bool.{Bool, true, false, cond, _||_}
 use mathlib.Core.List.{List, [], _∷_, _++_}
 use lib.Dec.{eqb}
-use lib.ListN.{length, take, drop}
+use lib.ListN.{length, take, drop, getD}
+use Rattle.laws.specs.Lists.{at}
 use Rattle.exchange.specs.declared.Step.{Step}
 use Rattle.exchange.specs.declared.Exchange.{Exchange}
 use Rattle.exchange.specs.declared.Fit.{Fit}
 use Rattle.exchange.specs.declared.Fit.the-variants.{Unfit, Broke, Went, Got, Kept, Wrong}
 use Rattle.exchange.specs.Steps.{exchangeFor}
-use Rattle.exchange.specs.State.{at, isOpen, addressIn, countIn, imageIn, left}
-use Rattle.exchange.specs.Turn.{pendingOf, wantsByte, fitOf, effectOf}
-use Rattle.exchange.specs.Session.{lastAfter, unread, exchangesOf, AnswerCall, byteOf, breaks, takenAt, numberAt, afterCall, final, sent, came, brokenOff}
+use Rattle.exchange.specs.State.{isUnbroken, addressIn, countIn, imageIn, left}
+use Rattle.exchange.specs.Turn.{pendingOf, wanted, fitOf, effectOf}
+use Rattle.exchange.specs.Session.{exchangesOf, AnswerCall, byteOf, breaks, takenAt, numberAt, afterCall, final, sent, came, brokenOff}
 use Rattle.exchange.proofs.Effects.{made-taken, came-taken, stage-breaks}
 use Rattle.exchange.proofs.Moves.{latest}
 use Rattle.exchange.proofs.Turns.{Gone, Ended, Turned, turned}
@@ -26,11 +27,11 @@ pub record Run (address last : ℕ) (image : List ℕ) (made : ℕ) (was : Bool)
   pub count : countIn end ≡ made + length exchanges
   pub within : length exchanges ≤ length rest
   pub remaining : left end ≡ cond broke [] (drop (length exchanges) rest)
-  pub opened : isOpen end ≡ cond broke false was
+  pub opened : isUnbroken end ≡ cond broke false was
 
 -- a run from a state
 abbrev RunFrom : List ℕ → List Exchange → List ℕ → Bool → List ℕ → Type 0
-RunFrom st = Run (addressIn st) (at st 3) (imageIn st) (countIn st) (isOpen st) (left st)
+RunFrom st = Run (addressIn st) (at st 3) (imageIn st) (countIn st) (isUnbroken st) (left st)
 
 -- the run under these calls
 abbrev Follows : List ℕ → List AnswerCall → Type 0
@@ -49,7 +50,7 @@ never false = refl
 
 module _ (address last : ℕ) (image : List ℕ) (made : ℕ) (was : Bool) (x : Step) (xs : List Step) (bytes : List ℕ) (end : List ℕ) where
   -- the session went on, with the byte that the step read, or none
-  run-more : (later : ℕ) (rest : List ℕ) (es : List Exchange) (broke : Bool) → lastAfter (wantsByte x) last bytes ≡ later → unread (wantsByte x) bytes ≡ rest →
+  run-more : (later : ℕ) (rest : List ℕ) (es : List Exchange) (broke : Bool) → getD (take (wanted x) bytes) 0 last ≡ later → drop (wanted x) bytes ≡ rest →
       Run address later image (made + 1) was xs es rest broke end →
       Run address last image made was (x ∷ xs) (exchangeFor address last image x ∷ es) bytes broke end
   run-more later rest es broke p q k = record {
@@ -76,12 +77,13 @@ module _ (address last : ℕ) (image : List ℕ) (made : ℕ) (was : Bool) (x : 
 
 module _ (st t : List ℕ) (cs : List AnswerCall) (k : Follows t cs) where
   -- a step was made, with these bytes from it on
-  run-gone : (w : Bool) (bytes : List ℕ) → Gone st t w bytes → lastAfter w (at st 3) (bytes ++ came t cs) ≡ at (latest st bytes) 0 → unread w (bytes ++ came t cs) ≡ came t cs →
+  run-gone : (bytes : List ℕ) → Gone st t bytes → getD (take (length bytes) (bytes ++ came t cs)) 0 (at st 3) ≡ at (latest st bytes) 0 →
+      drop (length bytes) (bytes ++ came t cs) ≡ came t cs →
       RunFrom st (pendingOf st ∷ sent t cs) (bytes ++ came t cs) (brokenOff t cs) (final t cs)
-  run-gone w bytes g p q =
+  run-gone bytes g p q =
       let m = g .move in
       let r = rw (g .now, m .address, m .last, m .image, g .count, g .opened) at k in
-      rw (g .before) (run-more _ _ _ _ _ _ _ _ _ (at (latest st bytes) 0) (came t cs) _ _ (rw (g .wanted) p) (rw (g .wanted) q) r)
+      rw (g .before) (run-more _ _ _ _ _ _ _ _ _ (at (latest st bytes) 0) (came t cs) _ _ (rw (g .reads) p) (rw (g .reads) q) r)
 
   -- a step was made, and broke the session off
   run-ended : (bytes all : List ℕ) → Ended st t bytes → RunFrom st (pendingOf st ∷ sent t cs) all true (final t cs)
@@ -94,9 +96,9 @@ run-by : (f : Fit) (st t : List ℕ) (cs : List AnswerCall) → Turned f st t �
     RunFrom st (cond (e .made) (pendingOf st ∷ []) [] ++ sent t cs) (e .came ++ came t cs) (eqb (e .stage) 2 || brokenOff t cs) (final t cs)
 run-by Unfit st t cs e k = rw e (rw e at k)
 run-by (Broke code) st t cs m k = run-ended st t cs k _ _ m
-run-by Went st t cs m k = run-gone st t cs k _ _ m refl refl
-run-by (Got b) st t cs m k = run-gone st t cs k _ _ m refl refl
-run-by (Kept i b) st t cs m k = run-gone st t cs k _ _ m refl refl
+run-by Went st t cs m k = run-gone st t cs k _ m refl refl
+run-by (Got b) st t cs m k = run-gone st t cs k _ m refl refl
+run-by (Kept i b) st t cs m k = run-gone st t cs k _ m refl refl
 run-by (Wrong b) st t cs m k = run-ended st t cs k _ _ m
 
 -- every session, under every list of calls

@@ -5,14 +5,15 @@ use native.Mathlib.Omega.{arith}
 use native.Mathlib.Nat.{add-zero, zero-add}
 use mathlib.Core.Path.{_≡_, refl, sym, _∙_, ap}
 use mathlib.Core.Bool.{Bool, cond}
-use mathlib.Core.List.{List, [], _∷_, _++_, append-assoc}
+use mathlib.Core.List.{List, [], _∷_, _++_, map, append-assoc}
 use lib.ListN.{length, drop, length-append}
 use lib.Seq.{drop-at, getD-drop}
 use borrow.Author.Tests.{lt-ltb, le-ltb}
+use Rattle.laws.specs.Lists.{joined, at}
 use Rattle.exchange.specs.declared.Step.{Step}
 use Rattle.exchange.specs.declared.Step.the-variants.{Write, Read, Update, Match, Chunk, Store}
 use Rattle.exchange.specs.Steps.{stepOf, stepBytes}
-use Rattle.exchange.specs.State.{at, stepCount, readCount, encodedStep, stepIn, indexed, plan, joinedSteps}
+use Rattle.exchange.specs.State.{stepCount, readCount, encodedStep, stepIn, indexed, plan}
 
 -- ---- numbered steps
 
@@ -72,7 +73,7 @@ length-step (Match r v) = refl
 length-step (Chunk i n) = refl
 length-step (Store i) = refl
 
-pub length-joined : (xs : List Step) → length (joinedSteps xs) ≡ 5 * length xs
+pub length-joined : (xs : List Step) → length (joined (map stepBytes xs)) ≡ 5 * length xs
 length-joined [] = refl
 length-joined (x ∷ xs) = simp (length-append, length-step, length-joined xs) (omega arith)
 
@@ -83,13 +84,13 @@ step-later x l i =
     ∙ ap (λ (m : List ℕ). stepAt m i) (drop-at (stepBytes x) l 5 (length-step x))
 
 -- the bytes of steps hold the steps
-pub joined-steps : (xs : List Step) (l : List ℕ) → indexed (stepAt (joinedSteps xs ++ l)) 0 (length xs) ≡ xs
+pub joined-steps : (xs : List Step) (l : List ℕ) → indexed (stepAt (joined (map stepBytes xs) ++ l)) 0 (length xs) ≡ xs
 joined-steps [] l = refl
 joined-steps (x ∷ xs) l =
-    let m = joinedSteps xs ++ l in
+    let m = joined (map stepBytes xs) ++ l in
     let p = indexed-same (stepAt (stepBytes x ++ m)) (stepAt m) 1 0 (length xs) (λ j h. step-later x m j ∙ ap (stepAt m) (sym (zero-add j))) in
     let q = p ∙ joined-steps xs l in
-    ap (λ (k : List ℕ). indexed (stepAt k) 0 (suc (length xs))) (append-assoc (stepBytes x) (joinedSteps xs) l)
+    ap (λ (k : List ℕ). indexed (stepAt k) 0 (suc (length xs))) (append-assoc (stepBytes x) (joined (map stepBytes xs)) l)
     ∙ (λ t. step-first x m t ∷ q t)
 
 -- ---- the steps of a session

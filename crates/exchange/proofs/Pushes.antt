@@ -4,15 +4,16 @@ use Prim.Native.Nat.{ℕ, _+_, _-_, _*_, _≤_, _<_}
 use native.Mathlib.Omega.{arith}
 use mathlib.Core.Path.{_≡_, refl, sym, _∙_, ap}
 use mathlib.Core.Bool.{Bool, true, false, cond}
-use mathlib.Core.List.{List, [], _∷_, _++_, append-nil, append-assoc}
+use mathlib.Core.List.{List, [], _∷_, _++_, map, append-nil, append-assoc}
 use lib.ListN.{length, replicate, length-append, replicate-append-replicate}
 use lib.Seq.{append-snoc}
 use borrow.Author.Tests.{eq-eqb, lt-ltb}
 use Rattle.laws.specs.Copied.{over}
 use Rattle.laws.proofs.Copies.{over-at}
+use Rattle.laws.specs.Lists.{joined}
 use Rattle.exchange.specs.declared.Step.{Step}
 use Rattle.exchange.specs.Steps.{stepBytes}
-use Rattle.exchange.specs.State.{isSession, headOf, Begun, joinedSteps, begunBytes, begunIn, pushed, pushedAll}
+use Rattle.exchange.specs.State.{isSession, headOf, Begun, begunBytes, begunIn, pushed, pushedAll}
 use Rattle.exchange.proofs.Plan.{length-step, length-joined}
 use Rattle.exchange.proofs.Begins.{size}
 
@@ -22,9 +23,9 @@ push-append [] ys st = refl
 push-append (x ∷ xs) ys st = push-append xs ys (pushed st x)
 
 -- the bytes of steps, and of one more
-joined-more : (xs : List Step) (x : Step) → joinedSteps (xs ++ (x ∷ [])) ≡ joinedSteps xs ++ stepBytes x
+joined-more : (xs : List Step) (x : Step) → joined (map stepBytes (xs ++ (x ∷ []))) ≡ joined (map stepBytes xs) ++ stepBytes x
 joined-more [] x = append-nil (stepBytes x)
-joined-more (y ∷ xs) x = ap (λ (l : List ℕ). stepBytes y ++ l) (joined-more xs x) ∙ sym (append-assoc (stepBytes y) (joinedSteps xs) (stepBytes x))
+joined-more (y ∷ xs) x = ap (λ (l : List ℕ). stepBytes y ++ l) (joined-more xs x) ∙ sym (append-assoc (stepBytes y) (joined (map stepBytes xs)) (stepBytes x))
 
 -- the zeros behind n steps, of which five go to one more
 abbrev zeros : ℕ → List ℕ
@@ -51,12 +52,12 @@ module _ (b : Begun) (image : length (b .image) ≡ 100) (recorded : length (b .
   unfolding pushed
   push-one xs x h =
       let n = length xs in
-      let p = front (n + 1) ++ joinedSteps xs in
+      let p = front (n + 1) ++ joined (map stepBytes xs) in
       let e : length p ≡ 154 + 5 * n = simp (length-append, length-joined, image, recorded) (omega arith) in
       let m : n + 1 ≡ length (xs ++ (x ∷ [])) = sym (length-append xs (x ∷ [])) in
       let k = ap (λ (z : List ℕ). over (p ++ z) (154 + 5 * n) (stepBytes x)) (zeros-more n h) in
       let o = over-at p (replicate 5 0) (zeros (n + 1)) (stepBytes x) (154 + 5 * n) e (sym (length-step x)) in
-      let a = append-assoc (front (n + 1)) (joinedSteps xs) (stepBytes x) in
+      let a = append-assoc (front (n + 1)) (joined (map stepBytes xs)) (stepBytes x) in
       let j = sym (joined-more xs x) in
       rw (eq-eqb _ _ (size b xs (omega arith) image recorded), lt-ltb _ _ h) (k ∙ o ∙ (λ t. a t ++ zeros (n + 1)) ∙ (λ t. front (m t) ++ j t ++ zeros (m t)))
 

@@ -14,7 +14,7 @@ use Rattle.exchange.specs.declared.Reply.the-variants.{Done, Byte, Faile
 use Rattle.exchange.specs.declared.Fit.{Fit}
 use Rattle.exchange.specs.declared.Fit.the-variants.{Unfit, Went, Got, Kept, Wrong}
 use Rattle.exchange.specs.State.{countIn, left, noneLeft}
-use Rattle.exchange.specs.Turn.{pendingFor, wantsByte, asks, byteFit, fittingOf, fitsNext, changed, fitOf, effectOf, stateAfter, bufferAfter, reportOf}
+use Rattle.exchange.specs.Turn.{pendingFor, wanted, byteFit, fittingOf, fitsNext, resized, fitOf, effectOf, stateAfter, bufferAfter, reportOf}
 use Rattle.exchange.specs.Session.{fitsExchange, taken}
 
 -- every step sends something
@@ -54,13 +54,13 @@ takes-by st false (x ∷ xs) (Failed code) = ap (λ (b : Bool). not (b && true))
 -- 19 is told exactly where an answer is not taken back
 pub takes : (st : List ℕ) (a : Reply) (n : ℕ) → eqb (reportOf st a n .number) 19 ≡ not (taken st a n)
 unfolding reportOf fitOf
-takes st a n = takes-by st (changed st n) (left st) a
+takes st a n = takes-by st (resized st n) (left st) a
 
 -- a failure that is taken back is told by 17, with its code
 pub fails : (st : List ℕ) (code n : ℕ) → taken st (Failed code) n ≡ true →
     (reportOf st (Failed code) n .number ≡ 17) × (reportOf st (Failed code) n .code ≡ code)
 unfolding reportOf fitOf
-fails st code n h = go (changed st n) (left st) h
+fails st code n h = go (resized st n) (left st) h
   where
     go : (k : Bool) (l : List Step) → fitsExchange (pendingFor st l) (Failed code) && not k ≡ true →
         (effectOf (cond k Unfit (fitsNext l (Failed code))) .number ≡ 17) × (effectOf (cond k Unfit (fitsNext l (Failed code))) .code ≡ code)
@@ -71,70 +71,52 @@ fails st code n h = go (changed st n) (left st) h
 -- done that is taken back is told by 0
 pub done : (st : List ℕ) (n : ℕ) → taken st Done n ≡ true → reportOf st Done n .number ≡ 0
 unfolding reportOf fitOf
-done st n h = go (changed st n) (left st) (takes st Done n ∙ ap not h)
+done st n h = go (resized st n) (left st) (takes st Done n ∙ ap not h)
   where
-    wanting : (w : Bool) → eqb (effectOf (cond w Unfit Went) .number) 19 ≡ false → effectOf (cond w Unfit Went) .number ≡ 0
-    wanting true e = absurd (true≢false e)
-    wanting false e = refl
+    wanting : (w : Bool) → eqb (effectOf (cond w Went Unfit) .number) 19 ≡ false → effectOf (cond w Went Unfit) .number ≡ 0
+    wanting true e = refl
+    wanting false e = absurd (true≢false e)
 
     go : (k : Bool) (l : List Step) → eqb (effectOf (cond k Unfit (fitsNext l Done)) .number) 19 ≡ false → effectOf (cond k Unfit (fitsNext l Done)) .number ≡ 0
     go true l e = absurd (true≢false e)
     go false [] e = absurd (true≢false e)
-    go false (x ∷ xs) e = wanting (wantsByte x) e
+    go false (x ∷ xs) e = wanting (eqb (wanted x) 0) e
 
-module _ (st : List ℕ) (x : Step) (xs : List Step) (l : left st ≡ x ∷ xs) where
-  -- a byte that is taken back is told as the step asks of it
-  byte-told : (b n : ℕ) → taken st (Byte b) n ≡ true → reportOf st (Byte b) n .number ≡ effectOf (byteFit (asks x .must) (asks x .index) b) .number
-  unfolding reportOf fitOf
-  byte-told b n h =
-      let p = ap (λ (l : List Step). effectOf (cond (changed st n) Unfit (fitsNext l (Byte b))) .number) l in
-      p ∙ go (changed st n) (wantsByte x) (byteFit (asks x .must) (asks x .index) b) (ap (λ (m : ℕ). eqb m 19) (sym p) ∙ takes st (Byte b) n ∙ ap not h)
-    where
-      go : (k w : Bool) (f : Fit) → eqb (effectOf (cond k Unfit (cond w f Unfit)) .number) 19 ≡ false →
-          effectOf (cond k Unfit (cond w f Unfit)) .number ≡ effectOf f .number
-      go true w f e = absurd (true≢false e)
-      go false true f e = refl
-      go false false f e = absurd (true≢false e)
+-- a byte that is taken back is told as the step makes of it
+byte-told : (st : List ℕ) (x : Step) (xs : List Step) (b n : ℕ) → left st ≡ x ∷ xs → taken st (Byte b) n ≡ true →
+    reportOf st (Byte b) n .number ≡ effectOf (byteFit x b) .number
+unfolding reportOf fitOf
+byte-told st x xs b n l h =
+    let p = ap (λ (l : List Step). effectOf (cond (resized st n) Unfit (fitsNext l (Byte b))) .number) l in
+    p ∙ go (resized st n) (byteFit x b) (ap (λ (m : ℕ). eqb m 19) (sym p) ∙ takes st (Byte b) n ∙ ap not h)
+  where
+    go : (k : Bool) (f : Fit) → eqb (effectOf (cond k Unfit f) .number) 19 ≡ false → effectOf (cond k Unfit f) .number ≡ effectOf f .number
+    go true f e = absurd (true≢false e)
+    go false f e = refl
 
-  -- by 0 where it need not be another
-  reads-any : (b n : ℕ) → asks x .must ≡ [] → taken st (Byte b) n ≡ true → reportOf st (Byte b) n .number ≡ 0
-  reads-any b n m h = byte-told b n h ∙ ap (λ (v : List ℕ). effectOf (byteFit v (asks x .index) b) .number) m ∙ go (asks x .index)
-    where
-      go : (is : List ℕ) → effectOf (byteFit [] is b) .number ≡ 0
-      go [] = refl
-      go (i ∷ is) = refl
+-- by 0 where it need not be another
+pub reads : (st : List ℕ) (x : Step) (xs : List Step) (b n : ℕ) → left st ≡ x ∷ xs → ((register value : ℕ) → x ≡ Match register value → ⊥) →
+    taken st (Byte b) n ≡ true → reportOf st (Byte b) n .number ≡ 0
+reads st x xs b n l m h =
+    let p = byte-told st x xs b n l h in
+    p ∙ go x m (ap (λ (m : ℕ). eqb m 19) (sym p) ∙ takes st (Byte b) n ∙ ap not h)
+  where
+    go : (x : Step) → ((register value : ℕ) → x ≡ Match register value → ⊥) → eqb (effectOf (byteFit x b) .number) 19 ≡ false → effectOf (byteFit x b) .number ≡ 0
+    go (Write r v) m e = absurd (true≢false e)
+    go (Read r) m e = refl
+    go (Update r s w v) m e = absurd (true≢false e)
+    go (Match r v) m e = absurd (m r v refl)
+    go (Chunk i n) m e = absurd (true≢false e)
+    go (Store i) m e = refl
 
-  -- else by 16 where it is another
-  matches-value : (value b n : ℕ) → asks x .must ≡ value ∷ [] → taken st (Byte b) n ≡ true → reportOf st (Byte b) n .number ≡ cond (eqb b value) 0 16
-  matches-value value b n m h = byte-told b n h ∙ ap (λ (v : List ℕ). effectOf (byteFit v (asks x .index) b) .number) m ∙ go (eqb b value)
-    where
-      go : (q : Bool) → effectOf (cond q (Got b) (Wrong b)) .number ≡ cond q 0 16
-      go true = refl
-      go false = refl
-
-  -- only a memory read writes to the buffer
-  spares-buffer : (a : Reply) (buffer : List ℕ) → asks x .index ≡ [] → bufferAfter st a buffer ≡ buffer
-  unfolding bufferAfter fitOf
-  spares-buffer a buffer h = ap (λ (l : List Step). effectOf (cond (changed st (length buffer)) Unfit (fitsNext l a)) .buffer buffer) l ∙ go (changed st (length buffer)) a
-    where
-      wanting : (w : Bool) → effectOf (cond w Unfit Went) .buffer buffer ≡ buffer
-      wanting true = refl
-      wanting false = refl
-
-      test : (q : Bool) (b : ℕ) → effectOf (cond q (Got b) (Wrong b)) .buffer buffer ≡ buffer
-      test true b = refl
-      test false b = refl
-
-      byte : (w : Bool) (must : List ℕ) (b : ℕ) → effectOf (cond w (byteFit must [] b) Unfit) .buffer buffer ≡ buffer
-      byte false must b = refl
-      byte true [] b = refl
-      byte true (v ∷ vs) b = test (eqb b v) b
-
-      go : (k : Bool) (a : Reply) → effectOf (cond k Unfit (fittingOf x a)) .buffer buffer ≡ buffer
-      go true a = refl
-      go false (Failed code) = refl
-      go false Done = wanting (wantsByte x)
-      go false (Byte b) = ap (λ (is : List ℕ). effectOf (cond (wantsByte x) (byteFit (asks x .must) is b) Unfit) .buffer buffer) h ∙ byte (wantsByte x) (asks x .must) b
+-- else by 16 where it is another
+pub matches : (st : List ℕ) (xs : List Step) (register value b n : ℕ) → left st ≡ Match register value ∷ xs → taken st (Byte b) n ≡ true →
+    reportOf st (Byte b) n .number ≡ cond (eqb b value) 0 16
+matches st xs register value b n l h = byte-told st _ xs b n l h ∙ go (eqb b value)
+  where
+    go : (q : Bool) → effectOf (cond q (Got b) (Wrong b)) .number ≡ cond q 0 16
+    go true = refl
+    go false = refl
 
 -- every result tells the state after it
 pub tells : (st : List ℕ) (a : Reply) (n : ℕ) →
@@ -142,34 +124,31 @@ pub tells : (st : List ℕ) (a : Reply) (n : ℕ) →
 unfolding reportOf stateAfter
 tells st a n = (refl, refl)
 
--- the same by the step itself
-pub reads : (st : List ℕ) (x : Step) (xs : List Step) (b n : ℕ) → left st ≡ x ∷ xs → ((register value : ℕ) → x ≡ Match register value → ⊥) →
-    taken st (Byte b) n ≡ true → reportOf st (Byte b) n .number ≡ 0
-reads st x xs b n l m h = reads-any st x xs l b n (go x m) h
-  where
-    go : (x : Step) → ((register value : ℕ) → x ≡ Match register value → ⊥) → asks x .must ≡ []
-    go (Write r v) m = refl
-    go (Read r) m = refl
-    go (Update r s w v) m = refl
-    go (Match r v) m = absurd (m r v refl)
-    go (Chunk i n) m = refl
-    go (Store i) m = refl
-
-pub matches : (st : List ℕ) (xs : List Step) (register value b n : ℕ) → left st ≡ Match register value ∷ xs → taken st (Byte b) n ≡ true →
-    reportOf st (Byte b) n .number ≡ cond (eqb b value) 0 16
-matches st xs register value b n l h = matches-value st (Match register value) xs l value b n refl h
-
+-- only a memory read writes to the buffer
 pub spares : (st : List ℕ) (x : Step) (xs : List Step) (a : Reply) (buffer : List ℕ) → left st ≡ x ∷ xs → ((i : ℕ) → x ≡ Store i → ⊥) →
     bufferAfter st a buffer ≡ buffer
-spares st x xs a buffer l m = spares-buffer st x xs l a buffer (go x m)
+unfolding bufferAfter fitOf
+spares st x xs a buffer l m =
+    ap (λ (l : List Step). effectOf (cond (resized st (length buffer)) Unfit (fitsNext l a)) .buffer buffer) l ∙ go (resized st (length buffer)) x a m
   where
-    go : (x : Step) → ((i : ℕ) → x ≡ Store i → ⊥) → asks x .index ≡ []
-    go (Write r v) m = refl
-    go (Read r) m = refl
-    go (Update r s w v) m = refl
-    go (Match r v) m = refl
-    go (Chunk i n) m = refl
-    go (Store i) m = absurd (m i refl)
+    wanting : (w : Bool) → effectOf (cond w Went Unfit) .buffer buffer ≡ buffer
+    wanting true = refl
+    wanting false = refl
+
+    test : (q : Bool) (b : ℕ) → effectOf (cond q (Got b) (Wrong b)) .buffer buffer ≡ buffer
+    test true b = refl
+    test false b = refl
+
+    go : (k : Bool) (x : Step) (a : Reply) → ((i : ℕ) → x ≡ Store i → ⊥) → effectOf (cond k Unfit (fittingOf x a)) .buffer buffer ≡ buffer
+    go true x a m = refl
+    go false x (Failed code) m = refl
+    go false x Done m = wanting (eqb (wanted x) 0)
+    go false (Write r v) (Byte b) m = refl
+    go false (Read r) (Byte b) m = refl
+    go false (Update r s w v) (Byte b) m = refl
+    go false (Match r v) (Byte b) m = test (eqb b v) b
+    go false (Chunk i n) (Byte b) m = refl
+    go false (Store i) (Byte b) m = absurd (m i refl)
 
 -- a byte of memory goes to its own index
 pub stores : (st : List ℕ) (xs : List Step) (i b : ℕ) (buffer : List ℕ) → left st ≡ Store i ∷ xs → taken st (Byte b) (length buffer) ≡ true →
@@ -177,8 +156,8 @@ pub stores : (st : List ℕ) (xs : List Step) (i b : ℕ) (buffer : List ℕ) �
 unfolding bufferAfter fitOf
 stores st xs i b buffer l h =
     let n = length buffer in
-    let p = ap (λ (l : List Step). effectOf (cond (changed st n) Unfit (fitsNext l (Byte b))) .buffer buffer) l in
-    p ∙ go (changed st n) (ap (λ (l : List Step). fitsExchange (pendingFor st l) (Byte b) && not (changed st n)) (sym l) ∙ h)
+    let p = ap (λ (l : List Step). effectOf (cond (resized st n) Unfit (fitsNext l (Byte b))) .buffer buffer) l in
+    p ∙ go (resized st n) (ap (λ (l : List Step). fitsExchange (pendingFor st l) (Byte b) && not (resized st n)) (sym l) ∙ h)
   where
     go : (k : Bool) → fitsExchange (pendingFor st (Store i ∷ xs)) (Byte b) && not k ≡ true → effectOf (cond k Unfit (Kept i b)) .buffer buffer ≡ set buffer i b
     go true e = absurd (true≢false (sym e ∙ and-false (fitsExchange (pendingFor st (Store i ∷ xs)) (Byte b))))
@@ -187,7 +166,7 @@ stores st xs i b buffer l h =
 -- a failure changes nothing there
 pub unstored : (st : List ℕ) (code : ℕ) (buffer : List ℕ) → bufferAfter st (Failed code) buffer ≡ buffer
 unfolding bufferAfter fitOf
-unstored st code buffer = go (changed st (length buffer)) (left st)
+unstored st code buffer = go (resized st (length buffer)) (left st)
   where
     go : (k : Bool) (l : List Step) → effectOf (cond k Unfit (fitsNext l (Failed code))) .buffer buffer ≡ buffer
     go true l = refl

@@ -5,35 +5,25 @@ use mathlib.Core.Path.{_≡_}
 use mathlib.Core.Bool.{Bool, true, false, cond, not, _&&_, _||_}
 use mathlib.Core.List.{List, [], _∷_, _++_}
 use lib.Dec.{ltb, eqb}
-use lib.ListN.{length, take, drop, set}
+use lib.ListN.{length, take, drop, getD, set}
+use Rattle.laws.specs.Lists.{at}
 use Rattle.exchange.specs.declared.Step.{Step}
 use Rattle.exchange.specs.declared.Step.the-variants.{Match, Store}
 use Rattle.exchange.specs.declared.Exchange.{Exchange}
 use Rattle.exchange.specs.declared.Reply.{Reply}
 use Rattle.exchange.specs.declared.Reply.the-variants.{Done, Byte, Failed}
 use Rattle.exchange.specs.Steps.{exchangeFor}
-use Rattle.exchange.specs.State.{at, isBegun, isOpen, addressIn, countIn, imageIn, left, noneLeft, completed}
-use Rattle.exchange.specs.Turn.{pendingOf, wantsByte, changed, stateAfter, bufferAfter, reportOf}
+use Rattle.exchange.specs.State.{isBegun, isUnbroken, addressIn, countIn, imageIn, left, noneLeft, completed}
+use Rattle.exchange.specs.Turn.{pendingOf, wanted, resized, stateAfter, bufferAfter, reportOf}
 
 -- ---- what the steps ask for
-
--- the byte read last, after a step that reads one or none
-abbrev pub lastAfter : Bool → ℕ → List ℕ → ℕ
-lastAfter false last bytes = last
-lastAfter true last [] = last
-lastAfter true last (b ∷ bytes) = b
-
-abbrev pub unread : Bool → List ℕ → List ℕ
-unread false bytes = bytes
-unread true [] = []
-unread true (b ∷ bytes) = bytes
 
 -- the exchanges of a list of steps, in order, where the bytes read are these
 abbrev pub exchangesOf : ℕ → ℕ → List ℕ → List Step → List ℕ → List Exchange
 exchangesOf address last image [] bytes = []
 exchangesOf address last image (x ∷ xs) bytes =
     exchangeFor address last image x
-    ∷ exchangesOf address (lastAfter (wantsByte x) last bytes) image xs (unread (wantsByte x) bytes)
+    ∷ exchangesOf address (getD (take (wanted x) bytes) 0 last) image xs (drop (wanted x) bytes)
 
 -- ---- what a session does under a list of answers
 
@@ -45,7 +35,7 @@ fitsExchange e (Failed code) = ltb 0 (e .len)
 
 -- whether an answer is taken back, where n bytes are lent with it
 abbrev pub taken : List ℕ → Reply → ℕ → Bool
-taken st a n = fitsExchange (pendingOf st) a && not (changed st n)
+taken st a n = fitsExchange (pendingOf st) a && not (resized st n)
 
 -- the byte of an answer
 abbrev pub byteOf : Reply → List ℕ
@@ -114,10 +104,10 @@ pub record Session : Type 0 where
   -- it ends after the last, or at the first failure or mismatch, and not before
   pub end : (st : List ℕ) (cs : List AnswerCall) → left (final st cs) ≡ cond (brokenOff st cs) [] (drop (length (sent st cs)) (left st))
   -- bytes of another length, or not begun, or broken off: no step is left, and nothing is completed; of the first two the count is 0
-  pub closed : (st : List ℕ) → isOpen st ≡ false → (left st ≡ []) × (completed st ≡ false)
+  pub closed : (st : List ℕ) → isUnbroken st ≡ false → (left st ≡ []) × (completed st ≡ false)
   pub uncounted : (st : List ℕ) → isBegun st ≡ false → countIn st ≡ 0
   -- a session that was begun is completed exactly where no step is left and it was not broken off
-  pub whole : (st : List ℕ) (cs : List AnswerCall) → isOpen st ≡ true →
+  pub whole : (st : List ℕ) (cs : List AnswerCall) → isUnbroken st ≡ true →
       completed (final st cs) ≡ not (brokenOff st cs) && noneLeft (drop (length (sent st cs)) (left st))
   -- 19 is told exactly where the answer does not fit the exchange handed out, or the read buffer's length has changed
   pub takes : (st : List ℕ) (a : Reply) (n : ℕ) → eqb (reportOf st a n .number) 19 ≡ not (taken st a n)

@@ -5,20 +5,18 @@
 --     1 begun, 2 broken off      8 length of the read buffer,  117 the record that it is for, 37 bytes
 --   2 exchanges made               8 bytes                     154 the steps, 25 of five bytes
 --   3 the last bytes read, 3
-use Prim.Native.Nat.{ℕ, suc, zero, _+_, _-_, _*_, _/_, _%_, min}
+use Prim.Native.Nat.{ℕ, suc, zero, _+_, _-_, _*_, min}
 use mathlib.Core.Bool.{Bool, true, false, cond, _&&_}
-use mathlib.Core.List.{List, [], _∷_, _++_}
+use mathlib.Core.List.{List, [], _∷_, _++_, map}
 use lib.Dec.{ltb, leb, eqb}
-use lib.ListN.{length, take, drop, getD, set, replicate}
+use lib.ListN.{length, take, drop, set, replicate}
 use Rattle.laws.specs.Copied.{over}
+use Rattle.laws.specs.Lists.{joined, at, lowBytes}
 use Rattle.exchange.specs.declared.Slot.{Slot}
 use Rattle.exchange.specs.declared.Slot.the-variants.{Idle, At}
 use Rattle.exchange.specs.declared.Step.{Step}
 use Rattle.exchange.specs.declared.Step.the-variants.{Store}
 use Rattle.exchange.specs.Steps.{stepOf, stepBytes}
-
-abbrev pub at : List ℕ → ℕ → ℕ
-at st i = getD st i 0
 
 abbrev pub isSession : List ℕ → Bool
 isSession st = eqb (length st) 279
@@ -32,8 +30,8 @@ abbrev pub isBegun : List ℕ → Bool
 isBegun st = isSession st && ltb 0 (at st 1)
 
 -- begun, and not broken off
-abbrev pub isOpen : List ℕ → Bool
-isOpen st = isSession st && eqb (at st 1) 1
+abbrev pub isUnbroken : List ℕ → Bool
+isUnbroken st = isSession st && eqb (at st 1) 1
 
 abbrev pub madeIn : List ℕ → ℕ
 madeIn st = at st 2
@@ -88,11 +86,11 @@ plan st = indexed (stepIn st) 0 (stepCount st + readCount st)
 
 -- the steps still to be made
 unfoldable pub left : List ℕ → List Step
-left st = cond (isOpen st) (drop (madeIn st) (plan st)) []
+left st = cond (isUnbroken st) (drop (madeIn st) (plan st)) []
 
 -- whether every step was made
 unfoldable pub completed : List ℕ → Bool
-completed st = isOpen st && leb (stepCount st + readCount st) (madeIn st)
+completed st = isUnbroken st && leb (stepCount st + readCount st) (madeIn st)
 
 -- where a session stands
 abbrev pub slotOf : List Step → Slot
@@ -104,11 +102,6 @@ noneLeft [] = true
 noneLeft (x ∷ xs) = false
 
 -- ---- what a start writes
-
--- n in k bytes, least first
-abbrev pub little : ℕ → ℕ → List ℕ
-little zero n = []
-little (suc k) n = n % 256 ∷ little k (n / 256)
 
 -- what a session is begun with
 pub record Begun : Type 0 where
@@ -124,18 +117,12 @@ begunWith address reads room purpose image r = record { address = address; reads
 
 -- the first seventeen bytes
 abbrev pub headOf : Begun → ℕ → List ℕ
-headOf b steps = b .address ∷ 1 ∷ 0 ∷ 0 ∷ 0 ∷ 0 ∷ steps ∷ b .reads ∷ (little 8 (b .room) ++ (b .purpose ∷ []))
-
-abbrev pub joinedSteps : List Step → List ℕ
-joinedSteps [] = []
-joinedSteps (x ∷ xs) = stepBytes x ++ joinedSteps xs
+headOf b steps = b .address ∷ 1 ∷ 0 ∷ 0 ∷ 0 ∷ 0 ∷ steps ∷ b .reads ∷ (lowBytes 8 (b .room) ++ (b .purpose ∷ []))
 
 -- the bytes of a session that has these steps, and has made none
 abbrev pub begunBytes : Begun → List Step → List ℕ
 begunBytes b xs =
-    headOf b (length xs)
-    ++ b .image ++ b .«record»
-    ++ joinedSteps xs ++ replicate (125 - 5 * length xs) 0
+    headOf b (length xs) ++ b .image ++ b .«record» ++ joined (map stepBytes xs) ++ replicate (125 - 5 * length xs) 0
 
 -- bytes that are no session stay as they are
 unfoldable pub begunIn : List ℕ → Begun → List Step → List ℕ

@@ -3,7 +3,7 @@ use Prim.Native.Nat.{ℕ, _+_, _-_, _%_, min}
 use mathlib.Core.List.{List, [], _∷_, _++_}
 use lib.ListN.{length, take, drop, getD, replicate}
 use Rattle.field.specs.Field.{withOf}
-use Rattle.registers.specs.Addresses.{addressOf}
+use Rattle.registers.specs.Table.{addressOf}
 use Rattle.exchange.specs.declared.Step.{Step}
 use Rattle.exchange.specs.declared.Step.the-variants.{Write, Read, Update, Match, Chunk, Store}
 use Rattle.exchange.specs.declared.Exchange.{Exchange}
@@ -12,7 +12,7 @@ use Rattle.exchange.specs.declared.Exchange.{Exchange}
 abbrev pub exchange : ℕ → List ℕ → ℕ → Exchange
 exchange address bytes wanted = record { address = address; bytes = bytes ++ replicate (33 - length bytes) 0; len = length bytes; wanted = wanted }
 
--- "from address 84 (hexadecimal)"
+-- "from address 84 (hexadecimal)"; no index below 100 reaches 256
 abbrev pub memoryAddress : ℕ → ℕ
 memoryAddress i = (addressOf "SNP_MEM_0" + i) % 256
 

@@ -8,6 +8,7 @@ use lib.ListN.{length, take, set}
 use Rattle.errors.specs.Number.{answerNumber, busCode}
 use Rattle.errors.specs.declared.Answer.{Answer}
 use Rattle.laws.specs.Copied.{over}
+use Rattle.laws.specs.Lists.{at}
 use Rattle.exchange.specs.declared.Step.{Step}
 use Rattle.exchange.specs.declared.Step.the-variants.{Write, Read, Update, Match, Chunk, Store}
 use Rattle.exchange.specs.declared.Exchange.{Exchange}
@@ -17,7 +18,7 @@ use Rattle.exchange.specs.declared.Fit.{Fit}
 use Rattle.exchange.specs.declared.Fit.the-variants.{Unfit, Broke, Went, Got, Kept, Wrong}
 use Rattle.exchange.specs.declared.Turn.{Turn}
 use Rattle.exchange.specs.Steps.{exchange, exchangeFor}
-use Rattle.exchange.specs.State.{at, addressIn, madeIn, countIn, readCount, roomIn, imageIn, left, noneLeft}
+use Rattle.exchange.specs.State.{addressIn, madeIn, countIn, readCount, roomIn, imageIn, left, noneLeft}
 
 -- ---- the pending exchange
 
@@ -31,35 +32,27 @@ pendingOf st = pendingFor st (left st)
 
 -- ---- how an answer fits a step: done fits a write, a byte fits a read, a failure fits either
 
-abbrev pub wantsByte : Step → Bool
-wantsByte x = eqb (exchangeFor 0 0 [] x .wanted) 1
+-- how many bytes a step reads: 0 or 1
+abbrev pub wanted : Step → ℕ
+wanted x = exchangeFor 0 0 [] x .wanted
 
--- what a step asks of the byte that it reads: the value that it must be, if any, and its index in the lent buffer, if it has one
-pub record Asks : Type 0 where
-  pub must : List ℕ
-  pub index : List ℕ
-
-abbrev pub asks : Step → Asks
-asks (Write register value) = record { must = []; index = [] }
-asks (Read register) = record { must = []; index = [] }
-asks (Update register shift width value) = record { must = []; index = [] }
-asks (Match register value) = record { must = value ∷ []; index = [] }
-asks (Chunk offset len) = record { must = []; index = [] }
-asks (Store i) = record { must = []; index = i ∷ [] }
-
-abbrev pub byteFit : List ℕ → List ℕ → ℕ → Fit
-byteFit [] [] b = Got b
-byteFit [] (i ∷ is) b = Kept i b
-byteFit (value ∷ values) is b = cond (eqb b value) (Got b) (Wrong b)
+-- what a step makes of a byte
+abbrev pub byteFit : Step → ℕ → Fit
+byteFit (Write register value) b = Unfit
+byteFit (Read register) b = Got b
+byteFit (Update register shift width value) b = Unfit
+byteFit (Match register value) b = cond (eqb b value) (Got b) (Wrong b)
+byteFit (Chunk offset len) b = Unfit
+byteFit (Store i) b = Kept i b
 
 abbrev pub fittingOf : Step → Reply → Fit
 fittingOf x (Failed code) = Broke code
-fittingOf x Done = cond (wantsByte x) Unfit Went
-fittingOf x (Byte b) = cond (wantsByte x) (byteFit (asks x .must) (asks x .index) b) Unfit
+fittingOf x Done = cond (eqb (wanted x) 0) Went Unfit
+fittingOf x (Byte b) = byteFit x b
 
 -- "a read buffer whose length has changed since the start"
-abbrev pub changed : List ℕ → ℕ → Bool
-changed st n = ltb 0 (readCount st) && not (eqb n (roomIn st))
+abbrev pub resized : List ℕ → ℕ → Bool
+resized st n = ltb 0 (readCount st) && not (eqb n (roomIn st))
 
 abbrev pub fitsNext : List Step → Reply → Fit
 fitsNext [] a = Unfit
@@ -67,7 +60,7 @@ fitsNext (x ∷ xs) a = fittingOf x a
 
 -- how an answer fits a session, where n bytes are lent with it
 unfoldable pub fitOf : List ℕ → Reply → ℕ → Fit
-fitOf st a n = cond (changed st n) Unfit (fitsNext (left st) a)
+fitOf st a n = cond (resized st n) Unfit (fitsNext (left st) a)
 
 -- ---- what an answer does
 
@@ -104,11 +97,8 @@ abbrev pub moved : List ℕ → ℕ → List ℕ → List ℕ
 moved st stage came = over st 1 (stage ∷ (madeIn st + 1) ∷ take 3 (came ++ (at st 3 ∷ at st 4 ∷ at st 5 ∷ [])))
 
 -- a refusal hands back the session as it came in
-abbrev pub stateBy : List ℕ → Effect → List ℕ
-stateBy st e = cond (e .made) (moved st (e .stage) (e .came)) st
-
 unfoldable pub stateAfter : List ℕ → Reply → ℕ → List ℕ
-stateAfter st a n = stateBy st (effectOf (fitOf st a n))
+stateAfter st a n = let e = effectOf (fitOf st a n) in cond (e .made) (moved st (e .stage) (e .came)) st
 
 unfoldable pub bufferAfter : List ℕ → Reply → List ℕ → List ℕ
 bufferAfter st a l = effectOf (fitOf st a (length l)) .buffer l
@@ -122,11 +112,10 @@ pub record Report : Type 0 where
   pub made : ℕ
   pub ended : Bool
 
-abbrev pub reportBy : List ℕ → Effect → Report
-reportBy st e = record { number = e .number; code = e .code; made = countIn (stateBy st e); ended = noneLeft (left (stateBy st e)) }
-
 unfoldable pub reportOf : List ℕ → Reply → ℕ → Report
-reportOf st a n = reportBy st (effectOf (fitOf st a n))
+reportOf st a n =
+    let e = effectOf (fitOf st a n) in
+    record { number = e .number; code = e .code; made = countIn (stateAfter st a n); ended = noneLeft (left (stateAfter st a n)) }
 
 -- a turn in document 01's numbers
 abbrev pub turnReport : Turn → Report

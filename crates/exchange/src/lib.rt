@@ -11,9 +11,10 @@ ghost use Prim.Native.Nat.{_+_, _*_, _≤_, _<_, min};
 ghost use mathlib.Core.List.{[], _∷_};
 ghost use lib.ListN.{length, set};
 ghost use Rattle.laws.specs.Copied.{over};
+ghost use Rattle.laws.specs.Lists.{at};
 ghost use Rattle.exchange.specs.Steps.{exchange, memoryAddress, chunk, exchangeFor, stepBytes, stepOf};
-ghost use Rattle.exchange.specs.State.{at, addressIn, countIn, roomIn, imageIn, encodedStep, left, noneLeft, slotOf, completed, headOf, begunWith, begunIn, pushed};
-ghost use Rattle.exchange.specs.Turn.{pendingOf, fittingOf, changed, fitOf, going, moved, stateAfter, bufferAfter, reportOf, turnReport, turnIn};
+ghost use Rattle.exchange.specs.State.{addressIn, countIn, roomIn, imageIn, encodedStep, left, noneLeft, slotOf, completed, headOf, begunWith, begunIn, pushed};
+ghost use Rattle.exchange.specs.Turn.{pendingOf, fittingOf, resized, fitOf, going, moved, stateAfter, bufferAfter, reportOf, turnReport, turnIn};
 use errors::Answer;
 use errors::Error;
 use registers::Register;
@@ -470,15 +471,15 @@ fn judge(session: &[u8], reply: Reply, n: usize) -> Fit
 {
     match current(session) {
         Slot::Idle => Fit::Unfit,
-        Slot::At(step) => timely(is_changed(session, n), fitting(step, reply)),
+        Slot::At(step) => timely(is_resized(session, n), fitting(step, reply)),
     }
 }
 
 // An answer does not fit at all where the read buffer has changed.
-fn timely(changed: bool, fit: Fit) -> Fit
-    ensures { λ r. ⌜ r ≡ cond changed Fit.Unfit fit ⌝ }
+fn timely(resized: bool, fit: Fit) -> Fit
+    ensures { λ r. ⌜ r ≡ cond resized Fit.Unfit fit ⌝ }
 {
-    if changed {
+    if resized {
         return Fit::Unfit;
     }
     fit
@@ -514,9 +515,9 @@ fn fitting(step: Step, reply: Reply) -> Fit
 }
 
 // Whether the read buffer's length is another than at the start.
-fn is_changed(session: &[u8], n: usize) -> bool
+fn is_resized(session: &[u8], n: usize) -> bool
     requires { ⌜ length (now session) ≡ 279 ⌝ }
-    ensures { λ r. ⌜ r ≡ changed (now (session .entry)) n ⌝ }
+    ensures { λ r. ⌜ r ≡ resized (now (session .entry)) n ⌝ }
 {
     if session[READS] < 1 {
         return false;

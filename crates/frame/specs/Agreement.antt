@@ -12,8 +12,7 @@ use Rattle.frame.specs.Frame.{onLoop, onFrequency}
 -- "an absent loop count equals 0 if the snippet number is 8 or more or a frequency is given"
 abbrev pub loopMeant : FrameBuilder → LoopCount
 loopMeant f =
-    onLoop (f .«loop_count») (cond (onFrequency (f .frequency) (leb 8 (f .«snippet_id»)) (λ _. true)) (LoopCount.Given 0) LoopCount.Absent)
-    LoopCount.Given
+    onLoop (f .«loop_count») (cond (onFrequency (f .frequency) (leb 8 (f .«snippet_id»)) (λ _. true)) (LoopCount.Given 0) LoopCount.Absent) LoopCount.Given
 
 -- "Frames agree when gain, timebase, snippet number, frequency (or its absence) and loop count agree"
 pub record Agree (a b : FrameBuilder) : Type 0 where

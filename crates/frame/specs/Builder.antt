@@ -49,11 +49,9 @@ withTimebase b t = frameWith (b .«snippet_id») (b .gain) t (b .«loop_count»)
 -- 4 for a count above 15
 abbrev pub withLoopCount : FrameBuilder → ℕ → Handed FrameBuilder
 withLoopCount b k =
-    cond (ltb 15 k) (refused 4 b)
-    (accepted (frameWith (b .«snippet_id») (b .gain) (b .timebase) (LoopCount.Given k) (b .frequency)))
+    cond (ltb 15 k) (refused 4 b) (accepted (frameWith (b .«snippet_id») (b .gain) (b .timebase) (LoopCount.Given k) (b .frequency)))
 
 -- 5 for a frequency above 511
 abbrev pub withFrequency : FrameBuilder → ℕ → Handed FrameBuilder
 withFrequency b f =
-    cond (ltb 511 f) (refused 5 b)
-    (accepted (frameWith (b .«snippet_id») (b .gain) (b .timebase) (b .«loop_count») (Frequency.Given f)))
+    cond (ltb 511 f) (refused 5 b) (accepted (frameWith (b .«snippet_id») (b .gain) (b .timebase) (b .«loop_count») (Frequency.Given f)))

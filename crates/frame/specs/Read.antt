@@ -61,10 +61,7 @@ readThird a b (c ∷ r) = parsed (threeBytes a b c) r
 
 -- bit 2 of the second byte says whether a third follows; "bit 2 clear and bit 1 set is made by no builder"
 abbrev pub readSecond : ℕ → ℕ → List ℕ → Option Parsed
-readSecond a b r =
-    cond (ltb (b / 4 % 2) 1)
-    (cond (ltb (b / 2 % 2) 1) (parsed (twoBytes a b) r) none)
-    (readThird a b r)
+readSecond a b r = cond (ltb (b / 4 % 2) 1) (cond (ltb (b / 2 % 2) 1) (parsed (twoBytes a b) r) none) (readThird a b r)
 
 -- the byte after the first: with bit 7 set it is the second, with bit 7 clear it begins the next frame; a third byte's bit 7 means nothing
 abbrev pub readAfter : ℕ → List ℕ → Option Parsed

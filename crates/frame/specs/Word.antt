@@ -6,8 +6,5 @@ use Rattle.frame.specs.Frame.{gainCode, timebaseCode, onLoop, onFrequenc
 -- eight bits for each field and sixteen for the frequency; all of them set where a loop count or a frequency is absent
 abbrev pub frameWord : FrameBuilder → ℕ
 frameWord f =
-    f .«snippet_id»
-    + gainCode (f .gain) * 2 ^ 8
-    + timebaseCode (f .timebase) * 2 ^ 16
-    + onLoop (f .«loop_count») 255 (λ k. k) * 2 ^ 24
-    + onFrequency (f .frequency) 65535 (λ q. q) * 2 ^ 32
+    f .«snippet_id» + gainCode (f .gain) * 2 ^ 8 + timebaseCode (f .timebase) * 2 ^ 16
+    + onLoop (f .«loop_count») 255 (λ k. k) * 2 ^ 24 + onFrequency (f .frequency) 65535 (λ q. q) * 2 ^ 32

@@ -9,12 +9,13 @@ use lib.Dec.{ltb, leb}
 use lib.ListN.{length, take}
 use borrow.Author.Tests.{leb-true, lt-ltb, le-ltb}
 use Rattle.laws.proofs.Lists.{take-shown}
+use Rattle.laws.specs.Lists.{joined}
 use Rattle.errors.specs.Told.{Built}
 use Rattle.snippet.specs.Snippet.{snippetBytes}
 use Rattle.sequence.specs.Sequence.{sequenceBytes}
 use Rattle.memory.specs.declared.WaveformMemory.{WaveformMemory}
 use Rattle.memory.specs.declared.WaveformMemoryBuilder.{WaveformMemoryBuilder}
-use Rattle.memory.specs.Image.{joined, imageSize, imageBytes}
+use Rattle.memory.specs.Image.{imageSize, imageBytes}
 use Rattle.memory.specs.Memory.{snippetItems, sequenceItems, noMemory, memoryOf, imageNumber, builtMemory}
 use Rattle.memory.proofs.Turns.{took}
 use Rattle.memory.proofs.Images.{image-size}

@@ -9,7 +9,8 @@ use lib.ListN.{length, drop, set, replicate, length-append, length-replicate, re
 use lib.Seq.{set-append-seam}
 use Rattle.laws.specs.Copied.{over}
 use Rattle.laws.proofs.Copies.{over-at}
-use Rattle.memory.specs.Image.{joined, endPointers, imageSize, imageBytes}
+use Rattle.laws.specs.Lists.{joined}
+use Rattle.memory.specs.Image.{endPointers, imageSize, imageBytes}
 use Rattle.memory.specs.Laid.{withLaid, laid}
 
 abbrev zeros : ℕ → List ℕ

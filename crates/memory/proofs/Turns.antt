@@ -9,7 +9,7 @@ use native.Mathlib.Omega.{arith}
 use lib.ListN.{length, take, drop, getD, length-append, length-take, length-drop, length-set, length-map, drop-of-length-le, List·getD-map}
 use lib.Seq.{drop-cons, getD-take}
 use Rattle.laws.proofs.Lists.{shown-fits, shown-length, shown-part}
-use Rattle.memory.specs.Image.{joined}
+use Rattle.laws.specs.Lists.{joined}
 use Rattle.memory.specs.Laid.{withLaid, laid, HasRoom}
 
 -- as many items as are asked for

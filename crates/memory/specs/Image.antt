@@ -2,11 +2,7 @@
 use Prim.Native.Nat.{ℕ, _+_, _-_}
 use mathlib.Core.List.{List, [], _∷_, _++_}
 use lib.ListN.{length, replicate}
-
--- the items' bytes, one after the other
-abbrev pub joined : {A : Type 0} → List (List A) → List A
-joined [] = []
-joined (x ∷ xs) = x ++ joined xs
+use Rattle.laws.specs.Lists.{joined}
 
 -- the index of each item's last byte, where the byte before the first item stands at index `before`
 abbrev pub endPointers : {A : Type 0} → ℕ → List (List A) → List ℕ
@@ -23,5 +19,4 @@ abbrev pub imageBytes : List (List ℕ) → List (List ℕ) → List ℕ
 imageBytes snippets sequences =
     length snippets ∷ length sequences
     ∷ endPointers (1 + length snippets + length sequences) (snippets ++ sequences)
-    ++ joined (snippets ++ sequences)
-    ++ replicate (100 - imageSize snippets sequences) 0
+    ++ joined (snippets ++ sequences) ++ replicate (100 - imageSize snippets sequences) 0

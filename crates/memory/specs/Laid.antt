@@ -5,7 +5,7 @@ use mathlib.Core.Path.{_≡_}
 use mathlib.Core.List.{List, [], _∷_}
 use lib.ListN.{length, set}
 use Rattle.laws.specs.Copied.{over}
-use Rattle.memory.specs.Image.{joined}
+use Rattle.laws.specs.Lists.{joined}
 
 -- an item's end pointer at one index, and its bytes from another on
 abbrev pub withLaid : List ℕ → ℕ → ℕ → List ℕ → List ℕ

@@ -28,8 +28,7 @@ sequenceItems b = map sequenceBytes (take (b .«num_sequences») (b .sequences))
 
 -- a builder of its arrays, their counts and the flag
 abbrev pub memoryWith : List Snippet → List Sequence → ℕ → ℕ → Bool → WaveformMemoryBuilder
-memoryWith ss qs s q a =
-    record { snippets = ss; sequences = qs; «num_snippets» = s; «num_sequences» = q; «acceleration_enabled» = a }
+memoryWith ss qs s q a = record { snippets = ss; sequences = qs; «num_snippets» = s; «num_sequences» = q; «acceleration_enabled» = a }
 
 -- a builder that holds nothing
 abbrev pub newMemory : Bool → WaveformMemoryBuilder
@@ -38,18 +37,14 @@ newMemory acceleration = memoryWith (replicate 15 noSnippet) (replicate 16 noSeq
 -- a snippet appended, or 6 for a 16th
 abbrev pub withSnippet : WaveformMemoryBuilder → Snippet → Handed WaveformMemoryBuilder
 withSnippet b s =
-    cond (leb 15 (b .«num_snippets»)) (refused 6 b)
-    (accepted
-    (memoryWith (set (b .snippets) (b .«num_snippets») s) (b .sequences)
-    (b .«num_snippets» + 1) (b .«num_sequences») (b .«acceleration_enabled»)))
+    cond (leb 15 (b .«num_snippets»)) (refused 6 b) (accepted (
+    memoryWith (set (b .snippets) (b .«num_snippets») s) (b .sequences) (b .«num_snippets» + 1) (b .«num_sequences») (b .«acceleration_enabled»)))
 
 -- a sequence appended, or 7 for a 17th
 abbrev pub withSequence : WaveformMemoryBuilder → Sequence → Handed WaveformMemoryBuilder
 withSequence b s =
-    cond (leb 16 (b .«num_sequences»)) (refused 7 b)
-    (accepted
-    (memoryWith (b .snippets) (set (b .sequences) (b .«num_sequences») s)
-    (b .«num_snippets») (b .«num_sequences» + 1) (b .«acceleration_enabled»)))
+    cond (leb 16 (b .«num_sequences»)) (refused 7 b) (accepted (
+    memoryWith (b .snippets) (set (b .sequences) (b .«num_sequences») s) (b .«num_snippets») (b .«num_sequences» + 1) (b .«acceleration_enabled»)))
 
 -- ---- building
 
@@ -68,9 +63,7 @@ memoryOf snippets sequences = memory (imageBytes snippets sequences) (imageSize 
 -- "`build` tests no snippets, no sequences, then the size 2 + s + q + data ≤ 100": 9, 10, 8
 abbrev pub imageNumber : List (List ℕ) → List (List ℕ) → ℕ
 imageNumber snippets sequences =
-    cond (ltb (length snippets) 1) 9
-    (cond (ltb (length sequences) 1) 10
-    (cond (ltb 100 (imageSize snippets sequences)) 8 0))
+    cond (ltb (length snippets) 1) 9 (cond (ltb (length sequences) 1) 10 (cond (ltb 100 (imageSize snippets sequences)) 8 0))
 
 -- the image of what the builder holds, or the refusal
 unfoldable pub builtMemory : WaveformMemoryBuilder → Built WaveformMemory WaveformMemoryBuilder
@@ -82,6 +75,4 @@ builtMemory b =
 
 -- `from_bytes`: the four values, or 8 for a length above 100
 abbrev pub loaded : List ℕ → ℕ → ℕ → ℕ → Handed WaveformMemory
-loaded bytes n snippets sequences =
-    cond (ltb 100 n) (refused 8 noMemory)
-    (accepted (memory bytes n snippets sequences))
+loaded bytes n snippets sequences = cond (ltb 100 n) (refused 8 noMemory) (accepted (memory bytes n snippets sequences))

@@ -4,8 +4,9 @@ use mathlib.Core.Bool.{Bool, cond, _&&_, _||_}
 use mathlib.Core.List.{List, [], _∷_}
 use lib.Dec.{eqb}
 use lib.ListN.{getD}
+use Rattle.laws.specs.Lists.{at}
 use Rattle.config.specs.Codes.{variantCode}
-use Rattle.exchange.specs.State.{at, isSession, countIn, completed, readCount, purposeIn, recordIn}
+use Rattle.exchange.specs.State.{isSession, countIn, completed, readCount, purposeIn, recordIn}
 use Rattle.exchange.specs.Turn.{Report}
 use Rattle.da728x.specs.declared.DA728x.{DA728x}
 use Rattle.da728x.specs.Record.{recordAt}
@@ -21,7 +22,8 @@ abbrev pub bigEndian : ℕ → List ℕ → ℕ
 bigEndian n [] = n
 bigEndian n (b ∷ bytes) = bigEndian (256 * n + b) bytes
 
--- settings go to a record of the chip that they were sent to, and change nothing else of it; another record stays
+-- settings go to a record of the chip that they were sent to, and change nothing else of it; that another record stays is ours, since the
+-- Rust's `self` can be no other
 abbrev pub isChipOf : DA728x → DA728x → Bool
 isChipOf next r = eqb (next .address) (r .address) && eqb (variantCode (next .variant)) (variantCode (r .variant))
 
@@ -31,7 +33,8 @@ settling next r = cond (isChipOf next r) (To (record { address = r .address; var
 abbrev pub changeFor : ℕ → DA728x → DA728x → Change
 changeFor purpose next r = getD (Same ∷ To next ∷ settling next r ∷ []) purpose Same
 
--- what an answer does to the record lent with it, where the session is `st` afterwards: nothing, unless it was taken and is the last
+-- what an answer does to the record lent with it, where the session is `st` afterwards: nothing, unless it was taken and is the last;
+-- "Settings are stored only after the last"
 unfoldable pub changeBy : List ℕ → Report → DA728x → Change
 changeBy st t r = cond (isSession st && (t .ended && eqb (t .number) 0)) (changeFor (purposeIn st) (recordAt (recordIn st)) r) Same
 

@@ -1,27 +1,22 @@
 -- A frame's builder holds in each field what the last accepted call gave, and is admitted; its bytes are those of its fields.
 -- Assumes nothing.
-use mathlib.Core.Path.{_≡_, refl, sym, ap, _∙_, subst}
+use mathlib.Core.Path.{_≡_, refl, ap, _∙_, subst}
 use mathlib.Core.Bool.{Bool, true, false, cond}
 use mathlib.Core.List.{List, [], _∷_, _++_}
 use Prim.Native.Nat.{ℕ, _+_, _≤_, _<_}
 use native.Mathlib.Decide.{decLe}
 use native.Mathlib.Omega.{arith}
 use borrow.Author.Tests.{lt-ltb, le-ltb}
-use lib.Dec.{ltb}
 use lib.ListN.{length, take, replicate}
 use Rattle.errors.specs.Told.{Told, gives, refuses}
-use Rattle.frame.specs.declared.Gain.{Gain}
-use Rattle.frame.specs.declared.Timebase.{Timebase}
-use Rattle.frame.specs.declared.LoopCount.{LoopCount}
-use Rattle.frame.specs.declared.LoopCount.the-variants as LoopCount
 use Rattle.frame.specs.declared.Frequency.{Frequency}
 use Rattle.frame.specs.declared.Frequency.the-variants as Frequency
 use Rattle.frame.specs.declared.FrameBuilder.{FrameBuilder}
 use Rattle.frame.specs.Agreement.{FrameAdmitted}
-use Rattle.frame.proofs.Parts.{thirdByte, LoopAdmitted, FrequencyAdmitted}
+use Rattle.frame.proofs.Parts.{thirdByte}
 use Rattle.frame.specs.Builder.{frameWith, plainFrame, newFrame, withLoopCount, withFrequency}
 use Rattle.frame.specs.Frame.{firstByte, secondByte, hasSecond, bytesOf, frameBytes, builtFrame}
-use Rattle.pattern.specs.Calls.{FrameCall, gain, timebase, loopCount, frequencyHz, frameStep, Begin, new, silence, begunBy, FrameCalls, numberOf, lastGain, lastTimebase, lastLoop, lastFrequency, frameFrom}
+use Rattle.pattern.specs.Calls.{FrameCall, gain, timebase, loopCount, frequencyHz, frameStep, Begin, new, silence, begunBy, FrameCalls, numberOf, sets, lastSet, frameFrom}
 use Rattle.pattern.proofs.Items.{frameRan}
 
 -- ---- a built frame shows the bytes of its fields
@@ -41,48 +36,44 @@ built-bytes b = go (hasSecond b) where
 
 abbrev pub fieldsAfter : FrameBuilder → List FrameCall → FrameBuilder
 fieldsAfter b ks =
-    frameWith (b .«snippet_id») (lastGain (b .gain) ks) (lastTimebase (b .timebase) ks) (lastLoop (b .«loop_count») ks) (lastFrequency (b .frequency) ks)
+    frameWith (b .«snippet_id») (lastSet (λ k. sets k .0) (b .gain) ks) (lastSet (λ k. sets k .1) (b .timebase) ks)
+    (lastSet (λ k. sets k .2) (b .«loop_count») ks) (lastSet (λ k. sets k .3) (b .frequency) ks)
 
-loop-after : (b : FrameBuilder) (k : ℕ) (ks : List FrameCall) → fieldsAfter (withLoopCount b k .builder) ks ≡ fieldsAfter b (loopCount k ∷ ks)
-loop-after b k ks = go (decLe k 15) where
-  go : Dec (k ≤ 15) → fieldsAfter (withLoopCount b k .builder) ks ≡ fieldsAfter b (loopCount k ∷ ks)
+one-call : (b : FrameBuilder) (k : FrameCall) → frameStep b k .builder ≡ fieldsAfter b (k ∷ [])
+one-call b (gain g) = refl
+one-call b (timebase t) = refl
+one-call b (loopCount k) = go (decLe k 15) where
+  go : Dec (k ≤ 15) → withLoopCount b k .builder ≡ fieldsAfter b (loopCount k ∷ [])
   go (yes h) = simp (le-ltb 15 k h)
   go (no h) = let h′ : 15 < k = omega arith in simp (lt-ltb 15 k h′)
-
-frequency-after : (b : FrameBuilder) (f : ℕ) (ks : List FrameCall) → fieldsAfter (withFrequency b f .builder) ks ≡ fieldsAfter b (frequencyHz f ∷ ks)
-frequency-after b f ks = go (decLe f 511) where
-  go : Dec (f ≤ 511) → fieldsAfter (withFrequency b f .builder) ks ≡ fieldsAfter b (frequencyHz f ∷ ks)
+one-call b (frequencyHz f) = go (decLe f 511) where
+  go : Dec (f ≤ 511) → withFrequency b f .builder ≡ fieldsAfter b (frequencyHz f ∷ [])
   go (yes h) = simp (le-ltb 511 f h)
   go (no h) = let h′ : 511 < f = omega arith in simp (lt-ltb 511 f h′)
 
 pub ran-fields : (ks : List FrameCall) (b : FrameBuilder) → frameRan b ks ≡ fieldsAfter b ks
 ran-fields [] b = refl
-ran-fields (gain g ∷ ks) b = ran-fields ks (frameStep b (gain g) .builder)
-ran-fields (timebase t ∷ ks) b = ran-fields ks (frameStep b (timebase t) .builder)
-ran-fields (loopCount k ∷ ks) b = ran-fields ks (withLoopCount b k .builder) ∙ loop-after b k ks
-ran-fields (frequencyHz f ∷ ks) b = ran-fields ks (withFrequency b f .builder) ∙ frequency-after b f ks
+ran-fields (k ∷ ks) b = ran-fields ks (frameStep b k .builder) ∙ ap (λ (c : FrameBuilder). fieldsAfter c ks) (one-call b k)
+
+-- ---- the limits
+
+call-admitted : (b : FrameBuilder) (k : FrameCall) → FrameAdmitted b → FrameAdmitted (frameStep b k .builder)
+call-admitted b (gain g) h = record { numberFits = h .numberFits; loopFits = h .loopFits; frequencyFits = h .frequencyFits }
+call-admitted b (timebase t) h = record { numberFits = h .numberFits; loopFits = h .loopFits; frequencyFits = h .frequencyFits }
+call-admitted b (loopCount k) h = go (decLe k 15) where
+  go : Dec (k ≤ 15) → FrameAdmitted (withLoopCount b k .builder)
+  go (yes e) = simp (le-ltb 15 k e) (record { numberFits = h .numberFits; loopFits = e; frequencyFits = h .frequencyFits })
+  go (no e) = let e′ : 15 < k = omega arith in simp (lt-ltb 15 k e′) h
+call-admitted b (frequencyHz f) h = go (decLe f 511) where
+  go : Dec (f ≤ 511) → FrameAdmitted (withFrequency b f .builder)
+  go (yes e) = simp (le-ltb 511 f e) (record { numberFits = h .numberFits; loopFits = h .loopFits; frequencyFits = e })
+  go (no e) = let e′ : 511 < f = omega arith in simp (lt-ltb 511 f e′) h
+
+ran-admitted : (ks : List FrameCall) (b : FrameBuilder) → FrameAdmitted b → FrameAdmitted (frameRan b ks)
+ran-admitted [] b h = h
+ran-admitted (k ∷ ks) b h = ran-admitted ks (frameStep b k .builder) (call-admitted b k h)
 
 -- ---- what `new` and `silence` begin
-
-loop-admitted : (ks : List FrameCall) (l : LoopCount) → LoopAdmitted l → LoopAdmitted (lastLoop l ks)
-loop-admitted [] l h = h
-loop-admitted (gain g ∷ ks) l h = loop-admitted ks l h
-loop-admitted (timebase t ∷ ks) l h = loop-admitted ks l h
-loop-admitted (frequencyHz f ∷ ks) l h = loop-admitted ks l h
-loop-admitted (loopCount k ∷ ks) l h = loop-admitted ks (cond (ltb 15 k) l (LoopCount.Given k)) (go (decLe k 15)) where
-  go : Dec (k ≤ 15) → LoopAdmitted (cond (ltb 15 k) l (LoopCount.Given k))
-  go (yes e) = simp (le-ltb 15 k e) e
-  go (no e) = let e′ : 15 < k = omega arith in simp (lt-ltb 15 k e′) h
-
-frequency-admitted : (ks : List FrameCall) (q : Frequency) → FrequencyAdmitted q → FrequencyAdmitted (lastFrequency q ks)
-frequency-admitted [] q h = h
-frequency-admitted (gain g ∷ ks) q h = frequency-admitted ks q h
-frequency-admitted (timebase t ∷ ks) q h = frequency-admitted ks q h
-frequency-admitted (loopCount k ∷ ks) q h = frequency-admitted ks q h
-frequency-admitted (frequencyHz f ∷ ks) q h = frequency-admitted ks (cond (ltb 511 f) q (Frequency.Given f)) (go (decLe f 511)) where
-  go : Dec (f ≤ 511) → FrequencyAdmitted (cond (ltb 511 f) q (Frequency.Given f))
-  go (yes e) = simp (le-ltb 511 f e) e
-  go (no e) = let e′ : 511 < f = omega arith in simp (lt-ltb 511 f e′) h
 
 -- a frame that was begun: its builder after the calls is what its fields say, and admitted; otherwise it was refused by a number
 abbrev pub FrameOutcome : FrameCalls → Told FrameBuilder → Type 0
@@ -90,10 +81,9 @@ FrameOutcome m (gives b) = (frameRan b (m .calls) ≡ frameFrom m) × FrameAdmit
 FrameOutcome m (refuses n) = 0 < n
 
 begun-plain : (b : Begin) (ks : List FrameCall) → numberOf b ≤ 15 → FrameOutcome (record { begin = b; calls = ks }) (gives (plainFrame (numberOf b)))
-begun-plain b ks h = (
-  ran-fields ks (plainFrame (numberOf b)),
-  record { numberFits = h; loopFits = loop-admitted ks LoopCount.Absent tt; frequencyFits = frequency-admitted ks Frequency.Absent tt },
-)
+begun-plain b ks h =
+    let e = ran-fields ks (plainFrame (numberOf b)) in
+    (e, subst FrameAdmitted e (ran-admitted ks (plainFrame (numberOf b)) (record { numberFits = h; loopFits = tt; frequencyFits = tt })))
 
 begun-new : (n : ℕ) (ks : List FrameCall) → FrameOutcome (record { begin = new n; calls = ks }) (newFrame n)
 begun-new n ks = some (decLe 1 n) where

@@ -5,6 +5,7 @@ use mathlib.Core.Path.{_≡_, refl, sym, ap}
 use mathlib.Core.Bool.{Bool, true, false, cond}
 use mathlib.Core.List.{List, [], _∷_}
 use lib.Dec.{ltb}
+use Rattle.laws.specs.Lists.{joined}
 use Rattle.errors.specs.Told.{Told, onTold, Handed, refused, Built}
 use Rattle.snippet.specs.declared.Snippet.{Snippet}
 use Rattle.snippet.specs.declared.SnippetBuilder.{SnippetBuilder}
@@ -14,7 +15,6 @@ use Rattle.sequence.specs.declared.Sequence.{Sequence}
 use Rattle.sequence.specs.declared.SequenceBuilder.{SequenceBuilder}
 use Rattle.sequence.specs.Sequence.{withFrame}
 use Rattle.memory.specs.declared.WaveformMemoryBuilder.{WaveformMemoryBuilder}
-use Rattle.memory.specs.Image.{joined}
 use Rattle.memory.specs.Memory.{newMemory, withSnippet, withSequence}
 use Rattle.content.specs.Content.{Point, Content}
 use Rattle.pattern.specs.Calls.{ran, held, FrameCall, frameStep, pointsFrom, framesFrom, withBuilt, MemoryCall, addSnippet, addSequence, memoryStep, addedSnippets, addedSequences, contentFrom}

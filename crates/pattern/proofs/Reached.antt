@@ -10,6 +10,7 @@ use borrow.Author.Tests.{lt-ltb, le-ltb, le-leb, lt-leb}
 use lib.Dec.{ltb}
 use lib.ListN.{length, length-append, length-map}
 use Rattle.laws.specs.Bytes.{All}
+use Rattle.laws.specs.Lists.{joined}
 use Rattle.errors.specs.Told.{Told, gives, Handed}
 use Rattle.snippet.specs.declared.SnippetBuilder.{SnippetBuilder}
 use Rattle.snippet.specs.Point.{PointAdmitted}
@@ -29,7 +30,7 @@ use Rattle.frame.specs.Frame.{bytesOf, frameBytes, builtFrame}
 use Rattle.sequence.specs.declared.SequenceBuilder.{SequenceBuilder}
 use Rattle.sequence.specs.Sequence.{newSequence}
 use Rattle.memory.specs.declared.WaveformMemoryBuilder.{WaveformMemoryBuilder}
-use Rattle.memory.specs.Image.{joined, imageSize}
+use Rattle.memory.specs.Image.{imageSize}
 use Rattle.memory.specs.Memory.{newMemory, imageNumber, builtMemory}
 use Rattle.memory.proofs.Images.{joined-length}
 use Rattle.content.specs.Content.{Point, Content, pointBytes, framesBytes, Admitted}

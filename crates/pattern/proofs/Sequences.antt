@@ -19,7 +19,6 @@ use Rattle.frame.specs.Agreement.{FrameAdmitted}
 use Rattle.frame.specs.Frame.{bytesOf, frameBytes, builtFrame}
 use Rattle.sequence.specs.declared.SequenceBuilder.{SequenceBuilder}
 use Rattle.sequence.specs.Sequence.{newSequence, withFrame}
-use Rattle.memory.specs.Image.{joined}
 use Rattle.content.specs.Content.{framesBytes}
 use Rattle.content.proofs.Codec.{all-append}
 use Rattle.pattern.specs.Calls.{FrameCall, FrameCalls, frameFrom, begunBy, sequenceStep, sequenceFrom, framesFrom}

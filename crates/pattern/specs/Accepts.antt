@@ -51,8 +51,7 @@ fieldFault (frequencyHz f) = cond (ltb 511 f) 5 0
 abbrev pub sequenceFault : List FrameBuilder → FrameCalls → ℕ
 sequenceFault fs m =
     cond (badBegin (m .begin)) 3
-    (cond (ltb 96 (length (framesBytes fs) + length (bytesOf (frameFrom m)))) 8
-    (cond (leb 32 (length fs)) 7 0))
+    (cond (ltb 96 (length (framesBytes fs) + length (bytesOf (frameFrom m)))) 8 (cond (leb 32 (length fs)) 7 0))
 
 -- ---- a memory that holds this content
 

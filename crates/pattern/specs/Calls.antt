@@ -3,7 +3,9 @@
 use Prim.Native.Nat.{ℕ, _%_}
 use mathlib.Core.Bool.{Bool, true, false, cond}
 use mathlib.Core.List.{List, [], _∷_}
+use mathlib.Core.Option.{Option, none, some}
 use lib.Dec.{ltb}
+use Rattle.laws.specs.Lists.{joined}
 use Rattle.errors.specs.Told.{Told, gives, onTold, Handed, refused, Built}
 use Rattle.snippet.specs.declared.SnippetBuilder.{SnippetBuilder}
 use Rattle.snippet.specs.Point as made
@@ -23,10 +25,9 @@ use Rattle.sequence.specs.declared.SequenceBuilder.{SequenceBuilder}
 use Rattle.sequence.specs.Sequence.{newSequence, withFrame, builtSequence}
 use Rattle.memory.specs.declared.WaveformMemory.{WaveformMemory}
 use Rattle.memory.specs.declared.WaveformMemoryBuilder.{WaveformMemoryBuilder}
-use Rattle.memory.specs.Image.{joined}
 use Rattle.memory.specs.Memory.{newMemory, withSnippet, withSequence, builtMemory}
 use Rattle.content.specs.Content.{Point, Content}
-use Rattle.content.specs.ReadImage.{pointIn}
+use Rattle.content.specs.ReadImage.{onOption, pointIn}
 
 -- ---- any builder B with calls K, each of which adds an X when it is accepted
 
@@ -111,40 +112,22 @@ abbrev pub numberOf : Begin → ℕ
 numberOf (new n) = n
 numberOf silence = 0
 
-abbrev pub lastGain : Gain → List FrameCall → Gain
-lastGain g [] = g
-lastGain g (gain h ∷ ks) = lastGain h ks
-lastGain g (timebase t ∷ ks) = lastGain g ks
-lastGain g (loopCount k ∷ ks) = lastGain g ks
-lastGain g (frequencyHz f ∷ ks) = lastGain g ks
+-- what a call sets: gain, timebase, loop count (accepted up to 15), frequency (accepted up to 511)
+abbrev pub sets : FrameCall → Option Gain × Option Timebase × Option LoopCount × Option Frequency
+sets (gain g) = (some g, none, none, none)
+sets (timebase t) = (none, some t, none, none)
+sets (loopCount k) = (none, none, cond (ltb 15 k) none (some (LoopCount.Given k)), none)
+sets (frequencyHz f) = (none, none, none, cond (ltb 511 f) none (some (Frequency.Given f)))
 
-abbrev pub lastTimebase : Timebase → List FrameCall → Timebase
-lastTimebase t [] = t
-lastTimebase t (gain g ∷ ks) = lastTimebase t ks
-lastTimebase t (timebase u ∷ ks) = lastTimebase u ks
-lastTimebase t (loopCount k ∷ ks) = lastTimebase t ks
-lastTimebase t (frequencyHz f ∷ ks) = lastTimebase t ks
-
--- accepted up to 15
-abbrev pub lastLoop : LoopCount → List FrameCall → LoopCount
-lastLoop l [] = l
-lastLoop l (gain g ∷ ks) = lastLoop l ks
-lastLoop l (timebase t ∷ ks) = lastLoop l ks
-lastLoop l (loopCount k ∷ ks) = lastLoop (cond (ltb 15 k) l (LoopCount.Given k)) ks
-lastLoop l (frequencyHz f ∷ ks) = lastLoop l ks
-
--- accepted up to 511
-abbrev pub lastFrequency : Frequency → List FrameCall → Frequency
-lastFrequency q [] = q
-lastFrequency q (gain g ∷ ks) = lastFrequency q ks
-lastFrequency q (timebase t ∷ ks) = lastFrequency q ks
-lastFrequency q (loopCount k ∷ ks) = lastFrequency q ks
-lastFrequency q (frequencyHz f ∷ ks) = lastFrequency (cond (ltb 511 f) q (Frequency.Given f)) ks
+-- the last that the calls set in one field, else the default
+abbrev pub lastSet : {A : Type 0} → (FrameCall → Option A) → A → List FrameCall → A
+lastSet field a [] = a
+lastSet field a (k ∷ ks) = lastSet field (onOption (field k) a (λ x. x)) ks
 
 abbrev pub frameFrom : FrameCalls → FrameBuilder
 frameFrom m =
-    frameWith (numberOf (m .begin)) (lastGain Full (m .calls)) (lastTimebase «Ms5_44» (m .calls))
-    (lastLoop LoopCount.Absent (m .calls)) (lastFrequency Frequency.Absent (m .calls))
+    frameWith (numberOf (m .begin)) (lastSet (λ k. sets k .0) Full (m .calls)) (lastSet (λ k. sets k .1) «Ms5_44» (m .calls))
+    (lastSet (λ k. sets k .2) LoopCount.Absent (m .calls)) (lastSet (λ k. sets k .3) Frequency.Absent (m .calls))
 
 -- ---- a sequence: each call adds the frame that its own calls make; where `new` was refused there is no frame to add
 
@@ -184,10 +167,8 @@ memoryFrom acceleration ks = ran memoryStep (newMemory acceleration) ks
 
 abbrev pub contentFrom : Bool → List MemoryCall → Content
 contentFrom acceleration ks =
-    record {
-      snippets = joined (held memoryStep addedSnippets (newMemory acceleration) ks);
-      sequences = joined (held memoryStep addedSequences (newMemory acceleration) ks);
-    }
+    let b = newMemory acceleration in
+    record { snippets = joined (held memoryStep addedSnippets b ks); sequences = joined (held memoryStep addedSequences b ks) }
 
 -- what building then answers
 abbrev pub builtFrom : Bool → List MemoryCall → Built WaveformMemory WaveformMemoryBuilder

@@ -11,7 +11,7 @@ use lib.Dec.{ltb, leb}
 use lib.ListN.{length, take, drop, length-append, length-take, length-drop, take-append-drop}
 use lib.Seq.{drop-drop}
 use Rattle.laws.specs.Bytes.{All, Bytes}
-use Rattle.memory.specs.Image.{joined}
+use Rattle.laws.specs.Lists.{joined}
 use Rattle.content.specs.ReadImage.{andThen, Cut, cut}
 use Rattle.content.proofs.Codec.{some-inj, cond-some, then-some, all-left, all-right}
 use Rattle.reader.specs.Walk.{Walked, item, walk}

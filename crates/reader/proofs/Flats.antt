@@ -9,7 +9,8 @@ use borrow.Author.Tests.{lt-ltb}
 use lib.Dec.{ltb}
 use lib.ListN.{length, take, drop, set, replicate, length-append}
 use lib.Seq.{take-at, drop-at, set-append-seam, append-snoc}
-use Rattle.memory.specs.Image.{joined, endPointers}
+use Rattle.laws.specs.Lists.{joined}
+use Rattle.memory.specs.Image.{endPointers}
 use Rattle.content.proofs.Items.{length-pointers}
 use Rattle.reader.specs.Reading.{parts, padded}
 

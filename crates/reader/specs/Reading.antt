@@ -4,11 +4,12 @@ use Prim.Native.Nat.{ℕ, _-_}
 use mathlib.Core.List.{List, [], _∷_, _++_, map}
 use mathlib.Core.Option.{Option, none, some}
 use lib.ListN.{length, take, drop, replicate}
+use Rattle.laws.specs.Lists.{joined}
 use Rattle.errors.specs.declared.Answer.the-variants as Answer
 use Rattle.errors.specs.declared.Error.the-variants as Error
 use Rattle.frame.specs.declared.FrameBuilder.{FrameBuilder}
 use Rattle.frame.specs.Builder.{silentFrame}
-use Rattle.memory.specs.Image.{joined, endPointers}
+use Rattle.memory.specs.Image.{endPointers}
 use Rattle.content.specs.Content.{Content, pointBytes}
 use Rattle.reader.specs.declared.Points.{Points}
 use Rattle.reader.specs.declared.Frames.{Frames}

@@ -12,10 +12,10 @@ use borrow.Rule.Slice.PartAt.{part-to-end}
 use Rattle.laws.specs.Copied.{copied}
 use Rattle.frame.specs.declared.FrameBuilder.{FrameBuilder}
 use Rattle.frame.specs.Word.{frameWord}
-use Rattle.memory.specs.Image.{joined}
 use Rattle.reader.specs.Reading.{padded}
-use Rattle.readings.specs.Lists.{lowBytes, wordBytes, wordsBytes}
+use Rattle.readings.specs.Lists.{wordBytes, wordsBytes}
 use Rattle.laws.specs.Copied.{placed}
+use Rattle.laws.specs.Lists.{lowBytes}
 
 -- ---- bytes copied into a part that is put back
 

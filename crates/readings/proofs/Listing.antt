@@ -8,13 +8,14 @@ use native.Mathlib.Omega.{arith}
 use lib.ListN.{length, replicate, length-map}
 use lib.Seq.{take-at}
 use Rattle.laws.specs.Copied.{copied}
+use Rattle.laws.specs.Lists.{joined}
 use Rattle.errors.specs.Packed.{packed}
 use Rattle.errors.specs.declared.Answer.{Answer}
 use Rattle.errors.specs.declared.Answer.the-variants as Answer
 use Rattle.errors.specs.declared.Error.{Error}
 use Rattle.frame.specs.declared.FrameBuilder.{FrameBuilder}
 use Rattle.frame.specs.Builder.{silentFrame}
-use Rattle.memory.specs.Image.{joined, endPointers}
+use Rattle.memory.specs.Image.{endPointers}
 use Rattle.content.specs.Content.{Content, pointBytes}
 use Rattle.reader.specs.declared.Reading.{Reading}
 use Rattle.reader.specs.Reading.{padded, readingOf}

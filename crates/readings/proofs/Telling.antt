@@ -9,13 +9,14 @@ use lib.ListN.{length, take, drop, replicate, getElem?, length-append, length-ma
 use lib.Seq.{take-all, take-at, drop-at}
 use Rattle.laws.specs.Bytes.{All, Bytes}
 use Rattle.laws.specs.Copied.{copied}
+use Rattle.laws.specs.Lists.{joined}
 use Rattle.errors.specs.Packed.{packed, Room}
 use Rattle.errors.proofs.Packed.{packed-apart}
 use Rattle.frame.specs.declared.FrameBuilder.{FrameBuilder}
 use Rattle.frame.specs.Builder.{silentFrame}
 use Rattle.frame.specs.Frame.{bytesOf}
 use Rattle.frame.specs.Agreement.{FrameAdmitted}
-use Rattle.memory.specs.Image.{joined, endPointers, imageBytes}
+use Rattle.memory.specs.Image.{endPointers, imageBytes}
 use Rattle.memory.proofs.Images.{joined-length}
 use Rattle.content.specs.Content.{Point, Content, byteOf, pointBytes, framesBytes, imageOf, Admitted}
 use Rattle.content.proofs.Admits.{SequenceAdmitted}

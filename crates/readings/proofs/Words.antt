@@ -7,6 +7,7 @@ use native.Mathlib.Omega.{arith}
 use lib.ListN.{length, take, drop}
 use lib.Seq.{take-at, drop-at}
 use Rattle.laws.specs.Bytes.{All}
+use Rattle.laws.specs.Lists.{lowBytes}
 use Rattle.frame.specs.declared.LoopCount.{LoopCount}
 use Rattle.frame.specs.declared.LoopCount.the-variants as LoopCount
 use Rattle.frame.specs.declared.Frequency.{Frequency}
@@ -19,7 +20,7 @@ use Rattle.frame.specs.Read.{gainAt, timebaseAt}
 use Rattle.frame.specs.Word.{frameWord}
 use Rattle.frame.proofs.Reading.{gain-back, timebase-back}
 use Rattle.content.proofs.Codec.{cons-eq}
-use Rattle.readings.specs.Lists.{lowBytes, wordBytes, wordsBytes}
+use Rattle.readings.specs.Lists.{wordBytes, wordsBytes}
 use Rattle.readings.proofs.Laying.{word-length}
 
 -- ---- the fields

@@ -14,10 +14,8 @@ pointByte ramp timebases amplitude = cond ramp 128 0 + (timebases - 1) * 16 + am
 -- a ramp (true) or a step (false): 1 for a length that is not 1..8, else 2 for an amplitude above 15, else the byte
 abbrev pub point : Bool → ℕ → ℕ → Told ℕ
 point ramp timebases amplitude =
-    cond (ltb timebases 1) (refuses 1)
-    (cond (ltb 8 timebases) (refuses 1)
-    (cond (ltb 15 amplitude) (refuses 2)
-    (gives (pointByte ramp timebases amplitude))))
+    cond (ltb timebases 1) (refuses 1) (cond (ltb 8 timebases) (refuses 1)
+    (cond (ltb 15 amplitude) (refuses 2) (gives (pointByte ramp timebases amplitude))))
 
 -- what an answer tells: the point's byte, or the number
 abbrev pub pointTold : PointAnswer → Told ℕ

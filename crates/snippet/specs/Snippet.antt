@@ -27,9 +27,7 @@ newSnippet = record { points = replicate 16 (pointOf 0); len = 0 }
 
 -- a point more behind the others, or 6 for a 17th
 abbrev pub withPoint : SnippetBuilder → PwlPoint → Handed SnippetBuilder
-withPoint b p =
-    cond (leb 16 (b .len)) (refused 6 b)
-    (accepted (record { points = set (b .points) (b .len) p; len = b .len + 1 }))
+withPoint b p = cond (leb 16 (b .len)) (refused 6 b) (accepted (record { points = set (b .points) (b .len) p; len = b .len + 1 }))
 
 -- a point that was asked for by its fields: its own refusal comes first
 abbrev pub withMade : SnippetBuilder → Told ℕ → Handed SnippetBuilder

@@ -12,8 +12,8 @@ use Rattle.exchange.proofs.Answers.{unfit-none, fit-next}
 use Rattle.exchange.proofs.judge.Statement.{statement}
 use Rattle.exchange.proofs.judge.Tie as tie
 
-is-changed-requires : tie.Need-is-changed-requires
-is-changed-requires c κs =
+is-resized-requires : tie.Need-is-resized-requires
+is-resized-requires c κs =
     let st = now (c .before .before .before .before .before .args .session) in
     left-counts st _ _ (at-some (left st) _ (sym (c .before .before .before .current .ensures) ∙ c .before .step .given .1)) .0
 
@@ -28,7 +28,7 @@ returns-2 c =
     let a = b .before .before .before .before .args in
     let s = at-some (left (now (a .session))) _ (sym (b .before .before .current .ensures) ∙ b .step .given .1) in
     c .timely .ensures
-    ∙ ap₂ (λ (t : Bool) (f : Fit). cond t Unfit f) (c .before .before .is-changed .ensures) (c .before .fitting .ensures)
+    ∙ ap₂ (λ (t : Bool) (f : Fit). cond t Unfit f) (c .before .before .is-resized .ensures) (c .before .fitting .ensures)
     ∙ sym (fit-next (now (a .session)) (a .reply) (a .n) _ _ s)
 
 pub judge-spec : {M : Type 1} → statement M
@@ -38,7 +38,7 @@ judge-spec =
     (λ c κs. search needs)
     (λ c. search needs)
     (λ c. search needs)
-    is-changed-requires
+    is-resized-requires
     (λ c κs. search needs)
     (λ c κs. search needs)
     returns

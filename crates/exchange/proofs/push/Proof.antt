@@ -10,8 +10,9 @@ use borrow.Author.Tests.{eq-eqb, ne-eqb, le-ltb}
 use Rattle.laws.specs.Copied.{over}
 use Rattle.exchange.specs.declared.Step.{Step}
 use Rattle.exchange.specs.Steps.{stepBytes}
-use Rattle.exchange.specs.State.{at, pushed}
+use Rattle.exchange.specs.State.{pushed}
 use Rattle.laws.proofs.Copies.{length-over}
+use Rattle.laws.specs.Lists.{at}
 use Rattle.exchange.proofs.Laid.{pushed-more}
 use Rattle.exchange.proofs.Plan.{length-step}
 use Rattle.exchange.proofs.push.Statement.{statement}

@@ -6,10 +6,11 @@ use Prim.Native.Nat.{ℕ, _-_, _≤_}
 use native.Mathlib.Omega.{arith}
 use lib.ListN.{length, take}
 use Rattle.laws.proofs.Lists.{length-of-map}
+use Rattle.laws.specs.Lists.{lowBytes}
 use Rattle.frame.specs.declared.FrameBuilder.{FrameBuilder}
 use Rattle.frame.specs.Builder.{silentFrame}
 use Rattle.reader.specs.Reading.{padded}
-use Rattle.readings.specs.Lists.{lowBytes, wordsBytes}
+use Rattle.readings.specs.Lists.{wordsBytes}
 use Rattle.readings.proofs.Laying.{words-placed, words-all}
 use Rattle.readings.proofs.frame_bytes.Statement.{statement}
 use Rattle.readings.proofs.frame_bytes.Tie as tie
