@@ -12,16 +12,16 @@ use Rattle.checks.specs.Checks.{oneIfGiven, Check, firstFailing}
 -- whether check k fails, and its number
 abbrev pub failsAt : ℕ → List Check → Bool
 failsAt k [] = false
-failsAt zero (c ∷ cs) = c .fails
+failsAt zero (c ∷ cs) = c .0
 failsAt (suc k) (c ∷ cs) = failsAt k cs
 
 abbrev pub numberAt : ℕ → List Check → ℕ
 numberAt k [] = 0
-numberAt zero (c ∷ cs) = c .number
+numberAt zero (c ∷ cs) = c .1
 numberAt (suc k) (c ∷ cs) = numberAt k cs
 
-head-is : (n : ℕ) (b : Bool) (c : Check) (cs : List Check) → n ≡ firstFailing (c ∷ cs) → c .fails ≡ b → n ≡ cond b (c .number) (firstFailing cs)
-head-is n b c cs p e = p ∙ ap (λ (f : Bool). cond f (c .number) (firstFailing cs)) e
+head-is : (n : ℕ) (b : Bool) (c : Check) (cs : List Check) → n ≡ firstFailing (c ∷ cs) → c .0 ≡ b → n ≡ cond b (c .1) (firstFailing cs)
+head-is n b c cs p e = p ∙ ap (λ (f : Bool). cond f (c .1) (firstFailing cs)) e
 
 -- check k passes: the answer is that of the others
 pub skip : (n k : ℕ) (l : List Check) → n ≡ firstFailing (drop k l) → failsAt k l ≡ false → n ≡ firstFailing (drop (suc k) l)

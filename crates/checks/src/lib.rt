@@ -1,7 +1,7 @@
 // The checks that `configure` makes before its first exchange (lib.rs; document 01, 'Settings to registers'), those that document 01 adds
 // among them. Nothing is left out.
-// Proved: the answer is the number of the first check of specs/Checks.antt that fails, in that order. What holds of settings that pass
-// them all is in plans/specs/Accepted.antt.
+// Proved: the answer is the number of the first check of specs/Checks.antt that fails, in that order; none does
+// exactly for the settings in the ranges of specs/InRange.antt (proofs/Accepted.antt).
 ghost use mathlib.Core.Path.{_≡_};
 ghost use mathlib.Core.Bool.{not, _&&_, _||_};
 ghost use lib.Dec.{ltb, eqb};
@@ -82,23 +82,15 @@ pub fn outside_band(mode: DrivingMode, hz: u16) -> bool
 pub fn is_tracking(mode: DrivingMode) -> bool
     ensures { λ r. ⌜ r ≡ spec.tracking mode ⌝ }
 {
-    match mode {
-        DrivingMode::FREQUENCY_TRACK => true,
-        DrivingMode::WIDEBAND => false,
-        DrivingMode::CUSTOM_WAVEFORM => false,
-    }
+    let tracks = DrivingMode::FREQUENCY_TRACK;
+    mode.code() == tracks.code()
 }
 
 pub fn is_etwm(mode: OperationMode) -> bool
     ensures { λ r. ⌜ r ≡ spec.etwm mode ⌝ }
 {
-    match mode {
-        OperationMode::INACTIVE => false,
-        OperationMode::DRO_MODE => false,
-        OperationMode::PWM_MODE => false,
-        OperationMode::RTWM_MODE => false,
-        OperationMode::ETWM_MODE => true,
-    }
+    let etwm = OperationMode::ETWM_MODE;
+    mode.code() == etwm.code()
 }
 
 // Acceleration or rapid stop when not tracking.
@@ -143,11 +135,8 @@ fn has_too_many_triggers(variant: Variant, device: DeviceConfig) -> bool
 fn is_DA7281(variant: Variant) -> bool
     ensures { λ r. ⌜ r ≡ spec.isDA7281 variant ⌝ }
 {
-    match variant {
-        Variant::DA7280 => false,
-        Variant::DA7281 => true,
-        Variant::DA7282 => false,
-    }
+    let other = Variant::DA7281;
+    variant.code() == other.code()
 }
 
 fn outside_impedance(mOhm: u16) -> bool

@@ -6,8 +6,6 @@ use mathlib.Core.Path.{_≡_, refl}
 use mathlib.Core.Bool.{Bool, true, false, cond}
 use mathlib.Core.List.{List, []}
 use lib.ListN.{length, length-append}
-use Rattle.field.specs.Layout.{Part}
-use Rattle.registers_trigger.specs.Table.{gpi-0-ctl, gpi-1-ctl, gpi-2-ctl}
 use Rattle.config.specs.declared.ActuatorConfig.{ActuatorConfig}
 use Rattle.config.specs.declared.DeviceConfig.{DeviceConfig}
 use Rattle.config.specs.declared.Pid.{Pid}
@@ -54,14 +52,14 @@ driving «FREQUENCY_TRACK» = omega arith
 driving WIDEBAND = omega arith
 driving «CUSTOM_WAVEFORM» = omega arith
 
-gpi : (parts : List Part) (digit : String) (t : Trigger) → length (gpiSteps parts digit t) ≤ 1
+gpi : (digit : String) (t : Trigger) → length (gpiSteps digit t) ≤ 1
 unfolding gpiSteps
-gpi parts digit trigger.Absent = omega arith
-gpi parts digit (trigger.Given t) = omega arith
+gpi digit trigger.Absent = omega arith
+gpi digit (trigger.Given t) = omega arith
 
 given : (s t u : Trigger) → length (givenSteps s t u) ≤ 3
 unfolding givenSteps
-given s t u = simp length-append (omega (arith, gpi gpi-0-ctl "0" s, gpi gpi-1-ctl "1" t, gpi gpi-2-ctl "2" u))
+given s t u = simp length-append (omega (arith, gpi "0" s, gpi "1" t, gpi "2" u))
 
 pub triggers : (d : DeviceConfig) → length (triggerSteps d) ≤ 3
 unfolding triggerSteps

@@ -2,16 +2,15 @@
 -- name would have no width, and its value would be missing. In a fresh byte a field that is given 0 changes nothing, however spelt.
 -- Assumes nothing.
 use Prim.Native.Nat.{ℕ}
+use Prim.Native.String.{String}
 use mathlib.Core.Path.{_≡_, refl}
 use mathlib.Core.Bool.{Bool, true, false, _&&_}
 use mathlib.Core.List.{List, [], _∷_}
 use lib.Dec.{ltb, eqb}
 use lib.ListN.{getD}
 use Rattle.field.specs.Field.{withOf}
-use Rattle.field.specs.Layout.{Part, widthOf}
-use Rattle.registers_actuator.specs.Table.{top-cfg1, top-cfg2, top-cfg4, actuator3, frq-lra-per-l}
-use Rattle.registers_control.specs.Table.{top-int-cfg8, seq-ctl1}
-use Rattle.registers_trigger.specs.Table.{top-cfg5, frq-phase-l, gpi-0-ctl, gpi-1-ctl, gpi-2-ctl}
+use Rattle.field.specs.Layout.{widthOf}
+use Rattle.registers.specs.Table.{addressOf, partsOf}
 use Rattle.config.specs.declared.ActuatorConfig.{ActuatorConfig}
 use Rattle.config.specs.declared.ActuatorType.the-variants.{ERM}
 use Rattle.config.specs.declared.DeviceConfig.{DeviceConfig}
@@ -29,34 +28,35 @@ use Rattle.plans.specs.Configure.{featureSteps, limitSteps, frequencySte
 
 -- ---- what is checked
 
--- a register's table, the fields that a step gives it, and the step
+-- a register, the fields that a step gives it, and the step
 pub record Row : Type 0 where
-  pub parts : List Part
+  pub register : String
   pub fields : List FieldValue
   pub writes : Step
 
 -- the i-th of some steps
-abbrev pub row : List Part → List FieldValue → List Step → ℕ → Row
-row parts fields xs i = record { parts = parts; fields = fields; writes = getD xs i (Read 0) }
+abbrev pub row : String → List FieldValue → List Step → ℕ → Row
+row register fields xs i = record { register = register; fields = fields; writes = getD xs i (Read 0) }
 
 -- whether every name is in the table
-abbrev named : List Part → List FieldValue → Bool
-named parts [] = true
-named parts (put name value ∷ gs) = ltb 0 (widthOf parts name) && named parts gs
+abbrev named : String → List FieldValue → Bool
+named register [] = true
+named register (put name value ∷ gs) = ltb 0 (widthOf (partsOf register) name) && named register gs
 
 -- whether a step writes these fields: a fresh byte, or the byte read last with them, be that 0 or 255
-abbrev makes : List Part → List FieldValue → Step → Bool
-makes parts gs (Write register value) = eqb (fresh parts gs) value
-makes parts gs (Update register shift width value) =
-    eqb (withFields parts 0 gs) (withOf 0 shift width value) && eqb (withFields parts 255 gs) (withOf 255 shift width value)
-makes parts gs (Read register) = false
-makes parts gs (Match register value) = false
-makes parts gs (Chunk offset len) = false
-makes parts gs (Store index) = false
+abbrev makes : String → List FieldValue → Step → Bool
+makes name gs (Write register value) = eqb register (addressOf name) && eqb (fresh name gs) value
+makes name gs (Update register shift width value) =
+    eqb register (addressOf name) && eqb (fresh name gs) (withOf 0 shift width value)
+    && eqb (withFields (partsOf name) 255 gs) (withOf 255 shift width value)
+makes name gs (Read register) = false
+makes name gs (Match register value) = false
+makes name gs (Chunk offset len) = false
+makes name gs (Store index) = false
 
 abbrev pub allNamed : List Row → Bool
 allNamed [] = true
-allNamed (r ∷ rs) = named (r .parts) (r .fields) && makes (r .parts) (r .fields) (r .writes) && allNamed rs
+allNamed (r ∷ rs) = named (r .register) (r .fields) && makes (r .register) (r .fields) (r .writes) && allNamed rs
 
 -- ---- settings that set the fields
 
@@ -92,7 +92,7 @@ device accelerates =
 
 rows : List Row
 rows =
-    row top-cfg1 (
+    row "TOP_CFG1" (
     put "ACTUATOR_TYPE" 1
     ∷ put "BEMF_SENSE_EN" 1
     ∷ put "FREQ_TRACK_EN" 1
@@ -101,17 +101,17 @@ rows =
     ∷ put "AMP_PID_EN" 0
     ∷ put "EMBEDDED_MODE" 1
     ∷ []) (featureSteps actuator (device true)) 0
-    ∷ row top-cfg2 (put "MEM_DATA_SIGNED" 1 ∷ []) (featureSteps actuator (device false)) 2
-    ∷ row top-cfg5 (put "V2I_FACTOR_OFFSET_EN" 1 ∷ []) (featureSteps actuator (device true)) 3
-    ∷ row actuator3 (put "IMAX" 23 ∷ []) (limitSteps actuator) 2
-    ∷ row frq-lra-per-l (put "LRA_PER_L" 8 ∷ []) (frequencySteps 150) 1
-    ∷ row top-int-cfg8 (put "RAPID_STOP_LIM" 7 ∷ []) rapidStopSteps 1
-    ∷ row frq-phase-l (put "DELAY_SHIFT_L" 0 ∷ put "DELAY_FREEZE" 1 ∷ []) phaseSteps 1
-    ∷ row seq-ctl1 (put "WAVEGEN_MODE" 1 ∷ []) customSteps 0
-    ∷ row top-cfg4 (put "V2I_FACTOR_FREEZE" 1 ∷ []) customSteps 1
-    ∷ row gpi-0-ctl (put "GPI0_POLARITY" 2 ∷ put "GPI0_MODE" 1 ∷ put "GPI0_SEQUENCE_ID" 15 ∷ []) (gpiSteps gpi-0-ctl "0" gpi) 0
-    ∷ row gpi-1-ctl (put "GPI1_POLARITY" 2 ∷ put "GPI1_MODE" 1 ∷ put "GPI1_SEQUENCE_ID" 15 ∷ []) (gpiSteps gpi-1-ctl "1" gpi) 0
-    ∷ row gpi-2-ctl (put "GPI2_POLARITY" 2 ∷ put "GPI2_MODE" 1 ∷ put "GPI2_SEQUENCE_ID" 15 ∷ []) (gpiSteps gpi-2-ctl "2" gpi) 0
+    ∷ row "TOP_CFG2" (put "MEM_DATA_SIGNED" 1 ∷ []) (featureSteps actuator (device false)) 2
+    ∷ row "TOP_CFG5" (put "V2I_FACTOR_OFFSET_EN" 1 ∷ []) (featureSteps actuator (device true)) 3
+    ∷ row "ACTUATOR3" (put "IMAX" 23 ∷ []) (limitSteps actuator) 2
+    ∷ row "FRQ_LRA_PER_L" (put "LRA_PER_L" 8 ∷ []) (frequencySteps 150) 1
+    ∷ row "TOP_INT_CFG8" (put "RAPID_STOP_LIM" 7 ∷ []) rapidStopSteps 1
+    ∷ row "FRQ_PHASE_L" (put "DELAY_SHIFT_L" 0 ∷ put "DELAY_FREEZE" 1 ∷ []) phaseSteps 1
+    ∷ row "SEQ_CTL1" (put "WAVEGEN_MODE" 1 ∷ []) customSteps 0
+    ∷ row "TOP_CFG4" (put "V2I_FACTOR_FREEZE" 1 ∷ []) customSteps 1
+    ∷ row "GPI_0_CTL" (put "GPI0_POLARITY" 2 ∷ put "GPI0_MODE" 1 ∷ put "GPI0_SEQUENCE_ID" 15 ∷ []) (gpiSteps "0" gpi) 0
+    ∷ row "GPI_1_CTL" (put "GPI1_POLARITY" 2 ∷ put "GPI1_MODE" 1 ∷ put "GPI1_SEQUENCE_ID" 15 ∷ []) (gpiSteps "1" gpi) 0
+    ∷ row "GPI_2_CTL" (put "GPI2_POLARITY" 2 ∷ put "GPI2_MODE" 1 ∷ put "GPI2_SEQUENCE_ID" 15 ∷ []) (gpiSteps "2" gpi) 0
     ∷ []
 
 names : allNamed rows ≡ true

@@ -4,11 +4,6 @@ use Prim.Native.String.{String, _++_ as _&_}
 use mathlib.Core.Bool.{Bool, true, false, cond, not, _&&_}
 use mathlib.Core.List.{List, [], _∷_, _++_}
 use Rattle.field.specs.Field.{codeOf}
-use Rattle.field.specs.Layout.{Part}
-use Rattle.registers.specs.Addresses.{addressOf}
-use Rattle.registers_actuator.specs.Table.{top-cfg1, top-cfg2, top-cfg4, actuator3, frq-lra-per-l}
-use Rattle.registers_control.specs.Table.{top-int-cfg8, seq-ctl1}
-use Rattle.registers_trigger.specs.Table.{top-cfg5, frq-phase-l, gpi-0-ctl, gpi-1-ctl, gpi-2-ctl}
 use Rattle.config.specs.declared.ActuatorConfig.{ActuatorConfig}
 use Rattle.config.specs.declared.DeviceConfig.{DeviceConfig}
 use Rattle.config.specs.declared.Pid.{Pid}
@@ -23,8 +18,7 @@ use Rattle.checks.specs.Checks.{tracking, etwm}
 use Rattle.convert.specs.Convert.{voltageByte, imaxCode, v2iWord, periodWord, highPart, lowPart}
 use Rattle.convert.specs.Trim.{trim4Byte}
 use Rattle.exchange.specs.declared.Step.{Step}
-use Rattle.exchange.specs.declared.Step.the-variants.{Read}
-use Rattle.plans.specs.Fields.{put, fresh, written, updated}
+use Rattle.plans.specs.Fields.{put, fresh, written, writtenWith, updated}
 
 -- whether the chip accelerates: only where it tracks
 abbrev pub accelerates : DeviceConfig → Bool
@@ -36,24 +30,22 @@ stopsRapidly d = tracking (d .«driving_mode») && d .«rapid_stop»
 -- EMBEDDED_MODE clears faults when the chip idles
 abbrev pub topCfg1 : ActuatorConfig → DeviceConfig → ℕ
 topCfg1 a d =
-    fresh top-cfg1 (put "ACTUATOR_TYPE" (actuatorCode (a .«actuator_type»))
+    fresh "TOP_CFG1" (put "ACTUATOR_TYPE" (actuatorCode (a .«actuator_type»))
     ∷ put "BEMF_SENSE_EN" (codeOf (tracking (d .«driving_mode»))) ∷ put "FREQ_TRACK_EN" (codeOf (tracking (d .«driving_mode»)))
-    ∷ put "ACCELERATION_EN" (codeOf (accelerates d)) ∷ put "RAPID_STOP_EN" (codeOf (stopsRapidly d))
-    ∷ put "AMP_PID_EN" 0 ∷ put "EMBEDDED_MODE" 1 ∷ [])
+    ∷ put "ACCELERATION_EN" (codeOf (accelerates d)) ∷ put "RAPID_STOP_EN" (codeOf (stopsRapidly d)) ∷ put "AMP_PID_EN" 0 ∷ put "EMBEDDED_MODE" 1 ∷ [])
 
 -- TOP_CFG1, TOP_CFG2 (read and updated), TOP_CFG5
 unfoldable pub featureSteps : ActuatorConfig → DeviceConfig → List Step
 featureSteps a d =
     written "TOP_CFG1" (topCfg1 a d)
-    ∷ Read (addressOf "TOP_CFG2") ∷ updated (addressOf "TOP_CFG2") top-cfg2 (put "MEM_DATA_SIGNED" (codeOf (not (accelerates d))))
-    ∷ written "TOP_CFG5" (fresh top-cfg5 (put "V2I_FACTOR_OFFSET_EN" (codeOf (accelerates d)) ∷ [])) ∷ []
+    ∷ (updated "TOP_CFG2" (put "MEM_DATA_SIGNED" (codeOf (not (accelerates d))))
+    ++ (writtenWith "TOP_CFG5" (put "V2I_FACTOR_OFFSET_EN" (codeOf (accelerates d)) ∷ []) ∷ []))
 
 -- ACTUATOR1 to 3
 unfoldable pub limitSteps : ActuatorConfig → List Step
 limitSteps a =
-    written "ACTUATOR1" (voltageByte (a .«nominal_max_mV»))
-    ∷ written "ACTUATOR2" (voltageByte (a .«absolute_max_mV»))
-    ∷ written "ACTUATOR3" (fresh actuator3 (put "IMAX" (imaxCode (a .«max_current_mA»)) ∷ [])) ∷ []
+    written "ACTUATOR1" (voltageByte (a .«nominal_max_mV»)) ∷ written "ACTUATOR2" (voltageByte (a .«absolute_max_mV»))
+    ∷ writtenWith "ACTUATOR3" (put "IMAX" (imaxCode (a .«max_current_mA»)) ∷ []) ∷ []
 
 abbrev pub v2iFor : ActuatorConfig → ℕ
 v2iFor a = v2iWord (a .«impedance_mOhm») (imaxCode (a .«max_current_mA»))
@@ -61,8 +53,7 @@ v2iFor a = v2iWord (a .«impedance_mOhm») (imaxCode (a .«max_current_mA»))
 -- CALIB_V2I ("high byte written first") and TRIM4
 unfoldable pub calibrationSteps : ActuatorConfig → List Step
 calibrationSteps a =
-    written "CALIB_V2I_H" (v2iFor a / 256) ∷ written "CALIB_V2I_L" (v2iFor a % 256)
-    ∷ written "TRIM4" (trim4Byte (a .«impedance_mOhm») (a .«inductance_uH»)) ∷ []
+    written "CALIB_V2I_H" (v2iFor a / 256) ∷ written "CALIB_V2I_L" (v2iFor a % 256) ∷ written "TRIM4" (trim4Byte (a .«impedance_mOhm») (a .«inductance_uH»)) ∷ []
 
 -- TOP_INT_CFG6 and 7: "PID words lose bit 15"
 unfoldable pub pidSteps : Pid → List Step
@@ -74,22 +65,19 @@ pidSteps (pid.Given kp ki) =
 -- FRQ_LRA_PER: the period word's two parts
 unfoldable pub frequencySteps : ℕ → List Step
 frequencySteps hz =
-    written "FRQ_LRA_PER_H" (highPart (periodWord hz))
-    ∷ written "FRQ_LRA_PER_L" (fresh frq-lra-per-l (put "LRA_PER_L" (lowPart (periodWord hz)) ∷ [])) ∷ []
+    written "FRQ_LRA_PER_H" (highPart (periodWord hz)) ∷ writtenWith "FRQ_LRA_PER_L" (put "LRA_PER_L" (lowPart (periodWord hz)) ∷ []) ∷ []
 
 -- TOP_INT_CFG8, read and updated
 unfoldable pub rapidStopSteps : List Step
-rapidStopSteps = Read (addressOf "TOP_INT_CFG8") ∷ updated (addressOf "TOP_INT_CFG8") top-int-cfg8 (put "RAPID_STOP_LIM" 7) ∷ []
+rapidStopSteps = updated "TOP_INT_CFG8" (put "RAPID_STOP_LIM" 7)
 
 -- FRQ_PHASE
 unfoldable pub phaseSteps : List Step
-phaseSteps = written "FRQ_PHASE_H" 0 ∷ written "FRQ_PHASE_L" (fresh frq-phase-l (put "DELAY_SHIFT_L" 0 ∷ put "DELAY_FREEZE" 1 ∷ [])) ∷ []
+phaseSteps = written "FRQ_PHASE_H" 0 ∷ writtenWith "FRQ_PHASE_L" (put "DELAY_SHIFT_L" 0 ∷ put "DELAY_FREEZE" 1 ∷ []) ∷ []
 
 -- SEQ_CTL1 and TOP_CFG4
 unfoldable pub customSteps : List Step
-customSteps =
-    written "SEQ_CTL1" (fresh seq-ctl1 (put "WAVEGEN_MODE" 1 ∷ []))
-    ∷ written "TOP_CFG4" (fresh top-cfg4 (put "V2I_FACTOR_FREEZE" 1 ∷ [])) ∷ []
+customSteps = writtenWith "SEQ_CTL1" (put "WAVEGEN_MODE" 1 ∷ []) ∷ writtenWith "TOP_CFG4" (put "V2I_FACTOR_FREEZE" 1 ∷ []) ∷ []
 
 unfoldable pub drivingSteps : DrivingMode → List Step
 drivingSteps «FREQUENCY_TRACK» = []
@@ -97,18 +85,18 @@ drivingSteps WIDEBAND = phaseSteps
 drivingSteps «CUSTOM_WAVEFORM» = phaseSteps ++ customSteps
 
 -- the byte of the GPI register with this digit in its names: "a trigger's `mode` ignored, the GPI mode bit always 1"
-unfoldable pub gpiByte : List Part → String → TriggerConfig → ℕ
-gpiByte parts digit t =
-    fresh parts (put ("GPI" & digit & "_POLARITY") (polarityCode (t .polarity))
+unfoldable pub gpiByte : String → TriggerConfig → ℕ
+gpiByte digit t =
+    fresh ("GPI_" & digit & "_CTL") (put ("GPI" & digit & "_POLARITY") (polarityCode (t .polarity))
     ∷ put ("GPI" & digit & "_MODE") 1 ∷ put ("GPI" & digit & "_SEQUENCE_ID") (t .«sequence_id») ∷ [])
 
-unfoldable pub gpiSteps : List Part → String → Trigger → List Step
-gpiSteps parts digit trigger.Absent = []
-gpiSteps parts digit (trigger.Given t) = written ("GPI_" & digit & "_CTL") (gpiByte parts digit t) ∷ []
+unfoldable pub gpiSteps : String → Trigger → List Step
+gpiSteps digit trigger.Absent = []
+gpiSteps digit (trigger.Given t) = written ("GPI_" & digit & "_CTL") (gpiByte digit t) ∷ []
 
 -- GPI_0_CTL to GPI_2_CTL, those whose triggers are given
 unfoldable pub givenSteps : Trigger → Trigger → Trigger → List Step
-givenSteps first second third = gpiSteps gpi-0-ctl "0" first ++ (gpiSteps gpi-1-ctl "1" second ++ gpiSteps gpi-2-ctl "2" third)
+givenSteps first second third = gpiSteps "0" first ++ (gpiSteps "1" second ++ gpiSteps "2" third)
 
 -- in ETWM mode only
 unfoldable pub triggerSteps : DeviceConfig → List Step

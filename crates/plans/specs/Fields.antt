@@ -4,9 +4,9 @@ use Prim.Native.Nat.{ℕ}
 use Prim.Native.String.{String}
 use mathlib.Core.List.{List, [], _∷_}
 use Rattle.field.specs.Layout.{Part, startOf, widthOf, withAt}
-use Rattle.registers.specs.Addresses.{addressOf}
+use Rattle.registers.specs.Table.{addressOf, partsOf}
 use Rattle.exchange.specs.declared.Step.{Step}
-use Rattle.exchange.specs.declared.Step.the-variants.{Write, Update}
+use Rattle.exchange.specs.declared.Step.the-variants.{Write, Read, Update}
 
 -- a field's name and value
 pub data FieldValue : Type 0 where
@@ -16,14 +16,19 @@ abbrev pub withFields : List Part → ℕ → List FieldValue → ℕ
 withFields parts b [] = b
 withFields parts b (put name value ∷ fields) = withFields parts (withAt parts name b value) fields
 
--- "`new` is zero": a byte with these fields, the others zero
-abbrev pub fresh : List Part → List FieldValue → ℕ
-fresh parts fields = withFields parts 0 fields
+-- "`new` is zero": a register's byte with these fields, the others zero
+abbrev pub fresh : String → List FieldValue → ℕ
+fresh register fields = withFields (partsOf register) 0 fields
 
 -- a register, by its name, that gets a byte
 abbrev pub written : String → ℕ → Step
 written register value = Write (addressOf register) value
 
--- the byte read last, with one field replaced
-abbrev pub updated : ℕ → List Part → FieldValue → Step
-updated register parts (put name value) = Update register (startOf parts name) (widthOf parts name) value
+-- one that gets these fields, the others zero
+abbrev pub writtenWith : String → List FieldValue → Step
+writtenWith register fields = written register (fresh register fields)
+
+-- a register read, and written back with one field replaced
+abbrev pub updated : String → FieldValue → List Step
+updated register (put name value) =
+    Read (addressOf register) ∷ Update (addressOf register) (startOf (partsOf register) name) (widthOf (partsOf register) name) value ∷ []

@@ -7,7 +7,6 @@ ghost use Rattle.exchange.specs.State.{pushed, pushedAll};
 ghost use Rattle.exchange.specs.declared.Step.the-variants.{Write, Read, Update};
 ghost use Rattle.config.specs.declared.DrivingMode.the-variants.{«CUSTOM_WAVEFORM»};
 ghost use Rattle.config.specs.declared.Pid.the-variants.{Given};
-ghost use Rattle.registers_trigger.specs.Table.{gpi-0-ctl, gpi-1-ctl, gpi-2-ctl};
 ghost use Rattle.plans.specs.Configure.{accelerates, stopsRapidly, topCfg1, featureSteps, limitSteps, calibrationSteps, pidSteps, frequencySteps, rapidStopSteps, phaseSteps, customSteps, drivingSteps, gpiByte, gpiSteps, givenSteps, triggerSteps, configureSteps};
 use config::ActuatorConfig;
 use config::DeviceConfig;
@@ -255,7 +254,7 @@ fn gpis(session: &mut [u8], first: Trigger, second: Trigger, third: Trigger)
 }
 
 fn trigger_0(session: &mut [u8], trigger: Trigger)
-    ensures { λ _. ⌜ now (session .exit) ≡ pushedAll (now (session .entry)) (gpiSteps gpi-0-ctl "0" trigger) ⌝ }
+    ensures { λ _. ⌜ now (session .exit) ≡ pushedAll (now (session .entry)) (gpiSteps "0" trigger) ⌝ }
 {
     match trigger {
         Trigger::Absent => {}
@@ -265,7 +264,7 @@ fn trigger_0(session: &mut [u8], trigger: Trigger)
 
 // The mode bit is always set, whatever the trigger's mode.
 fn gpi_0(t: TriggerConfig) -> u8
-    ensures { λ r. ⌜ r ≡ gpiByte gpi-0-ctl "0" t ⌝ }
+    ensures { λ r. ⌜ r ≡ gpiByte "0" t ⌝ }
 {
     let polarity = t.polarity;
     let gpi = GPI_0_CTL::new()
@@ -276,7 +275,7 @@ fn gpi_0(t: TriggerConfig) -> u8
 }
 
 fn trigger_1(session: &mut [u8], trigger: Trigger)
-    ensures { λ _. ⌜ now (session .exit) ≡ pushedAll (now (session .entry)) (gpiSteps gpi-1-ctl "1" trigger) ⌝ }
+    ensures { λ _. ⌜ now (session .exit) ≡ pushedAll (now (session .entry)) (gpiSteps "1" trigger) ⌝ }
 {
     match trigger {
         Trigger::Absent => {}
@@ -286,7 +285,7 @@ fn trigger_1(session: &mut [u8], trigger: Trigger)
 
 // The mode bit is always set, whatever the trigger's mode.
 fn gpi_1(t: TriggerConfig) -> u8
-    ensures { λ r. ⌜ r ≡ gpiByte gpi-1-ctl "1" t ⌝ }
+    ensures { λ r. ⌜ r ≡ gpiByte "1" t ⌝ }
 {
     let polarity = t.polarity;
     let gpi = GPI_1_CTL::new()
@@ -297,7 +296,7 @@ fn gpi_1(t: TriggerConfig) -> u8
 }
 
 fn trigger_2(session: &mut [u8], trigger: Trigger)
-    ensures { λ _. ⌜ now (session .exit) ≡ pushedAll (now (session .entry)) (gpiSteps gpi-2-ctl "2" trigger) ⌝ }
+    ensures { λ _. ⌜ now (session .exit) ≡ pushedAll (now (session .entry)) (gpiSteps "2" trigger) ⌝ }
 {
     match trigger {
         Trigger::Absent => {}
@@ -307,7 +306,7 @@ fn trigger_2(session: &mut [u8], trigger: Trigger)
 
 // The mode bit is always set, whatever the trigger's mode.
 fn gpi_2(t: TriggerConfig) -> u8
-    ensures { λ r. ⌜ r ≡ gpiByte gpi-2-ctl "2" t ⌝ }
+    ensures { λ r. ⌜ r ≡ gpiByte "2" t ⌝ }
 {
     let polarity = t.polarity;
     let gpi = GPI_2_CTL::new()

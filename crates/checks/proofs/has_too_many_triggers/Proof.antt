@@ -10,7 +10,11 @@ returns c =
     let variant = sym (c .before .before .is-DA7281 .ensures) ∙ c .before .if2 .taken in
     simp (c .triggers-given .ensures, variant, etwm)
 
+returns-2 : tie.Need-returns-2
+returns-2 c =
+    simp (sym (c .before .is-DA7281 .ensures) ∙ c .if2 .left, sym (c .before .before .before .is-etwm .ensures) ∙ c .before .before .if1 .taken)
+
 pub has-too-many-triggers-spec : {M : Type 1} → statement M
 has-too-many-triggers-spec =
     tie.close
-    (tie.spec (λ c κs. search needs) (λ c κs. search needs) (λ c κs. search needs) returns (λ c. search needs) (λ c. search needs))
+    (tie.spec (λ c κs. search needs) (λ c κs. search needs) (λ c κs. search needs) returns returns-2 (λ c. simp (sym (c .before .is-etwm .ensures) ∙ c .if1 .left)))

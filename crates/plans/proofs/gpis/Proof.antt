@@ -1,5 +1,4 @@
 -- The steps that the calls push, one after the other, are the list. Assumes nothing.
-use Rattle.registers_trigger.specs.Table.{gpi-0-ctl, gpi-1-ctl, gpi-2-ctl}
 use Rattle.plans.specs.Configure.{gpiSteps, givenSteps}
 use mathlib.Core.List.{_++_}
 use Rattle.plans.proofs.Steps.{joined}
@@ -10,7 +9,7 @@ use Rattle.plans.proofs.gpis.Tie as tie
 
 returns : tie.Need-returns
 unfolding givenSteps
-returns c = let a = c .before .before .before .before .before .before .before .before .before .before .before .before .before .args in joined (gpiSteps gpi-0-ctl "0" (a .first)) (gpiSteps gpi-1-ctl "1" (a .second) ++ gpiSteps gpi-2-ctl "2" (a .third)) _ _ _ (c .before .before .before .before .before .before .before .before .before .before .trigger-0 .ensures) (joined (gpiSteps gpi-1-ctl "1" (a .second)) (gpiSteps gpi-2-ctl "2" (a .third)) _ _ _ (c .before .before .before .before .before .before .trigger-1 .ensures) (c .before .before .trigger-2 .ensures))
+returns c = let a = c .before .before .before .before .before .before .before .before .before .before .before .before .before .args in joined (gpiSteps "0" (a .first)) (gpiSteps "1" (a .second) ++ gpiSteps "2" (a .third)) _ _ _ (c .before .before .before .before .before .before .before .before .before .before .trigger-0 .ensures) (joined (gpiSteps "1" (a .second)) (gpiSteps "2" (a .third)) _ _ _ (c .before .before .before .before .before .before .trigger-1 .ensures) (c .before .before .trigger-2 .ensures))
 
 pub gpis-spec : {M : Type 1} → statement M
 gpis-spec =
