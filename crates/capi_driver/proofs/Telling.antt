@@ -1,20 +1,31 @@
 -- No word misleads: each number is given back. Assumes nothing.
-use Prim.Native.Nat.{ℕ, zero, suc, _+_, _*_, _/_, _%_, _<_}
+use Prim.Native.Nat.{ℕ, zero, suc, _+_, _*_, _/_, _%_, _≤_, _<_, min}
 use native.Mathlib.Omega.{arith}
-use mathlib.Core.Path.{_≡_, refl}
+use mathlib.Core.Path.{_≡_, refl, ap, _∙_}
 use mathlib.Core.Bool.{Bool, true, false, cond}
-use mathlib.Core.List.{List, [], _∷_}
+use mathlib.Core.List.{List, [], _∷_, _++_}
 use lib.Dec.{eqb}
-use lib.ListN.{getD}
-use borrow.Author.Tests.{ne-eqb, ltb-true}
+use lib.ListN.{length, drop, getD, replicate, length-take, length-replicate}
+use borrow.Author.Tests.{eq-eqb, ne-eqb, ltb-true}
 use Rattle.laws.specs.Bytes.{Bytes}
 use Rattle.field.specs.Field.{codeOf}
+use Rattle.exchange.specs.declared.Exchange.{Exchange}
 use Rattle.exchange.specs.declared.Step.{Step}
-use Rattle.exchange.specs.State.{isBegun, madeIn, purposeIn, left, noneLeft, completed}
-use Rattle.exchange.specs.Turn.{pendingFor, pendingOf}
+use Rattle.exchange.specs.declared.Step.the-variants.{Write, Read, Update, Match, Chunk, Store}
+use Rattle.exchange.specs.declared.Reply.{Reply}
+use Rattle.exchange.specs.declared.Reply.the-variants.{Done}
+use Rattle.exchange.specs.State.{isBegun, madeIn, countIn, purposeIn, imageIn, left, noneLeft, completed}
+use Rattle.exchange.specs.Turn.{pendingFor, pendingOf, wanted, resized, fitsNext, fitOf, effectOf, stateAfter, reportOf}
+use Rattle.exchange.specs.Session.{AnswerCall, takenAt, afterCall, sent}
+use Rattle.exchange.proofs.Moves.{left-counts}
+use Rattle.exchange.proofs.Session.{session}
 use Rattle.exchange.proofs.Takes.{sends}
-use Rattle.outcome.specs.Outcome.{valueIn, outcomeOf}
-use Rattle.capi_driver.specs.Words.{exchangeWord, reportWord, resultWord}
+use Rattle.da728x.specs.Record.{recordAt}
+use Rattle.da728x.proofs.Kept.{record-kept}
+use Rattle.outcome.specs.declared.Change.{Change}
+use Rattle.outcome.specs.declared.Change.the-variants.{Same, To}
+use Rattle.outcome.specs.Outcome.{valueIn, outcomeOf, recordBy}
+use Rattle.capi_driver.specs.Words.{exchangeWord, replyOf, reportWord, recordOut, resultWord}
 use Rattle.capi_driver.specs.Telling.{Telling}
 
 three : (a b c : ℕ) → a < 256 → b < 256 →
@@ -55,24 +66,99 @@ pick (suc (suc (suc (suc zero)))) a b c f g h = g
 pick (suc (suc (suc (suc (suc zero))))) a b c f g h = h
 pick (suc (suc (suc (suc (suc (suc n)))))) a b c f g h = omega arith
 
+counted : (st : List ℕ) → Bytes st → countIn st < 256
+counted st h = go (isBegun st)
+  where
+    go : (k : Bool) → cond k (madeIn st) 0 < 256
+    go true = byte-of st 2 h
+    go false = omega arith
+
 bounded : (st : List ℕ) → Bytes st → (outcomeOf st .value < 16777216) × (outcomeOf st .made < 256)
 unfolding outcomeOf
-bounded st h = (value (completed st), made (isBegun st))
+bounded st h = (value (completed st), counted st h)
   where
     value : (k : Bool) → cond k (valueIn st) 0 < 16777216
     value false = omega arith
     value true = pick (purposeIn st) _ _ _ (omega (arith, byte-of st 3 h)) (omega (arith, byte-of st 3 h, byte-of st 4 h, byte-of st 5 h)) (omega arith)
 
-    made : (k : Bool) → cond k (madeIn st) 0 < 256
-    made true = byte-of st 2 h
-    made false = omega arith
+-- an exchange sends at most 33 bytes
+bounded-exchange : (st : List ℕ) → Bytes st → (pendingOf st .len < 256) × (pendingOf st .address < 256)
+bounded-exchange st h = go (left st)
+  where
+    go : (l : List Step) → (pendingFor st l .len < 256) × (pendingFor st l .address < 256)
+    go [] = (omega arith, omega arith)
+    go (Write r v ∷ xs) = (omega arith, byte-of st 0 h)
+    go (Read r ∷ xs) = (omega arith, byte-of st 0 h)
+    go (Update r s w v ∷ xs) = (omega arith, byte-of st 0 h)
+    go (Match r v ∷ xs) = (omega arith, byte-of st 0 h)
+    go (Chunk i n ∷ xs) = (omega (arith, length-take (min n 32) (drop i (imageIn st))), byte-of st 0 h)
+    go (Store i ∷ xs) = (omega arith, byte-of st 0 h)
+
+-- what is told of an answer, by how it fits
+choice : {A : Type 0} (P : A → Type 0) (q : Bool) (x y : A) → P x → P y → P (cond q x y)
+choice P true x y p r = p
+choice P false x y p r = r
+
+module _ (st : List ℕ) (kind byte n : ℕ) (h : Bytes st) (b : byte < 256) where
+  told : (reportOf st (replyOf kind byte) n .number < 256) × (reportOf st (replyOf kind byte) n .code < 256)
+  unfolding reportOf fitOf
+  told = go (resized st n) (left st) kind
+    where
+      go : (k : Bool) (l : List Step) (m : ℕ) →
+          (effectOf (cond k (fitsNext [] Done) (fitsNext l (replyOf m byte))) .number < 256) × (effectOf (cond k (fitsNext [] Done) (fitsNext l (replyOf m byte))) .code < 256)
+      go true l m = (omega arith, omega arith)
+      go false [] m = (omega arith, omega arith)
+      go false (x ∷ xs) zero = choice (λ f. (effectOf f .number < 256) × (effectOf f .code < 256)) (eqb (wanted x) 0) _ _ (omega arith, omega arith) (omega arith, omega arith)
+      go false (Write r v ∷ xs) (suc zero) = (omega arith, omega arith)
+      go false (Read r ∷ xs) (suc zero) = (omega arith, omega arith)
+      go false (Update r s w v ∷ xs) (suc zero) = (omega arith, omega arith)
+      go false (Match r v ∷ xs) (suc zero) = choice (λ f. (effectOf f .number < 256) × (effectOf f .code < 256)) (eqb byte v) _ _ (omega arith, omega arith) (omega arith, omega arith)
+      go false (Chunk i m ∷ xs) (suc zero) = (omega arith, omega arith)
+      go false (Store i ∷ xs) (suc zero) = (omega arith, omega arith)
+      go false (x ∷ xs) (suc (suc m)) = (omega arith, b)
+
+  -- the call, with some buffer of this length
+  abbrev call : AnswerCall
+  call = record { reply = replyOf kind byte; buffer = replicate n 0 }
+
+  one-sent : length (sent st (call ∷ [])) ≤ 1
+  one-sent = choice (λ (es : List Exchange). length (es ++ []) ≤ 1) (takenAt st call) (pendingOf st ∷ []) [] (omega arith) (omega arith)
+
+  -- one more is counted where a step is left
+  more : countIn (afterCall st call) < 256
+  more = go (left st) refl
+    where
+      go : (l : List Step) → left st ≡ l → countIn (afterCall st call) < 256
+      go [] e = omega (arith, session .count st (call ∷ []), session .within st (call ∷ []), ap length e, counted st h)
+      go (x ∷ xs) e = omega (arith, session .count st (call ∷ []), one-sent, choice (λ (m : ℕ). m < 125) (isBegun st) (madeIn st) 0 (left-counts st x xs e .1) (omega arith))
+
+  made : reportOf st (replyOf kind byte) n .made < 256
+  unfolding reportOf afterCall
+  made = let k = ap (λ (m : ℕ). countIn (stateAfter st (replyOf kind byte) m)) (length-replicate {A = ℕ} n 0) in omega (arith, k, more)
+
+  bounded-report : (reportOf st (replyOf kind byte) n .number < 256) × (reportOf st (replyOf kind byte) n .code < 256) × (reportOf st (replyOf kind byte) n .made < 256)
+  bounded-report = (told .0, told .1, made)
+
+-- ---- the record
+
+records : (l : List ℕ) (c : Change) → length l ≡ 37 → recordAt (recordOut l c) ≡ recordBy (recordAt l) c
+records l Same h = refl
+records l (To r) h = rw (eq-eqb _ _ h) (record-kept r)
+
+spared : (l : List ℕ) (c : Change) → ¬ (length l ≡ 37) → recordOut l c ≡ l
+spared l Same h = refl
+spared l (To r) h = rw (ne-eqb _ _ h)
 
 pub telling : Telling
 unfolding reportWord resultWord
 telling = record {
   exchanges = λ e. three (e .len) (e .address) (e .wanted);
+  bounded-exchange = bounded-exchange;
   ended = ended;
-  bounded = bounded;
   reports = λ t. four (t .number) (t .code) (t .made) (codeOf (t .ended));
+  bounded-report = bounded-report;
+  records = records;
+  spared = spared;
+  bounded = bounded;
   results = λ o. wide (o .value) (o .made) (codeOf (o .completed));
 }

@@ -1,5 +1,5 @@
--- What the functions exported for C answer as one number, and what they make of their arguments: document 01, "functions exported for C on
--- numbers and byte slices"; "The count of exchanges made stands in every session result"; "8 also for `from_bytes`".
+-- What the functions exported for C answer as one number, and how they take what the bus answered and the bytes to upload: document 01,
+-- "functions exported for C on numbers and byte slices"; "The count of exchanges made stands in every session result"; "8 also for `from_bytes`".
 use Prim.Native.Nat.{ℕ, _+_, _-_, _*_}
 use mathlib.Core.Bool.{Bool, cond}
 use mathlib.Core.List.{List, [], _∷_, _++_}
@@ -42,5 +42,5 @@ resultWord o = o .value + 16777216 * o .made + 4294967296 * codeOf (o .completed
 -- an upload of bytes: refused as `from_bytes` refuses them, with 8 for more than a hundred
 unfoldable pub uploadOf : DA728x → List ℕ → Bool → Start
 uploadOf r image lockAfter =
-    unless (loaded (image ++ replicate (100 - length image) 0) (length image) 0 0 .number)
-    (uploadWaveformMemory r (loaded (image ++ replicate (100 - length image) 0) (length image) 0 0 .builder) lockAfter .start)
+    let m = loaded (image ++ replicate (100 - length image) 0) (length image) 0 0 in
+    unless (m .number) (uploadWaveformMemory r (m .builder) lockAfter .start)

@@ -11,10 +11,10 @@ use Rattle.config.specs.declared.ActuatorConfig.{ActuatorConfig}
 use Rattle.config.specs.declared.DeviceConfig.{DeviceConfig}
 use Rattle.config.specs.Codes.{drivingCode}
 use Rattle.config.specs.declared.DrivingMode.the-variants.{«CUSTOM_WAVEFORM»}
-use Rattle.checks.specs.Checks.{Check, check, firstFailing, configureChecks, configureNumber, outsideBand}
+use Rattle.checks.specs.Checks.{Check, firstFailing, configureChecks, configureNumber, outsideBand}
 use Rattle.exchange.specs.declared.Step.{Step}
 use Rattle.exchange.specs.declared.Step.the-variants.{Write, Read}
-use Rattle.registers.specs.Addresses.{addressOf}
+use Rattle.registers.specs.Table.{addressOf}
 use Rattle.exchange.specs.State.{isSession, countIn, completed, Begun, begunIn}
 use Rattle.exchange.specs.Session.{AnswerCall, final, exchangesOf}
 use Rattle.plans.specs.Configure.{configureSteps, frequencySteps}
@@ -25,16 +25,16 @@ use Rattle.da728x.specs.declared.Settings.the-variants.{Absent, Given}
 use Rattle.da728x.proofs.Kept.{record-length}
 use Rattle.convert.specs.Convert.{overrideByte}
 use Rattle.memory.specs.Timebase.{timebaseBit}
-use Rattle.registers_control.specs.Table.{top-ctl1, seq-ctl1}
 use Rattle.plans.specs.Fields.{put, updated}
-use Rattle.sessions.specs.Sessions.{noImage, blank, carrying, enabled, selectStep, startSteps, unlockStep}
+use Rattle.sessions.specs.Sessions.{noImage, blank, carrying, enabled, selectStep, startSteps, setUnlocked}
 use Rattle.outcome.specs.declared.Change.the-variants.{Same, To}
 use Rattle.driver.specs.Operations as operation
 use Rattle.outcome.specs.Outcome.{bigEndian, changeFor, recordBy}
 use Rattle.driver.specs.Operations.{Start, declines, begins, startedIn, unless, withSettings, runs, Operation, overrideChecks, numberChecks, configured}
-use Rattle.driver.specs.Theorems.{Others, Each, Answered, AnswersAs, Answers, allSteps}
+use Rattle.driver.specs.Theorems.{Others, Each, Course, AnswersAs, Answers, allSteps}
 use Rattle.driver.proofs.Begun.{Fits, Holds, holds, no-image, no-record, valueOf, answered, counted, within, all-made}
 use Rattle.exchange.proofs.Latest.{bytesWanted}
+use Rattle.driver.proofs.Mismatch.{AllPlain, all-plain, frequency-plain, configure-plain, send-plain, never}
 use Rattle.driver.proofs.Upload.{few}
 
 -- ---- which numbers
@@ -46,13 +46,13 @@ Small (suc n) = (11 ≤ suc n) × (suc n ≤ 15)
 
 abbrev AllSmall : List Check → Type 0
 AllSmall [] = Unit
-AllSmall (c ∷ cs) = Small (c .number) × AllSmall cs
+AllSmall (c ∷ cs) = Small (c .1) × AllSmall cs
 
 first-small : (cs : List Check) → AllSmall cs → Small (firstFailing cs)
 first-small [] h = tt
-first-small (c ∷ cs) h = go (c .fails) (first-small cs (h .1))
+first-small (c ∷ cs) h = go (c .0) (first-small cs (h .1))
   where
-    go : (b : Bool) → Small (firstFailing cs) → Small (cond b (c .number) (firstFailing cs))
+    go : (b : Bool) → Small (firstFailing cs) → Small (cond b (c .1) (firstFailing cs))
     go true k = h .0
     go false k = k
 
@@ -97,27 +97,27 @@ Sound address result b xs = Fits b xs × Gives result b xs × (b .address ≡ ad
 abbrev pub SoundOperation : Operation → Type 0
 SoundOperation o = By (Sound (o .address) (o .answers)) (o .start)
 
--- and leaves the record
+-- and leaves the record, and compares nothing
 abbrev Quiet : ℕ → (List ℕ → ℕ) → Begun → List Step → Type 0
-Quiet address result b xs = Fits b xs × Gives result b xs × (b .address ≡ address) × ((next r : DA728x) → recordBy r (changeFor (b .purpose) next r) ≡ r)
+Quiet address result b xs = Fits b xs × Gives result b xs × (b .address ≡ address) × ((next r : DA728x) → recordBy r (changeFor (b .purpose) next r) ≡ r) × AllPlain xs
 
 abbrev pub QuietOperation : Operation → Type 0
 QuietOperation o = By (Quiet (o .address) (o .answers)) (o .start)
 
-quiet-runs : (r : DA728x) (xs : List Step) → length xs ≤ 25 → By (Quiet (r .address) (λ bytes. 0)) (runs r xs)
-quiet-runs r xs h = ((h, omega arith, no-image, no-record), λ bytes e. refl, refl, λ next s. refl)
+quiet-runs : (r : DA728x) (xs : List Step) → length xs ≤ 25 → AllPlain xs → By (Quiet (r .address) (λ bytes. 0)) (runs r xs)
+quiet-runs r xs h p = ((h, omega arith, no-image, no-record), λ bytes e. refl, refl, λ next s. refl, p)
 
 -- so its session holds what it was begun with
 pub quiet-holds : (o : Operation) → QuietOperation o → (b : Begun) (xs : List Step) → o .start ≡ begins b xs → (st : List ℕ) → isSession st ≡ true →
-    Holds (begunIn st b xs) b (allSteps b xs) × ((next r : DA728x) → recordBy r (changeFor (b .purpose) next r) ≡ r)
-quiet-holds o q b xs e st s = let g = subst (λ (x : Start). By (Quiet (o .address) (o .answers)) x) e q in (holds st b xs s (g .0), g .3)
+    Holds (begunIn st b xs) b (allSteps b xs) × ((next r : DA728x) → recordBy r (changeFor (b .purpose) next r) ≡ r) × AllPlain xs
+quiet-holds o q b xs e st s = let g = subst (λ (x : Start). By (Quiet (o .address) (o .answers)) x) e q in (holds st b xs s (g .0), g .3, g .4)
 
 -- ---- the sixteen
 
-one-byte : (r : DA728x) (xs : List Step) → length xs ≤ 25 →
+one-byte : (r : DA728x) (xs : List Step) → length xs ≤ 25 → AllPlain xs →
     ((bytes : List ℕ) → length bytes ≡ bytesWanted (exchangesOf (r .address) 0 noImage (allSteps (blank 3 (r .address)) xs) bytes) → length bytes ≡ 1) →
     By (Quiet (r .address) (bigEndian 0)) (begins (blank 3 (r .address)) xs)
-one-byte r xs h w = ((h, omega arith, no-image, no-record), λ bytes e. go bytes (w bytes e), refl, λ next s. refl)
+one-byte r xs h p w = ((h, omega arith, no-image, no-record), λ bytes e. go bytes (w bytes e), refl, λ next s. refl, p)
   where
     go : (bytes : List ℕ) → length bytes ≡ 1 → valueOf 3 bytes (min 0 100) ≡ bigEndian 0 bytes
     go [] e = absurd (omega (arith, e))
@@ -136,28 +136,28 @@ numbers-small id loops = first-small (numberChecks id loops) (s11, (s11, tt))
 
 pub quiet : Others QuietOperation
 quiet = record {
-  get-chip-rev = λ r. one-byte r (Read (addressOf "CHIP_REV") ∷ []) (omega arith) (λ bytes e. e);
-  get-events = λ r. ((omega arith, omega arith, no-image, no-record), λ bytes e. three-bytes bytes e, refl, λ next s. refl);
-  get-status = λ r. one-byte r (Read (addressOf "IRQ_STATUS1") ∷ []) (omega arith) (λ bytes e. e);
+  get-chip-rev = λ r. one-byte r (Read (addressOf "CHIP_REV") ∷ []) (omega arith) (tt, tt) (λ bytes e. e);
+  get-events = λ r. ((omega arith, omega arith, no-image, no-record), λ bytes e. three-bytes bytes e, refl, λ next s. refl, (tt, (tt, (tt, (tt, tt)))));
+  get-status = λ r. one-byte r (Read (addressOf "IRQ_STATUS1") ∷ []) (omega arith) (tt, tt) (λ bytes e. e);
   set-frequency = λ r hz. by-settings _ (r .settings) _ (λ a d.
-      by-unless _ (firstFailing (check (outsideBand (d .«driving_mode») hz) 11 ∷ [])) _
-      (first-small (check (outsideBand (d .«driving_mode») hz) 11 ∷ []) (s11, tt))
-      (quiet-runs r (frequencySteps hz) (omega (arith, frequency hz))));
+      by-unless _ (firstFailing ((outsideBand (d .«driving_mode») hz, 11) ∷ [])) _
+      (first-small ((outsideBand (d .«driving_mode») hz, 11) ∷ []) (s11, tt))
+      (quiet-runs r (frequencySteps hz) (omega (arith, frequency hz)) (frequency-plain hz)));
   set-override-value = λ r value. by-settings _ (r .settings) _ (λ a d.
-      by-unless _ (firstFailing (overrideChecks d value)) _ (first-small (overrideChecks d value) (s11, (s12, tt))) (quiet-runs r (Write (addressOf "TOP_CTL2") (overrideByte value) ∷ []) (omega arith)));
+      by-unless _ (firstFailing (overrideChecks d value)) _ (first-small (overrideChecks d value) (s11, (s12, tt))) (quiet-runs r (Write (addressOf "TOP_CTL2") (overrideByte value) ∷ []) (omega arith) (tt, tt)));
   set-timebase = λ r timebase.
-      quiet-runs r (Read (addressOf "SEQ_CTL1") ∷ updated (addressOf "SEQ_CTL1") seq-ctl1 (put "FREQ_WAVEFORM_TIMEBASE" (timebaseBit timebase)) ∷ []) (omega arith);
-  enable = λ r. by-settings _ (r .settings) _ (λ a d. quiet-runs r (Write (addressOf "TOP_CTL1") (enabled (d .«operation_mode»)) ∷ []) (omega arith));
+      quiet-runs r (updated "SEQ_CTL1" (put "FREQ_WAVEFORM_TIMEBASE" (timebaseBit timebase))) (omega arith) (tt, (tt, tt));
+  enable = λ r. by-settings _ (r .settings) _ (λ a d. quiet-runs r (Write (addressOf "TOP_CTL1") (enabled (d .«operation_mode»)) ∷ []) (omega arith) (tt, tt));
   disable = λ r. by-settings _ (r .settings) _ (λ a d.
-      quiet-runs r (Read (addressOf "TOP_CTL1") ∷ updated (addressOf "TOP_CTL1") top-ctl1 (put "OPERATION_MODE" 0) ∷ []) (omega arith));
+      quiet-runs r (updated "TOP_CTL1" (put "OPERATION_MODE" 0)) (omega arith) (tt, (tt, tt)));
   set-custom-drive-waveform = λ r. by-settings _ (r .settings) _ (λ a d. custom (eqb (drivingCode (d .«driving_mode»)) (drivingCode «CUSTOM_WAVEFORM»)));
-  unlock-waveform-memory = λ r. quiet-runs r (unlockStep true ∷ []) (omega arith);
-  lock-waveform-memory = λ r. quiet-runs r (unlockStep false ∷ []) (omega arith);
-  upload-waveform-memory = λ r m lockAfter e. ((few m lockAfter, omega arith, e, no-record), λ bytes h. refl, refl, λ next s. refl);
-  read-waveform-memory = λ r len room h. ((omega arith, h, no-image, no-record), λ bytes e. omega arith, refl, λ next s. refl);
-  select-sequence = λ r id loops. by-unless _ (firstFailing (numberChecks id loops)) _ (numbers-small id loops) (quiet-runs r (selectStep id loops ∷ []) (omega arith));
-  start-sequence = λ r. quiet-runs r startSteps (omega arith);
-  play-sequence = λ r id loops. by-unless _ (firstFailing (numberChecks id loops)) _ (numbers-small id loops) (quiet-runs r (selectStep id loops ∷ startSteps) (omega arith));
+  unlock-waveform-memory = λ r. quiet-runs r (setUnlocked true ∷ []) (omega arith) (tt, tt);
+  lock-waveform-memory = λ r. quiet-runs r (setUnlocked false ∷ []) (omega arith) (tt, tt);
+  upload-waveform-memory = λ r m lockAfter e. ((few m lockAfter, omega arith, e, no-record), λ bytes h. refl, refl, λ next s. refl, send-plain (min (m .len) 100) lockAfter);
+  read-waveform-memory = λ r len room h. ((omega arith, h, no-image, no-record), λ bytes e. omega arith, refl, λ next s. refl, tt);
+  select-sequence = λ r id loops. by-unless _ (firstFailing (numberChecks id loops)) _ (numbers-small id loops) (quiet-runs r (selectStep id loops ∷ []) (omega arith) (tt, tt));
+  start-sequence = λ r. quiet-runs r startSteps (omega arith) (tt, (tt, tt));
+  play-sequence = λ r id loops. by-unless _ (firstFailing (numberChecks id loops)) _ (numbers-small id loops) (quiet-runs r (selectStep id loops ∷ startSteps) (omega arith) (tt, (tt, (tt, tt))));
 }
   where
     custom : (b : Bool) → (11 ≤ cond b 14 12) × (cond b 14 12 ≤ 15)
@@ -220,13 +220,23 @@ holds-configure r a d st none s =
     subst (λ (k : ℕ). Holds (startedIn st (unless k (begins b (configureSteps a d)))) b (allSteps b (configureSteps a d))) (sym none)
     (holds st b (configureSteps a d) s (fits-configure r a d))
 
+-- what is begun so, and compares nothing
+abbrev Unmatched : Begun → List Step → Type 0
+Unmatched b xs = Fits b xs × AllPlain xs
+
 pub answers : Answers
 answers = record {
   each = each-sound (λ o f b xs e st s cs.
       let g = subst (λ (x : Start). By (Sound (o .address) (o .answers)) x) e f in
-      subst (λ (x : ℕ). Answered (begunIn st b xs) x (b .image) (allSteps b xs) (o .answers) cs) (g .2)
+      subst (λ (x : ℕ). Course (begunIn st b xs) x (b .image) (allSteps b xs) (o .answers) cs) (g .2)
       (answered (holds st b xs s (g .0)) cs (o .answers) (g .1)));
   listed = each-sound (λ o f number e. subst (λ (x : Start). By (Sound (o .address) (o .answers)) x) e f);
+  mismatch = (
+    each-others (λ o q b xs e st s cs. let h = quiet-holds o q b xs e st s in never (h .0) (all-plain b xs (h .2)) cs) quiet,
+    λ r a d b xs e st s cs.
+        let g = subst (By Unmatched) e (by-unless Unmatched (configureNumber (r .variant) a d) _ (configure-small r a d) (fits-configure r a d, configure-plain a d)) in
+        never (holds st b xs s (g .0)) (all-plain b xs (g .1)) cs,
+  );
   counts = λ r a d st cs none s.
       let h = holds-configure r a d st none s in
       let n = ap length (append-nil (configureSteps a d)) in

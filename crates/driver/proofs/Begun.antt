@@ -8,10 +8,11 @@ use lib.Dec.{eqb, eqb·zero-suc, eqb·suc-suc}
 use lib.ListN.{length, take, drop, getD, length-replicate}
 use lib.Seq.{take-all}
 use borrow.Author.Tests.{eqb-true}
+use Rattle.laws.specs.Lists.{at}
 use Rattle.exchange.specs.declared.Step.{Step}
 use Rattle.exchange.specs.declared.Step.the-variants.{Store}
 use Rattle.exchange.specs.declared.Exchange.{Exchange}
-use Rattle.exchange.specs.State.{at, isSession, isOpen, addressIn, countIn, roomIn, readCount, purposeIn, imageIn, recordIn, indexed, left, noneLeft, completed, Begun, begunIn}
+use Rattle.exchange.specs.State.{isSession, isUnbroken, addressIn, countIn, roomIn, readCount, purposeIn, imageIn, recordIn, indexed, left, noneLeft, completed, Begun, begunIn}
 use Rattle.exchange.specs.Session.{AnswerCall, final, sent, came, brokenOff, exchangesOf}
 use Rattle.exchange.proofs.Latest.{bytesRead, bytesWanted}
 use Rattle.exchange.proofs.Begins.{begins as begun}
@@ -21,7 +22,7 @@ use Rattle.exchange.proofs.Session.{session}
 use Rattle.sessions.specs.Sessions.{noImage, blankRecord}
 use Rattle.outcome.specs.Outcome.{bigEndian, valueIn, outcomeOf}
 use Rattle.driver.specs.Operations.{Start, declines, begins}
-use Rattle.driver.specs.Theorems.{allSteps, Answered}
+use Rattle.driver.specs.Theorems.{allSteps, Course}
 
 -- ---- what stands in place of an image, and of a record
 
@@ -51,11 +52,11 @@ pub record Holds (s : List ℕ) (b : Begun) (xs : List Step) : Type 0 where
   pub room : roomIn s ≡ b .room
   pub count : countIn s ≡ 0
   pub session : isSession s ≡ true
-  pub opened : isOpen s ≡ true
+  pub opened : isUnbroken s ≡ true
   pub bytes : bytesRead s ≡ 0 ∷ 0 ∷ 0 ∷ []
 
 -- an open session has its size
-open-session : (s : List ℕ) → isOpen s ≡ true → isSession s ≡ true
+open-session : (s : List ℕ) → isUnbroken s ≡ true → isSession s ≡ true
 open-session s o = go (isSession s) (eqb (at s 1) 1) o
   where
     go : (a b : Bool) → a && b ≡ true → a ≡ true
@@ -163,7 +164,7 @@ module _ {s : List ℕ} {b : Begun} {xs : List Step} (h : Holds s b xs) (cs : Li
   -- all of it, where the result is this
   pub answered : (result : List ℕ → ℕ) →
       ((bytes : List ℕ) → length bytes ≡ bytesWanted (exchangesOf (b .address) 0 (b .image) xs bytes) → valueOf (b .purpose) bytes (min (b .reads) 100) ≡ result bytes) →
-      Answered s (b .address) (b .image) xs result cs
+      Course s (b .address) (b .image) xs result cs
   unfolding outcomeOf
   answered result g = record {
     order = in-order;

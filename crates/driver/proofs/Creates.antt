@@ -10,8 +10,8 @@ use Rattle.exchange.specs.declared.Step.{Step}
 use Rattle.exchange.specs.declared.Step.the-variants.{Match}
 use Rattle.exchange.specs.declared.Reply.{Reply}
 use Rattle.exchange.specs.declared.Reply.the-variants.{Done, Byte, Failed}
-use Rattle.exchange.specs.State.{isOpen, left, completed}
-use Rattle.exchange.specs.Turn.{pendingFor, changed, stateAfter, reportOf}
+use Rattle.exchange.specs.State.{isUnbroken, left, completed}
+use Rattle.exchange.specs.Turn.{pendingFor, resized, stateAfter, reportOf}
 use Rattle.exchange.specs.Session.{AnswerCall, fitsExchange, taken, takenAt, numberAt, byteOf, breaks, afterCall, final, came}
 use Rattle.exchange.proofs.Cases.{Case, same, broken, went, case, idle-state}
 use Rattle.exchange.proofs.Session.{session}
@@ -20,9 +20,9 @@ use Rattle.driver.proofs.Records.{idle, unfinished, finished}
 
 -- nothing comes where no step is left
 taken-none : (st : List ℕ) (a : Reply) (n : ℕ) → left st ≡ [] → taken st a n ≡ false
-taken-none st a n e = ap (λ (l : List Step). fitsExchange (pendingFor st l) a && not (changed st n)) e ∙ go a
+taken-none st a n e = ap (λ (l : List Step). fitsExchange (pendingFor st l) a && not (resized st n)) e ∙ go a
   where
-    go : (a : Reply) → fitsExchange (pendingFor st []) a && not (changed st n) ≡ false
+    go : (a : Reply) → fitsExchange (pendingFor st []) a && not (resized st n) ≡ false
     go Done = refl
     go (Byte b) = refl
     go (Failed code) = refl
@@ -84,7 +84,7 @@ module _ (register value : ℕ) where
     by a p false h = ap (λ (s : List ℕ). completed (final s cs)) (untaken st c (ap (λ (x : Reply). taken st x (length (c .buffer))) p ∙ h))
         ∙ later st e
         ∙ ap (λ (s : List ℕ). cameOnly (came s cs) value) (sym (untaken st c (ap (λ (x : Reply). taken st x (length (c .buffer))) p ∙ h)))
-    by Done p true h = absurd (true≢false (sym h ∙ ap (λ (l : List Step). fitsExchange (pendingFor st l) Done && not (changed st (length (c .buffer)))) e))
+    by Done p true h = absurd (true≢false (sym h ∙ ap (λ (l : List Step). fitsExchange (pendingFor st l) Done && not (resized st (length (c .buffer)))) e))
     by (Failed code) p true h =
         off [] (ap (λ (a : Reply). breaks (reportOf st a (length (c .buffer)) .number)) p ∙ ap breaks (session .fails st code (length (c .buffer)) h .0)) refl refl
     by (Byte b) p true h =

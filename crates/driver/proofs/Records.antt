@@ -7,7 +7,7 @@ use lib.Dec.{eqb}
 use lib.ListN.{length, drop}
 use Rattle.exchange.specs.declared.Step.{Step}
 use Rattle.exchange.specs.declared.Reply.{Reply}
-use Rattle.exchange.specs.State.{isSession, isOpen, left, noneLeft, completed, purposeIn, recordIn}
+use Rattle.exchange.specs.State.{isSession, isUnbroken, left, noneLeft, completed, purposeIn, recordIn}
 use Rattle.exchange.specs.Turn.{stateAfter, reportOf}
 use Rattle.exchange.specs.Session.{AnswerCall, afterCall, final, sent, brokenOff}
 use Rattle.exchange.proofs.Cases.{Case, same, broken, went, case, idle-state, idle-number}
@@ -87,7 +87,7 @@ pub unfinished : (st : List ℕ) (x : Step) (xs : List Step) → left st ≡ x �
 unfinished st x xs e = session .whole st [] (going-open _ _ (left-going st x xs e)) ∙ ap noneLeft e
 
 -- one that was begun is, once none is left
-pub finished : (st : List ℕ) → isOpen st ≡ true → left st ≡ [] → completed st ≡ true
+pub finished : (st : List ℕ) → isUnbroken st ≡ true → left st ≡ [] → completed st ≡ true
 finished st o e = session .whole st [] o ∙ ap noneLeft e
 
 -- where a step is left, the record changes exactly if the session is completed
@@ -124,7 +124,7 @@ module _ (c : AnswerCall) (cs : List AnswerCall) (later : Settles cs) (st : List
   unfolding afterCall
   next-made p q k = made st (c .reply) (length (c .buffer)) r p q k
 
-  settled-went : (ys : List Step) → left next-state ≡ ys → isOpen next-state ≡ true → eqb (reportOf st (c .reply) (length (c .buffer)) .number) 0 ≡ true → Settled
+  settled-went : (ys : List Step) → left next-state ≡ ys → isUnbroken next-state ≡ true → eqb (reportOf st (c .reply) (length (c .buffer)) .number) 0 ≡ true → Settled
   settled-went [] h o n =
       let m = next-made is-session (ended-as ∙ ap noneLeft h) n ∙ same-made in
       ended cs next-state next-record h ∙ m

@@ -11,11 +11,11 @@ use Rattle.errors.specs.declared.Error.the-variants as Error
 use Rattle.errors.specs.Number.{errorNumber}
 use Rattle.config.specs.declared.ActuatorConfig.{ActuatorConfig}
 use Rattle.config.specs.declared.DeviceConfig.{DeviceConfig}
-use Rattle.checks.specs.Checks.{Check, check, firstFailing}
+use Rattle.checks.specs.Checks.{Check, firstFailing}
 use Rattle.convert.specs.Convert.{overrideByte}
 use Rattle.exchange.specs.declared.Step.{Step}
 use Rattle.exchange.specs.declared.Step.the-variants.{Write}
-use Rattle.registers.specs.Addresses.{addressOf}
+use Rattle.registers.specs.Table.{addressOf}
 use Rattle.exchange.specs.State.{Begun, begunIn}
 use Rattle.sessions.specs.Sessions.{blank}
 use Rattle.da728x.specs.declared.DA728x.{DA728x}
@@ -35,11 +35,11 @@ pub with-settings : (s : Settings) (f : ActuatorConfig → DeviceConfig → Star
 with-settings s f a d e = ap (λ (x : Settings). withSettings x f) e
 
 -- the first check fails, or it does not
-pub fails : (b : Bool) (n : ℕ) (cs : List Check) (s : Start) → b ≡ true → unless (firstFailing (check b (suc n) ∷ cs)) s ≡ declines (suc n)
+pub fails : (b : Bool) (n : ℕ) (cs : List Check) (s : Start) → b ≡ true → unless (firstFailing ((b, suc n) ∷ cs)) s ≡ declines (suc n)
 fails b n cs s e = ap (λ (x : Bool). unless (cond x (suc n) (firstFailing cs)) s) e
 
 pub passes : (b : Bool) (n : ℕ) (cs : List Check) (s : Start) → b ≡ false →
-    unless (firstFailing (check b n ∷ cs)) s ≡ unless (firstFailing cs) s
+    unless (firstFailing ((b, n) ∷ cs)) s ≡ unless (firstFailing cs) s
 passes b n cs s e = ap (λ (x : Bool). unless (cond x n (firstFailing cs)) s) e
 
 -- every error has a number
@@ -69,7 +69,7 @@ refused e n s h = ap (λ (k : ℕ). unless k s) (sym h) ∙ go e where
 -- ---- setting the override value
 
 abbrev mode-check : DeviceConfig → List Check
-mode-check d = check (not (isDro (d .«operation_mode»))) 12 ∷ []
+mode-check d = (not (isDro (d .«operation_mode»)), 12) ∷ []
 
 pub overriding-sign : (st : List ℕ) (address : ℕ) (d : DeviceConfig) (value : ℤ) → d .acceleration && negative value ≡ true →
     (11 ≡ startNumber (overriding address d value)) × (st ≡ startedIn st (overriding address d value))
@@ -96,7 +96,7 @@ with-override st now n r a d value e h k =
 -- ---- a sequence's number, and how often it is played
 
 abbrev loops-check : ℕ → List Check
-loops-check loops = check (ltb 15 loops) 11 ∷ []
+loops-check loops = (ltb 15 loops, 11) ∷ []
 
 pub numbered-id : (st : List ℕ) (id loops : ℕ) (s : Start) → 15 < id → (11 ≡ startNumber (numbered id loops s)) × (st ≡ startedIn st (numbered id loops s))
 numbered-id st id loops s h = told st st 11 (numbered id loops s) (declines 11) (fails _ 10 (loops-check loops) s (lt-ltb 15 id h)) refl refl

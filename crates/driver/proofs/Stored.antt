@@ -2,11 +2,11 @@
 use Prim.Native.Nat.{ℕ, _≤_}
 use native.Mathlib.Omega.{arith}
 use mathlib.Core.Path.{_≡_, refl, sym, _∙_, ap, subst}
-use mathlib.Core.Bool.{Bool, true, false, cond, _&&_, true≢false}
+use mathlib.Core.Bool.{Bool, true, false, cond, _&&_}
 use mathlib.Core.List.{List, [], _∷_, append-nil}
 use lib.ListN.{length}
 use borrow.Author.Tests.{eq-eqb}
-use Rattle.registers.specs.Addresses.{addressOf}
+use Rattle.registers.specs.Table.{addressOf}
 use Rattle.config.specs.declared.ActuatorConfig.{ActuatorConfig}
 use Rattle.config.specs.declared.DeviceConfig.{DeviceConfig}
 use Rattle.config.specs.Codes.{variantCode}
@@ -60,19 +60,12 @@ module _ (r : DA728x) (a : ActuatorConfig) (d : DeviceConfig) where
   settled-as : (s : DA728x) → madeBy b s ≡ recordBy s (settling (configured r a d) s)
   settled-as s = ap (λ (next : DA728x). recordBy s (settling next s)) (record-kept (configured r a d))
 
-  same-chip : (s : DA728x) → isChipOf r s ≡ true → madeBy b s ≡ configured s a d
-  same-chip s h = settled-as s ∙ go (isChipOf r s) h
+  own-chip : (s : DA728x) → madeBy b s ≡ cond (isChipOf r s) (configured s a d) s
+  own-chip s = settled-as s ∙ go (isChipOf r s)
     where
-      go : (k : Bool) → k ≡ true → recordBy s (cond k (To (record { address = s .address; variant = s .variant; settings = Given a d })) Same) ≡ configured s a d
-      go true e = refl
-      go false e = absurd (true≢false (sym e))
-
-  other : (s : DA728x) → isChipOf r s ≡ false → madeBy b s ≡ s
-  other s h = settled-as s ∙ go (isChipOf r s) h
-    where
-      go : (k : Bool) → k ≡ false → recordBy s (cond k (To (record { address = s .address; variant = s .variant; settings = Given a d })) Same) ≡ s
-      go true e = absurd (true≢false e)
-      go false e = refl
+      go : (k : Bool) → recordBy s (cond k (To (record { address = s .address; variant = s .variant; settings = Given a d })) Same) ≡ cond k (configured s a d) s
+      go true = refl
+      go false = refl
 
 pub stored : Stored
 stored = record {
@@ -86,15 +79,10 @@ stored = record {
       settled cs r _ h (omega arith)
       ∙ ap (λ (next : DA728x). cond (completed (final (begunIn st b (Match (addressOf "CHIP_REV") (revision variant) ∷ [])) cs)) next r) (record-kept (newRecord address variant))
       ∙ ap (λ (k : Bool). cond k (newRecord address variant) r) (creates (addressOf "CHIP_REV") (revision variant) cs _ (h .steps));
-  configures = λ r s a d st cs none e k.
+  configures = λ r lent a d st cs none e.
       let h = holds-configure r a d st none e in
-      settled cs s _ h (omega (arith, at-least a d, ap length (append-nil (configureSteps a d))))
-      ∙ ap (λ (next : DA728x). cond (completed (final (startedIn st (operation.configure r a d .start)) cs)) next s) (same-chip r a d s k);
+      settled cs lent _ h (omega (arith, at-least a d, ap length (append-nil (configureSteps a d))))
+      ∙ ap (λ (next : DA728x). cond (completed (final (startedIn st (operation.configure r a d .start)) cs)) next lent) (own-chip r a d lent);
   own = λ r. simp (eq-eqb (r .address) (r .address) refl, eq-eqb (variantCode (r .variant)) (variantCode (r .variant)) refl);
-  foreign = λ r s a d st cs none e k.
-      let h = holds-configure r a d st none e in
-      settled cs s _ h (omega (arith, at-least a d, ap length (append-nil (configureSteps a d))))
-      ∙ ap (λ (next : DA728x). cond (completed (final (startedIn st (operation.configure r a d .start)) cs)) next s) (other r a d s k)
-      ∙ same-either (completed (final (startedIn st (operation.configure r a d .start)) cs)) s;
   others = each-others (λ o q b xs e st cs r s. let h = quiet-holds o q b xs e st s in stays cs r _ (h .0) (h .1)) quiet;
 }

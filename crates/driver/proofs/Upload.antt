@@ -1,23 +1,26 @@
--- The steps of an upload: how many they are, and that they send what the memory shows. Assumes nothing.
-use Prim.Native.Nat.{ℕ, _+_, _-_, _≤_, min}
+-- The steps of an upload: how many they are, and that they send what the memory shows, each byte to its own address. Assumes nothing.
+use Prim.Native.Nat.{ℕ, suc, _+_, _-_, _%_, _≤_, min}
 use native.Mathlib.Omega.{arith}
-use native.Mathlib.Nat.{sub-zero}
+use native.Mathlib.Nat.{add-zero, sub-zero}
 use native.Mathlib.Decide.{decLe}
 use mathlib.Core.Path.{_≡_, refl, sym, _∙_, ap}
 use mathlib.Core.Bool.{Bool, true, false, cond}
 use mathlib.Core.List.{List, [], _∷_, _++_, append-nil, append-assoc}
-use lib.Dec.{ltb}
-use lib.ListN.{length, take, drop, length-append}
-use lib.Seq.{take-add, drop-drop}
-use borrow.Author.Tests.{ltb-false}
+use lib.Dec.{ltb, leb}
+use lib.ListN.{length, take, drop, replicate, length-append, length-take, length-drop}
+use lib.Seq.{take-add, take-at, drop-drop}
+use borrow.Author.Tests.{ltb-false, le-leb}
 use Rattle.laws.proofs.Lists.{take-shown}
+use Rattle.registers.specs.Table.{addressOf}
 use Rattle.memory.specs.declared.WaveformMemory.{WaveformMemory}
+use Rattle.da728x.specs.declared.DA728x.{DA728x}
 use Rattle.exchange.specs.declared.Step.{Step}
-use Rattle.exchange.specs.declared.Step.the-variants.{Write, Read, Update, Match, Chunk, Store}
+use Rattle.exchange.specs.declared.Step.the-variants.{Chunk}
 use Rattle.exchange.specs.Steps.{chunk}
+use Rattle.exchange.specs.Session.{exchangesOf}
 use Rattle.sessions.specs.Sessions.{chunkStep, chunkSteps, lockSteps, sendSteps}
 use Rattle.driver.specs.Operations.{uploadSteps}
-use Rattle.driver.specs.Theorems.{payload}
+use Rattle.driver.specs.Theorems.{addressed, payload}
 
 -- ---- how many
 
@@ -43,70 +46,77 @@ few m lockAfter = simp length-append (omega (arith, chunks (min (m .len) 100), l
 
 -- ---- what they send
 
-payload-append : (xs ys : List Step) (image : List ℕ) → payload image (xs ++ ys) ≡ payload image xs ++ payload image ys
-payload-append [] ys image = refl
-payload-append (Chunk offset len ∷ xs) ys image =
-    ap (λ (l : List ℕ). chunk image offset len ++ l) (payload-append xs ys image)
-    ∙ sym (append-assoc (chunk image offset len) (payload image xs) (payload image ys))
-payload-append (Write register value ∷ xs) ys image = payload-append xs ys image
-payload-append (Read register ∷ xs) ys image = payload-append xs ys image
-payload-append (Update register shift width value ∷ xs) ys image = payload-append xs ys image
-payload-append (Match register value ∷ xs) ys image = payload-append xs ys image
-payload-append (Store index ∷ xs) ys image = payload-append xs ys image
+addressed-append : (xs ys : List ℕ) (a : ℕ) → addressed a (xs ++ ys) ≡ addressed a xs ++ addressed (a + length xs) ys
+addressed-append [] ys a = ap (λ (i : ℕ). addressed i ys) (sym (add-zero a))
+addressed-append (x ∷ xs) ys a =
+    let k : suc a + length xs ≡ a + suc (length xs) = omega arith in
+    ap (λ (l : List (ℕ × ℕ)). (a, x) ∷ l) (addressed-append xs ys (suc a) ∙ ap (λ (i : ℕ). addressed (suc a) xs ++ addressed i ys) k)
 
--- one part: at most 32 bytes of those from its offset on
-sends-one : (n offset : ℕ) (image : List ℕ) → payload image (chunkStep n offset) ≡ take (min 32 (n - offset)) (drop offset image)
-unfolding chunkStep
-sends-one n offset image = go (ltb offset n) refl where
-  go : (b : Bool) → ltb offset n ≡ b → payload image (cond b (Chunk offset (min 32 (n - offset)) ∷ []) []) ≡ take (min 32 (n - offset)) (drop offset image)
-  go true e =
-      let k : min (min 32 (n - offset)) 32 ≡ min 32 (n - offset) = omega arith in
-      append-nil (chunk image offset (min 32 (n - offset))) ∙ ap (λ (i : ℕ). take i (drop offset image)) k
-  go false e =
-      let k : min 32 (n - offset) ≡ 0 = omega (arith, ltb-false offset n e) in
-      ap (λ (i : ℕ). take i (drop offset image)) (sym k)
+module _ (address : ℕ) (image : List ℕ) where
+  -- what steps that read nothing write
+  abbrev writes : List Step → List (ℕ × ℕ)
+  writes xs = payload (exchangesOf address 0 image xs [])
 
--- the first 32 of n bytes, and the others behind them
-cut : (n : ℕ) (l : List ℕ) → take (min 32 n) l ++ take (n - 32) (drop 32 l) ≡ take n l
-cut n l = go (decLe 32 n) where
-  go : Dec (32 ≤ n) → take (min 32 n) l ++ take (n - 32) (drop 32 l) ≡ take n l
-  go (yes h) =
-      let a : min 32 n ≡ 32 = omega arith in
-      let b : 32 + (n - 32) ≡ n = omega arith in
-      ap (λ (i : ℕ). take i l ++ take (n - 32) (drop 32 l)) a ∙ sym (take-add 32 (n - 32) l) ∙ ap (λ (i : ℕ). take i l) b
-  go (no h) =
-      let a : min 32 n ≡ n = omega arith in
-      let b : n - 32 ≡ 0 = omega arith in
-      (λ i. take (a i) l ++ take (b i) (drop 32 l)) ∙ append-nil (take n l)
+  -- n bytes from an offset on
+  abbrev part : ℕ → ℕ → List (ℕ × ℕ)
+  part offset n = addressed (132 + offset) (take n (drop offset image))
 
--- the same from an offset on
-cut-at : (n offset further : ℕ) (l : List ℕ) → further ≡ offset + 32 →
-    take (min 32 (n - offset)) (drop offset l) ++ take (n - further) (drop further l) ≡ take (n - offset) (drop offset l)
-cut-at n offset further l e =
-    let a : n - further ≡ n - offset - 32 = omega arith in
-    let b : drop further l ≡ drop 32 (drop offset l) = ap (λ (i : ℕ). drop i l) e ∙ sym (drop-drop 32 offset l) in
-    (λ i. take (min 32 (n - offset)) (drop offset l) ++ take (a i) (b i)) ∙ cut (n - offset) (drop offset l)
+  -- a chunk goes to its own address
+  sends-one : (n offset : ℕ) (xs : List Step) → offset ≤ 100 → writes (chunkStep n offset ++ xs) ≡ part offset (min 32 (n - offset)) ++ writes xs
+  unfolding chunkStep
+  sends-one n offset xs h = go (ltb offset n) refl where
+    go : (b : Bool) → ltb offset n ≡ b → writes (cond b (Chunk offset (min 32 (n - offset)) ∷ []) [] ++ xs) ≡ part offset (min 32 (n - offset)) ++ writes xs
+    go true e =
+        let c = chunk image offset (min 32 (n - offset)) in
+        let k : min (min 32 (n - offset)) 32 ≡ min 32 (n - offset) = omega arith in
+        let a : (132 + offset) % 256 ≡ 132 + offset = omega arith in
+        (λ i. cond (leb 132 (a i)) (addressed (a i) (take-at c (replicate (33 - suc (length c)) 0) (length c) refl i)) [] ++ writes xs)
+        ∙ ap (λ (b : Bool). cond b (addressed (132 + offset) c) [] ++ writes xs) (le-leb 132 (132 + offset) (omega arith))
+        ∙ ap (λ (i : ℕ). part offset i ++ writes xs) k
+    go false e =
+        let k : min 32 (n - offset) ≡ 0 = omega (arith, ltb-false offset n e) in
+        ap (λ (i : ℕ). part offset i ++ writes xs) (sym k)
 
--- the four of them: n bytes, of up to 128
-sends-chunks : (n : ℕ) (image : List ℕ) → n ≤ 128 → payload image (chunkSteps n) ≡ take n image
-unfolding chunkSteps
-sends-chunks n image h =
-    let z : min 32 (n - 96) ≡ n - 96 = omega arith in
-    simp (payload-append, sends-one, z, cut-at n 64 96 image refl, cut-at n 32 64 image refl, sub-zero) (cut n image)
+  -- a chunk, and those behind it
+  sends-more : (n offset further : ℕ) (xs : List Step) → further ≡ offset + 32 → offset ≤ 100 → n ≤ length image → writes xs ≡ part further (n - further) →
+      writes (chunkStep n offset ++ xs) ≡ part offset (n - offset)
+  sends-more n offset further xs e h l w = sends-one n offset xs h ∙ ap (λ (r : List (ℕ × ℕ)). part offset (min 32 (n - offset)) ++ r) w ∙ go (decLe further n) where
+    go : Dec (further ≤ n) → part offset (min 32 (n - offset)) ++ part further (n - further) ≡ part offset (n - offset)
+    go (yes g) =
+        let bytes = drop offset image in
+        let a : min 32 (n - offset) ≡ 32 = omega arith in
+        let b : 32 + (n - further) ≡ n - offset = omega arith in
+        let d : drop further image ≡ drop 32 bytes = ap (λ (i : ℕ). drop i image) e ∙ sym (drop-drop 32 offset image) in
+        let f : 132 + further ≡ 132 + offset + length (take 32 bytes) = omega (arith, length-take 32 bytes, length-drop offset image) in
+        (λ i. part offset (a i) ++ addressed (f i) (take (n - further) (d i)))
+        ∙ sym (addressed-append (take 32 bytes) (take (n - further) (drop 32 bytes)) (132 + offset))
+        ∙ ap (addressed (132 + offset)) (sym (take-add 32 (n - further) bytes) ∙ ap (λ (i : ℕ). take i bytes) b)
+    go (no g) =
+        let a : min 32 (n - offset) ≡ n - offset = omega arith in
+        let b : n - further ≡ 0 = omega arith in
+        (λ i. part offset (a i) ++ part further (b i)) ∙ append-nil (part offset (n - offset))
 
-sends-none : (lockAfter : Bool) (image : List ℕ) → payload image (lockSteps lockAfter) ≡ []
-unfolding lockSteps
-sends-none true image = refl
-sends-none false image = refl
+  sends-none : (lockAfter : Bool) → writes (lockSteps lockAfter) ≡ []
+  unfolding lockSteps
+  sends-none true = refl
+  sends-none false = refl
 
 -- what the memory shows
-pub shown : (m : WaveformMemory) (lockAfter : Bool) → length (m .«data») ≡ 100 →
-    payload (m .«data») (uploadSteps m lockAfter) ≡ take (m .len) (m .«data»)
-unfolding sendSteps
-shown m lockAfter e =
+pub shown : (r : DA728x) (m : WaveformMemory) (lockAfter : Bool) → length (m .«data») ≡ 100 →
+    payload (exchangesOf (r .address) 0 (m .«data») (uploadSteps m lockAfter) []) ≡ addressed (addressOf "SNP_MEM_0") (take (m .len) (m .«data»))
+unfolding sendSteps chunkSteps
+shown r m lockAfter e =
+    let image = m .«data» in
     let n = min (m .len) 100 in
-    let k : n ≡ min (m .len) (length (m .«data»)) = omega arith in
-    payload-append (chunkSteps n) (lockSteps lockAfter) (m .«data»)
-    ∙ (λ i. sends-chunks n (m .«data») (omega arith) i ++ sends-none lockAfter (m .«data») i)
-    ∙ append-nil (take n (m .«data»))
-    ∙ take-shown (m .«data») (m .len) n k
+    let l : n ≤ length image = omega arith in
+    let k : n ≡ min (m .len) (length image) = omega arith in
+    let z : n - 128 ≡ 0 = omega arith in
+    let p : (chunkStep n 0 ++ (chunkStep n 32 ++ (chunkStep n 64 ++ chunkStep n 96))) ++ lockSteps lockAfter
+    ≡ chunkStep n 0 ++ (chunkStep n 32 ++ (chunkStep n 64 ++ (chunkStep n 96 ++ lockSteps lockAfter))) = simp append-assoc in
+    let more = sends-more (r .address) image n in
+    ap (writes (r .address) image) p
+    ∙ more 0 32 _ refl (omega arith) l
+    (more 32 64 _ refl (omega arith) l
+    (more 64 96 _ refl (omega arith) l
+    (more 96 128 _ refl (omega arith) l (sends-none (r .address) image lockAfter ∙ ap (part (r .address) image 128) (sym z)))))
+    ∙ ap (addressed 132) (ap (λ (i : ℕ). take i image) (sub-zero n) ∙ take-shown image (m .len) n k)

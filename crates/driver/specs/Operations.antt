@@ -5,8 +5,7 @@ use mathlib.Core.Bool.{Bool, true, false, cond, not, _&&_}
 use mathlib.Core.List.{List, [], _∷_}
 use lib.Dec.{ltb, eqb}
 use lib.IntN.{ℤ, pos, negsuc}
-use Rattle.registers.specs.Addresses.{addressOf}
-use Rattle.registers_control.specs.Table.{top-ctl1, seq-ctl1}
+use Rattle.registers.specs.Table.{addressOf}
 use Rattle.config.specs.declared.ActuatorConfig.{ActuatorConfig}
 use Rattle.config.specs.declared.DeviceConfig.{DeviceConfig}
 use Rattle.config.specs.declared.DrivingMode.the-variants.{«CUSTOM_WAVEFORM»}
@@ -19,18 +18,18 @@ use Rattle.memory.specs.declared.WaveformMemory.{WaveformMemory}
 use Rattle.memory.specs.declared.WaveformMemoryTimebase.{WaveformMemoryTimebase}
 use Rattle.memory.specs.Timebase.{timebaseBit}
 use Rattle.convert.specs.Convert.{overrideByte}
-use Rattle.checks.specs.Checks.{outsideBand, Check, check, firstFailing, configureNumber}
+use Rattle.checks.specs.Checks.{outsideBand, Check, firstFailing, configureNumber}
 use Rattle.exchange.specs.declared.Step.{Step}
-use Rattle.exchange.specs.declared.Step.the-variants.{Write, Read, Match}
+use Rattle.exchange.specs.declared.Step.the-variants.{Read, Match}
 use Rattle.exchange.specs.declared.Reply.{Reply}
 use Rattle.exchange.specs.State.{Begun, begunWith, begunIn}
 use Rattle.exchange.specs.Turn.{stateAfter, reportOf}
-use Rattle.plans.specs.Fields.{put, updated}
+use Rattle.plans.specs.Fields.{put, written, updated}
 use Rattle.plans.specs.Configure.{frequencySteps, configureSteps}
 use Rattle.da728x.specs.declared.DA728x.{DA728x}
 use Rattle.da728x.specs.declared.Settings.{Settings}
 use Rattle.da728x.specs.declared.Settings.the-variants.{Absent, Given}
-use Rattle.sessions.specs.Sessions.{noImage, blankRecord, blank, carrying, enabled, selectStep, startSteps, unlockStep, sendSteps}
+use Rattle.sessions.specs.Sessions.{noImage, blankRecord, blank, carrying, enabled, selectStep, startSteps, setUnlocked, sendSteps}
 use Rattle.outcome.specs.Outcome.{bigEndian, changeBy, recordBy}
 
 -- ---- what starting an operation comes to
@@ -95,7 +94,7 @@ newRecord address variant = record { address = address; variant = variant; setti
 abbrev pub new : ℕ → Variant → Operation
 new address variant = plain address (begins (carrying 1 (newRecord address variant)) (Match (addressOf "CHIP_REV") (revision variant) ∷ []))
 
--- "Settings are stored only after the last"
+-- a record with these settings
 abbrev pub configured : DA728x → ActuatorConfig → DeviceConfig → DA728x
 configured r a d = record { address = r .address; variant = r .variant; settings = Given a d }
 
@@ -108,20 +107,14 @@ getChipRev r = asking 3 r (Read (addressOf "CHIP_REV") ∷ [])
 -- three reads, then a write of FF that clears them
 abbrev pub getEvents : DA728x → Operation
 getEvents r =
-    asking 4 r (
-    Read (addressOf "IRQ_EVENT1")
-    ∷ Read (addressOf "IRQ_EVENT_WARNING_DIAG")
-    ∷ Read (addressOf "IRQ_EVENT_SEQ_DIAG")
-    ∷ Write (addressOf "IRQ_EVENT1") 0xFF
-    ∷ [])
+    asking 4 r (Read (addressOf "IRQ_EVENT1") ∷ Read (addressOf "IRQ_EVENT_WARNING_DIAG") ∷ Read (addressOf "IRQ_EVENT_SEQ_DIAG") ∷ written "IRQ_EVENT1" 0xFF ∷ [])
 
 abbrev pub getStatus : DA728x → Operation
 getStatus r = asking 3 r (Read (addressOf "IRQ_STATUS1") ∷ [])
 
 abbrev pub setFrequency : DA728x → ℕ → Operation
 setFrequency r hz =
-    plain (r .address) (withSettings (r .settings) (λ a d.
-    unless (firstFailing (check (outsideBand (d .«driving_mode») hz) 11 ∷ [])) (runs r (frequencySteps hz))))
+    plain (r .address) (withSettings (r .settings) (λ a d. unless (firstFailing ((outsideBand (d .«driving_mode») hz, 11) ∷ [])) (runs r (frequencySteps hz))))
 
 abbrev pub negative : ℤ → Bool
 negative (pos n) = false
@@ -132,37 +125,32 @@ isDro mode = eqb (operationCode mode) (operationCode «DRO_MODE»)
 
 -- "Its checks: 15, negative under acceleration (11), not DRO_MODE (12)"
 abbrev pub overrideChecks : DeviceConfig → ℤ → List Check
-overrideChecks d value = check (d .acceleration && negative value) 11 ∷ check (not (isDro (d .«operation_mode»))) 12 ∷ []
+overrideChecks d value = (d .acceleration && negative value, 11) ∷ (not (isDro (d .«operation_mode»)), 12) ∷ []
 
 abbrev pub overriding : ℕ → DeviceConfig → ℤ → Start
-overriding address d value =
-    unless (firstFailing (overrideChecks d value))
-    (begins (blank 0 address) (Write (addressOf "TOP_CTL2") (overrideByte value) ∷ []))
+overriding address d value = unless (firstFailing (overrideChecks d value)) (begins (blank 0 address) (written "TOP_CTL2" (overrideByte value) ∷ []))
 
 abbrev pub setOverrideValue : DA728x → ℤ → Operation
 setOverrideValue r value = plain (r .address) (withSettings (r .settings) (λ a d. overriding (r .address) d value))
 
 abbrev pub setTimebase : DA728x → WaveformMemoryTimebase → Operation
-setTimebase r timebase =
-    plain (r .address) (runs r (Read (addressOf "SEQ_CTL1") ∷ updated (addressOf "SEQ_CTL1") seq-ctl1 (put "FREQ_WAVEFORM_TIMEBASE" (timebaseBit timebase)) ∷ []))
+setTimebase r timebase = plain (r .address) (runs r (updated "SEQ_CTL1" (put "FREQ_WAVEFORM_TIMEBASE" (timebaseBit timebase))))
 
 abbrev pub enable : DA728x → Operation
-enable r = plain (r .address) (withSettings (r .settings) (λ a d. runs r (Write (addressOf "TOP_CTL1") (enabled (d .«operation_mode»)) ∷ [])))
+enable r = plain (r .address) (withSettings (r .settings) (λ a d. runs r (written "TOP_CTL1" (enabled (d .«operation_mode»)) ∷ [])))
 
 abbrev pub disable : DA728x → Operation
-disable r =
-    plain (r .address) (withSettings (r .settings) (λ a d.
-    runs r (Read (addressOf "TOP_CTL1") ∷ updated (addressOf "TOP_CTL1") top-ctl1 (put "OPERATION_MODE" 0) ∷ [])))
+disable r = plain (r .address) (withSettings (r .settings) (λ a d. runs r (updated "TOP_CTL1" (put "OPERATION_MODE" 0))))
 
 -- "15 comes first", then "that the mode is CUSTOM_WAVEFORM (12)"; "We refuse, the last with 14 after its Rust checks"
 abbrev pub setCustomDriveWaveform : DA728x → Operation
 setCustomDriveWaveform r = plain (r .address) (withSettings (r .settings) (λ a d. declines (cond (eqb (drivingCode (d .«driving_mode»)) (drivingCode «CUSTOM_WAVEFORM»)) 14 12)))
 
 abbrev pub unlockWaveformMemory : DA728x → Operation
-unlockWaveformMemory r = plain (r .address) (runs r (unlockStep true ∷ []))
+unlockWaveformMemory r = plain (r .address) (runs r (setUnlocked true ∷ []))
 
 abbrev pub lockWaveformMemory : DA728x → Operation
-lockWaveformMemory r = plain (r .address) (runs r (unlockStep false ∷ []))
+lockWaveformMemory r = plain (r .address) (runs r (setUnlocked false ∷ []))
 
 abbrev pub uploadSteps : WaveformMemory → Bool → List Step
 uploadSteps m lockAfter = sendSteps (min (m .len) 100) lockAfter
@@ -172,15 +160,13 @@ uploadWaveformMemory r m lockAfter = plain (r .address) (begins (begunWith (r .a
 
 -- "min(len, 100, buffer length) bytes, one an exchange; zero needs none"
 abbrev pub readWaveformMemory : DA728x → ℕ → ℕ → Operation
-readWaveformMemory r len room = record {
-  address = r .address;
-  start = begins (begunWith (r .address) (min (min len 100) room) room 5 noImage blankRecord) [];
-  answers = λ bytes. min (min len 100) room;
-}
+readWaveformMemory r len room =
+    let n = min (min len 100) room in
+    record { address = r .address; start = begins (begunWith (r .address) n room 5 noImage blankRecord) []; answers = λ bytes. n }
 
 -- "a sequence number or loop count above 15 (11)"
 abbrev pub numberChecks : ℕ → ℕ → List Check
-numberChecks id loops = check (ltb 15 id) 11 ∷ check (ltb 15 loops) 11 ∷ []
+numberChecks id loops = (ltb 15 id, 11) ∷ (ltb 15 loops, 11) ∷ []
 
 abbrev pub numbered : ℕ → ℕ → Start → Start
 numbered id loops s = unless (firstFailing (numberChecks id loops)) s

@@ -1,25 +1,27 @@
 -- What every operation sends, answers and stores: document 01, 'Exchanges'; for every session's bytes, every list of answers and every record.
 -- All speak of the definitions that the contracts cite.
-use Prim.Native.Nat.{ℕ, _^_, _≤_, _<_, min}
+use Prim.Native.Nat.{ℕ, suc, _^_, _≤_, _<_, min}
 use mathlib.Core.Path.{_≡_}
 use mathlib.Core.Bool.{Bool, true, false, cond, not, _&&_}
 use mathlib.Core.List.{List, [], _∷_, _++_}
-use lib.Dec.{ltb, eqb}
+use lib.Dec.{ltb, leb, eqb}
 use lib.IntN.{ℤ}
-use lib.ListN.{length, take}
+use lib.ListN.{length, take, drop}
 use Rattle.config.specs.declared.ActuatorConfig.{ActuatorConfig}
 use Rattle.config.specs.declared.DeviceConfig.{DeviceConfig}
 use Rattle.config.specs.declared.Variant.{Variant}
 use Rattle.memory.specs.declared.WaveformMemory.{WaveformMemory}
 use Rattle.memory.specs.declared.WaveformMemoryTimebase.{WaveformMemoryTimebase}
 use Rattle.laws.specs.Copied.{over}
+use Rattle.laws.specs.Lists.{at}
+use Rattle.registers.specs.Table.{addressOf}
 use Rattle.exchange.specs.declared.Step.{Step}
-use Rattle.exchange.specs.declared.Step.the-variants.{Write, Read, Update, Match, Chunk, Store}
+use Rattle.exchange.specs.declared.Step.the-variants.{Store}
+use Rattle.exchange.specs.declared.Exchange.{Exchange}
 use Rattle.exchange.specs.declared.Reply.{Reply}
-use Rattle.exchange.specs.Steps.{chunk}
 use Rattle.exchange.specs.State.{isSession, countIn, completed, indexed, left, Begun, begunIn}
-use Rattle.exchange.specs.Turn.{changed, reportOf}
-use Rattle.exchange.specs.Session.{AnswerCall, afterCall, final, sent, came, brokenOff, exchangesOf, lending, filled}
+use Rattle.exchange.specs.Turn.{resized, reportOf}
+use Rattle.exchange.specs.Session.{AnswerCall, numberAt, afterCall, final, sent, came, brokenOff, exchangesOf, lending, filled}
 use Rattle.checks.specs.Checks.{configureNumber}
 use Rattle.da728x.specs.declared.DA728x.{DA728x}
 use Rattle.outcome.specs.declared.Outcome.{Outcome}
@@ -56,7 +58,7 @@ pub record Each (P : Operation → Type 0) : Type 0 where
 -- ---- what is sent and answered
 
 -- of a session begun as `s` for the chip at an address, with these steps, under a list of answers, where the operation's result is `result` of the bytes that came
-pub record Answered (s : List ℕ) (address : ℕ) (image : List ℕ) (xs : List Step) (result : List ℕ → ℕ) (cs : List AnswerCall) : Type 0 where
+pub record Course (s : List ℕ) (address : ℕ) (image : List ℕ) (xs : List Step) (result : List ℕ → ℕ) (cs : List AnswerCall) : Type 0 where
   -- demand 2's exchanges: those of the steps, in order from the first, with the bytes read substituted
   pub order : sent s cs ≡ take (length (sent s cs)) (exchangesOf address 0 image xs (came s cs))
   -- completed exactly where no answer broke it off and as many were made as there are steps; then they are all that is to be sent
@@ -72,17 +74,23 @@ allSteps b xs = xs ++ indexed Store 0 (min (b .reads) 100)
 
 abbrev pub AnswersAs : Operation → Type 0
 AnswersAs o = (b : Begun) (xs : List Step) → o .start ≡ begins b xs → (st : List ℕ) → isSession st ≡ true → (cs : List AnswerCall) →
-    Answered (begunIn st b xs) (o .address) (b .image) (allSteps b xs) (o .answers) cs
+    Course (begunIn st b xs) (o .address) (b .image) (allSteps b xs) (o .answers) cs
+
+-- no answer to a session that it begins is told by 16
+abbrev pub NoMismatch : Operation → Type 0
+NoMismatch o = (b : Begun) (xs : List Step) → o .start ≡ begins b xs → (st : List ℕ) → isSession st ≡ true → (cs : List AnswerCall) (c : AnswerCall) →
+    ¬ (numberAt (final (begunIn st b xs) cs) c ≡ 16)
 
 pub record Answers : Type 0 where
   pub each : Each AnswersAs
   -- a start that is refused before its first exchange tells one of 11 to 15
   pub listed : Each (λ o. (number : ℕ) → o .start ≡ declines number → (11 ≤ number) × (number ≤ 15))
+  -- "16 VariantMismatch, in `new`": in no other operation
+  pub mismatch : Others NoMismatch × ((r : DA728x) (a : ActuatorConfig) (d : DeviceConfig) → NoMismatch (operation.configure r a d))
   -- "`configure` makes at most 25, at least 14 if none fails"
   pub counts : (r : DA728x) (a : ActuatorConfig) (d : DeviceConfig) (st : List ℕ) (cs : List AnswerCall) →
       configureNumber (r .variant) a d ≡ 0 → isSession st ≡ true →
-      (countIn (final (startedIn st (operation.configure r a d .start)) cs) ≤ 25)
-      × (completed (final (startedIn st (operation.configure r a d .start)) cs) ≡ true → 14 ≤ countIn (final (startedIn st (operation.configure r a d .start)) cs))
+      let after = final (startedIn st (operation.configure r a d .start)) cs in (countIn after ≤ 25) × (completed after ≡ true → 14 ≤ countIn after)
 
 -- ---- what is stored
 
@@ -91,11 +99,9 @@ abbrev pub recordFinal : List ℕ → List AnswerCall → DA728x → DA728x
 recordFinal st [] r = r
 recordFinal st (c ∷ cs) r = recordFinal (afterCall st c) cs (recordAfter st (c .reply) (length (c .buffer)) r)
 
--- whether the one byte that came is this
+-- whether one byte came, and is this
 abbrev pub cameOnly : List ℕ → ℕ → Bool
-cameOnly [] value = false
-cameOnly (b ∷ []) value = eqb b value
-cameOnly (b ∷ c ∷ bytes) value = false
+cameOnly bytes value = eqb (length bytes) 1 && eqb (at bytes 0) value
 
 -- for every record lent and every list of answers; the first three for every session's bytes (old, foreign, forged)
 pub record Stored : Type 0 where
@@ -104,48 +110,45 @@ pub record Stored : Type 0 where
   pub before : (st : List ℕ) (a : Reply) (n : ℕ) (r : DA728x) → reportOf st a n .ended ≡ false → recordAfter st a n r ≡ r
   -- so do all answers to a session that has ended, that was never begun, or of another length
   pub ended : (st : List ℕ) (cs : List AnswerCall) (r : DA728x) → left st ≡ [] → recordFinal st cs r ≡ r
-  -- a start that is refused is as if it was not called: the record is only lent to be read, and what the session was begun with before stands
+  -- a start that is refused leaves the session's bytes, and so what they were begun with before
   pub declined : (s : Start) (number : ℕ) (st : List ℕ) → s ≡ declines number → startedIn st s ≡ st
   -- `new` makes a record exactly if the one byte that came from CHIP_REV is the variant's
   pub creates : (address : ℕ) (variant : Variant) (st : List ℕ) (cs : List AnswerCall) (r : DA728x) → isSession st ≡ true →
-      recordFinal (startedIn st (operation.new address variant .start)) cs r
-      ≡ cond (cameOnly (came (startedIn st (operation.new address variant .start)) cs) (revision variant)) (newRecord address variant) r
+      let s = startedIn st (operation.new address variant .start) in
+      recordFinal s cs r ≡ cond (cameOnly (came s cs) (revision variant)) (newRecord address variant) r
   -- `configure` stores its settings exactly if it is completed, in a record of its own chip; a record of another chip stays
-  pub configures : (r s : DA728x) (a : ActuatorConfig) (d : DeviceConfig) (st : List ℕ) (cs : List AnswerCall) → configureNumber (r .variant) a d ≡ 0 → isSession st ≡ true →
-      isChipOf r s ≡ true → recordFinal (startedIn st (operation.configure r a d .start)) cs s
-      ≡ cond (completed (final (startedIn st (operation.configure r a d .start)) cs)) (configured s a d) s
+  pub configures : (r lent : DA728x) (a : ActuatorConfig) (d : DeviceConfig) (st : List ℕ) (cs : List AnswerCall) → configureNumber (r .variant) a d ≡ 0 →
+      isSession st ≡ true → let s = startedIn st (operation.configure r a d .start) in
+      recordFinal s cs lent ≡ cond (completed (final s cs)) (cond (isChipOf r lent) (configured lent a d) lent) lent
   pub own : (r : DA728x) → isChipOf r r ≡ true
-  pub foreign : (r s : DA728x) (a : ActuatorConfig) (d : DeviceConfig) (st : List ℕ) (cs : List AnswerCall) → configureNumber (r .variant) a d ≡ 0 → isSession st ≡ true →
-      isChipOf r s ≡ false → recordFinal (startedIn st (operation.configure r a d .start)) cs s ≡ s
   -- no other operation changes it
   pub others : Others (λ o. (b : Begun) (xs : List Step) → o .start ≡ begins b xs → (st : List ℕ) (cs : List AnswerCall) (r : DA728x) → isSession st ≡ true →
       recordFinal (begunIn st b xs) cs r ≡ r)
 
 -- ---- what is uploaded and read
 
--- the bytes of an image that a list of steps sends
-abbrev pub payload : List ℕ → List Step → List ℕ
-payload image [] = []
-payload image (Chunk offset len ∷ xs) = chunk image offset len ++ payload image xs
-payload image (Write register value ∷ xs) = payload image xs
-payload image (Read register ∷ xs) = payload image xs
-payload image (Update register shift width value ∷ xs) = payload image xs
-payload image (Match register value ∷ xs) = payload image xs
-payload image (Store index ∷ xs) = payload image xs
+-- bytes, each with the address where it goes: the first at this one
+abbrev pub addressed : ℕ → List ℕ → List (ℕ × ℕ)
+addressed address [] = []
+addressed address (b ∷ bytes) = (address, b) ∷ addressed (suc address) bytes
 
-pub record Exchanges : Type 0 where
-  -- "Upload sends what `WaveformMemory::as_bytes` shows"
-  pub shown : (m : WaveformMemory) (lockAfter : Bool) → length (m .«data») ≡ 100 →
-      payload (m .«data») (operation.uploadSteps m lockAfter) ≡ take (m .len) (m .«data»)
+-- what exchanges write into the waveform memory: the first byte sent is an address there, and the others go to it and those behind it
+abbrev pub payload : List Exchange → List (ℕ × ℕ)
+payload [] = []
+payload (e ∷ es) = cond (leb (addressOf "SNP_MEM_0") (at (e .bytes) 0)) (addressed (at (e .bytes) 0) (drop 1 (take (e .len) (e .bytes)))) [] ++ payload es
+
+pub record Transfers : Type 0 where
+  -- "Upload sends what `WaveformMemory::as_bytes` shows .. from address 84 (hexadecimal)": each byte to its own address, and no other
+  pub shown : (r : DA728x) (m : WaveformMemory) (lockAfter : Bool) → length (m .«data») ≡ 100 →
+      payload (exchangesOf (r .address) 0 (m .«data») (operation.uploadSteps m lockAfter) [])
+      ≡ addressed (addressOf "SNP_MEM_0") (take (m .len) (m .«data»))
   -- a read fills the front of the buffer with the bytes that came, and changes no other byte
   pub reads : (r : DA728x) (len : ℕ) (buffer : List ℕ) (st : List ℕ) (replies : List Reply) → isSession st ≡ true → length buffer < 2 ^ 64 →
-      filled (startedIn st (operation.readWaveformMemory r len (length buffer) .start)) buffer replies
-      ≡ over buffer 0 (came (startedIn st (operation.readWaveformMemory r len (length buffer) .start))
-      (lending (startedIn st (operation.readWaveformMemory r len (length buffer) .start)) buffer replies))
+      let s = startedIn st (operation.readWaveformMemory r len (length buffer) .start) in
+      filled s buffer replies ≡ over buffer 0 (came s (lending s buffer replies))
   -- once completed, as many bytes came as it reads
   pub came-all : (r : DA728x) (len room : ℕ) (st : List ℕ) (cs : List AnswerCall) → isSession st ≡ true → room < 2 ^ 64 →
-      completed (final (startedIn st (operation.readWaveformMemory r len room .start)) cs) ≡ true →
-      length (came (startedIn st (operation.readWaveformMemory r len room .start)) cs) ≡ min (min len 100) room
+      let s = startedIn st (operation.readWaveformMemory r len room .start) in completed (final s cs) ≡ true → length (came s cs) ≡ min (min len 100) room
   -- an answer is out of turn where a buffer of another length is lent than was said at the start, if anything is read
-  pub another : (r : DA728x) (len room n : ℕ) (st : List ℕ) (cs : List AnswerCall) → isSession st ≡ true → room < 2 ^ 64 →
-      changed (final (startedIn st (operation.readWaveformMemory r len room .start)) cs) n ≡ ltb 0 (min (min len 100) room) && not (eqb n room)
+  pub otherBuffer : (r : DA728x) (len room n : ℕ) (st : List ℕ) (cs : List AnswerCall) → isSession st ≡ true → room < 2 ^ 64 →
+      resized (final (startedIn st (operation.readWaveformMemory r len room .start)) cs) n ≡ ltb 0 (min (min len 100) room) && not (eqb n room)

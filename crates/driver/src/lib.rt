@@ -11,7 +11,7 @@ ghost use mathlib.Core.Bool.{_&&_};
 ghost use mathlib.Core.List.{_∷_};
 ghost use lib.ListN.{length};
 ghost use Rattle.errors.specs.Number.{answerNumber};
-ghost use Rattle.registers.specs.Addresses.{addressOf};
+ghost use Rattle.registers.specs.Table.{addressOf};
 ghost use Rattle.exchange.specs.declared.Step.the-variants.{Write};
 ghost use Rattle.exchange.specs.State.{begunIn};
 ghost use Rattle.exchange.specs.Turn.{stateAfter, bufferAfter, reportOf, turnReport};

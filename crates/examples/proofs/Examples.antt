@@ -1,10 +1,20 @@
--- Document 01's examples marked P hold: one joint statement over the whole table, each row by computation.
--- Assumes nothing.
+-- Document 01's examples marked P hold, and what was worked out by hand goes over the wire: each row by computation. Assumes nothing.
 use mathlib.Core.Path.{refl}
-use Rattle.field.specs.Field.{withOf}
 use Rattle.memory.specs.Memory.{builtMemory}
+use Rattle.field.specs.Field.{withOf}
+use Rattle.da728x.specs.Record.{recordAt}
+use Rattle.plans.specs.Configure.{featureSteps, limitSteps, calibrationSteps, pidSteps, frequencySteps, rapidStopSteps, phaseSteps, customSteps, drivingSteps, gpiByte, gpiSteps, givenSteps, triggerSteps}
+use Rattle.sessions.specs.Sessions.{noImage, enabled, seqCtl2, memCtl2, chunkStep, chunkSteps, lockSteps, sendSteps}
 use Rattle.examples.specs.Rows.{Hold, checkedExamples}
+use Rattle.examples.specs.Wire.{wireExamples, Examples}
 
-pub examples : Hold checkedExamples
+checked : Hold checkedExamples
 unfolding builtMemory withOf
-examples = (refl, (refl, (refl, (refl, (refl, (refl, (refl, (refl, (refl, (refl, (refl, (refl, (refl, (refl, (refl, (refl, (refl, (refl, (refl, (refl, (refl, (refl, (refl, (refl, (refl, (refl, tt))))))))))))))))))))))))))
+checked = (refl, (refl, (refl, (refl, (refl, (refl, (refl, (refl, (refl, (refl, (refl, (refl, (refl, (refl, (refl, (refl, (refl, (refl, (refl, (refl, (refl, (refl, (refl, (refl, (refl, tt)))))))))))))))))))))))))
+
+wired : Hold wireExamples
+unfolding withOf recordAt featureSteps limitSteps calibrationSteps pidSteps frequencySteps rapidStopSteps phaseSteps customSteps drivingSteps gpiByte gpiSteps givenSteps triggerSteps noImage enabled seqCtl2 memCtl2 chunkStep chunkSteps lockSteps sendSteps
+wired = (refl, (refl, (refl, (refl, (refl, (refl, (refl, (refl, (refl, (refl, (refl, (refl, (refl, (refl, (refl, (refl, (refl, (refl, (refl, (refl, (refl, (refl, (refl, (refl, (refl, (refl, (refl, (refl, (refl, (refl, (refl, (refl, (refl, (refl, (refl, (refl, (refl, tt)))))))))))))))))))))))))))))))))))))
+
+pub examples : Examples
+examples = record { checked = checked; wired = wired }

@@ -1,22 +1,23 @@
--- What goes over the wire: one of each operation, its exchanges in order where these bytes are read, each as one number: chip address, how many
--- bytes are wanted, the bytes sent (0x4A001380 sends 13 80 to 4A, 0x4A0114 sends 14 and reads a byte). What it answers; by which number it is refused.
--- Worked out by hand from registers.rs and document 01.
+-- What goes over the wire: each operation's exchanges in order where these bytes are read, each as one number: chip address, how many bytes are
+-- wanted, the bytes sent (0x4A001380 sends 13 80 to 4A, 0x4A0114 sends 14 and reads a byte). What it answers; by which number it is refused.
+-- Worked out by hand from registers.rs, lib.rs and document 01.
 use Prim.Native.Nat.{ℕ}
-use mathlib.Core.Bool.{true}
+use mathlib.Core.Bool.{true, false}
 use mathlib.Core.List.{List, [], _∷_, _++_, map}
-use lib.ListN.{take, replicate}
+use lib.ListN.{take, drop, set, replicate}
 use lib.IntN.{negsuc}
-use Rattle.config.specs.declared.Variant.the-variants.{DA7280}
+use Rattle.config.specs.declared.Variant.{Variant}
+use Rattle.config.specs.declared.Variant.the-variants.{DA7280, DA7281, DA7282}
 use Rattle.memory.specs.declared.WaveformMemory.{WaveformMemory}
-use Rattle.memory.specs.declared.WaveformMemoryTimebase.the-variants.{«TIMEBASE_136_544_2176_4352»}
+use Rattle.memory.specs.declared.WaveformMemoryTimebase.the-variants.{«TIMEBASE_544_2176_4352_8704», «TIMEBASE_136_544_2176_4352»}
 use Rattle.exchange.specs.Session.{exchangesOf}
 use Rattle.da728x.specs.declared.DA728x.{DA728x}
 use Rattle.da728x.specs.Record.{actuatorConfigAt, deviceConfigAt, recordAt}
 use Rattle.outcome.specs.Outcome.{bigEndian}
 use Rattle.driver.specs.Operations as operation
-use Rattle.driver.specs.Operations.{Start, declines, begins, startNumber, Operation, newRecord}
+use Rattle.driver.specs.Operations.{Start, declines, begins, startNumber, Operation, newRecord, revision}
 use Rattle.driver.specs.Theorems.{allSteps}
-use Rattle.examples.specs.Rows.{Example, _is_}
+use Rattle.examples.specs.Rows.{Example, _is_, Hold, checkedExamples}
 
 abbrev pub wireOf : List ℕ → Start → List ℕ
 wireOf bytes (declines number) = []
@@ -25,58 +26,95 @@ wireOf bytes (begins b xs) = map (λ e. bigEndian 0 (e .address ∷ e .wanted �
 abbrev pub wire : List ℕ → Operation → List ℕ
 wire bytes o = wireOf bytes (o .start)
 
--- settings as bytes: LRA, 2500 and 5990 mV, 165 mA, 8000 mOhm, 50 µH, 170 Hz, Kp 8123h, Ki 0180h; this operation mode, CUSTOM_WAVEFORM, triggers 1 rising,
--- 2 falling, 3 both
+-- settings as bytes, in this operation mode: LRA, 2500 and 5990 mV, 165 mA, 8000 mOhm, 50 µH, 170 Hz, Kp 0x8123, Ki 0x0180, CUSTOM_WAVEFORM, the
+-- triggers with sequences 1 rising, 2 falling, 3 both
 abbrev pub settingsFor : ℕ → List ℕ
 settingsFor mode =
     0 ∷ 0xC4 ∷ 0x09 ∷ 0x66 ∷ 0x17 ∷ 165 ∷ 0 ∷ 0x40 ∷ 0x1F ∷ 50 ∷ 0 ∷ 170 ∷ 0 ∷ 1 ∷ 0x23 ∷ 0x81 ∷ 0x80 ∷ 0x01
     ∷ mode ∷ 2 ∷ 1 ∷ 1 ∷ 0 ∷ 0 ∷ 1 ∷ 2 ∷ 1 ∷ 0 ∷ 1 ∷ 3 ∷ 2 ∷ 0 ∷ 0 ∷ 0 ∷ []
 
--- a DA7280 at 4A with these settings, in DRO_MODE
+-- ERM, 252 mA, 49999 mOhm, 17 µH, no PID words, FREQUENCY_TRACK, no triggers, acceleration
+abbrev pub accelerating : ℕ → List ℕ
+accelerating mode =
+    1 ∷ 0xC4 ∷ 0x09 ∷ 0x66 ∷ 0x17 ∷ 252 ∷ 0 ∷ 0x4F ∷ 0xC3 ∷ 17 ∷ 0 ∷ 170 ∷ 0 ∷ (replicate 5 0 ++ (mode ∷ 0 ∷ (replicate 12 0 ++ (1 ∷ 0 ∷ []))))
+
+-- bytes with some replaced, by their indexes
+abbrev pub replaced : List ℕ → List (ℕ × ℕ) → List ℕ
+replaced l [] = l
+replaced l (c ∷ cs) = replaced (set l (c .0) (c .1)) cs
+
+-- a DA7280 at 4A with settings stored, one of them in DRO_MODE
+abbrev pub chipWith : List ℕ → DA728x
+chipWith settings = recordAt (0x4A ∷ 0 ∷ 2 ∷ settings)
+
 abbrev pub chip : DA728x
-chip = recordAt (0x4A ∷ 0 ∷ 2 ∷ settingsFor 1)
+chip = chipWith (settingsFor 1)
 
-abbrev pub loaded34 : WaveformMemory
-loaded34 = record { «data» = replicate 32 7 ++ (8 ∷ 9 ∷ replicate 66 0); len = 34; «num_snippets» = 1; «num_sequences» = 1 }
+abbrev pub configuring : Variant → List ℕ → Operation
+configuring v settings = operation.configure (newRecord 0x4A v) (actuatorConfigAt settings 0) (deviceConfigAt settings 18)
 
-abbrev pub etwm : DA728x
-etwm = recordAt (0x4A ∷ 0 ∷ 2 ∷ settingsFor 4)
-
--- the settings with acceleration, tracking, in DRO_MODE
-abbrev pub accelerated : DA728x
-accelerated = recordAt (0x4A ∷ 0 ∷ 2 ∷ (take 19 (settingsFor 1) ++ (0 ∷ replicate 12 0 ++ (1 ∷ 0 ∷ []))))
+-- an image of 98 bytes, or of 2
+abbrev pub loadedTo : ℕ → WaveformMemory
+loadedTo n = record { «data» = replicate 96 7 ++ (8 ∷ 9 ∷ 0 ∷ 0 ∷ []); len = n; «num_snippets» = 1; «num_sequences» = 1 }
 
 abbrev pub numberOf : Operation → ℕ
 numberOf o = startNumber (o .start)
 
+-- what `configure` tells of the settings in ETWM_MODE with these bytes replaced
+abbrev pub told : Variant → List (ℕ × ℕ) → ℕ
+told v changes = numberOf (configuring v (replaced (settingsFor 4) changes))
+
 abbrev pub refusedExamples : List Example
 refusedExamples =
     -- without settings
-    (numberOf (operation.setFrequency (newRecord 0x4A DA7280) 170) is 15) ∷ (numberOf (operation.setOverrideValue (newRecord 0x4A DA7280) (negsuc 0)) is 15)
-    ∷ (numberOf (operation.enable (newRecord 0x4A DA7280)) is 15) ∷ (numberOf (operation.disable (newRecord 0x4A DA7280)) is 15)
-    ∷ (numberOf (operation.setCustomDriveWaveform (newRecord 0x4A DA7280)) is 15)
+    (map (λ o. numberOf (o (newRecord 0x4A DA7280))) ((λ r. operation.setFrequency r 170) ∷ (λ r. operation.setOverrideValue r (negsuc 0)) ∷ operation.enable
+    ∷ operation.disable ∷ operation.setCustomDriveWaveform ∷ []) is replicate 5 15)
     -- for a custom waveform, and while tracking
-    ∷ (numberOf (operation.setCustomDriveWaveform chip) is 14) ∷ (numberOf (operation.setCustomDriveWaveform accelerated) is 12)
-    ∷ (numberOf (operation.setFrequency chip 24) is 11) ∷ (numberOf (operation.setFrequency chip 1025) is 11) ∷ (numberOf (operation.setFrequency accelerated 301) is 11)
-    ∷ (numberOf (operation.setOverrideValue accelerated (negsuc 0)) is 11) ∷ (numberOf (operation.setOverrideValue etwm (negsuc 0)) is 12)
-    ∷ (numberOf (operation.selectSequence chip 16 0) is 11) ∷ (numberOf (operation.selectSequence chip 0 16) is 11)
-    ∷ (numberOf (operation.playSequence chip 16 0) is 11) ∷ (numberOf (operation.playSequence chip 0 16) is 11) ∷ []
+    ∷ (numberOf (operation.setCustomDriveWaveform chip) is 14) ∷ (numberOf (operation.setCustomDriveWaveform (chipWith (accelerating 1))) is 12)
+    ∷ (map (λ hz. numberOf (operation.setFrequency chip hz)) (24 ∷ 25 ∷ 1024 ∷ 1025 ∷ []) is (11 ∷ 0 ∷ 0 ∷ 11 ∷ []))
+    ∷ (map (λ hz. numberOf (operation.setFrequency (chipWith (accelerating 1)) hz)) (49 ∷ 50 ∷ 300 ∷ 301 ∷ []) is (11 ∷ 0 ∷ 0 ∷ 11 ∷ []))
+    -- in ETWM_MODE with a negative value, accelerating or not
+    ∷ (map (λ settings. numberOf (operation.setOverrideValue (chipWith settings) (negsuc 0))) (accelerating 4 ∷ settingsFor 4 ∷ []) is (11 ∷ 12 ∷ []))
+    ∷ (map numberOf (operation.selectSequence chip 16 0 ∷ operation.selectSequence chip 0 16 ∷ operation.playSequence chip 16 0 ∷ operation.playSequence chip 0 16 ∷ []) is replicate 4 11)
+    -- `configure`: as they are; acceleration, and rapid stop with no trigger, where it does not track; no trigger and 253 mA
+    ∷ (map (told DA7280) ([] ∷ ((32, 1) ∷ []) ∷ ((33, 1) ∷ (20, 0) ∷ (24, 0) ∷ (28, 0) ∷ []) ∷ ((20, 0) ∷ (24, 0) ∷ (28, 0) ∷ (5, 253) ∷ []) ∷ []) is (0 ∷ 12 ∷ 12 ∷ 13 ∷ []))
+    -- one trigger on a DA7281; two and 253 mA
+    ∷ (map (told DA7281) (((20, 0) ∷ (28, 0) ∷ []) ∷ ((28, 0) ∷ (5, 253) ∷ []) ∷ []) is (0 ∷ 14 ∷ []))
+    -- 6001 mV, 253 mA, 3999 and 50000 mOhm, 24 and 1025 Hz, 49 and 301 Hz tracking, 5991 mV, 28 mA, sequence 16
+    ∷ (map (told DA7280) (((1, 0x71) ∷ (2, 0x17) ∷ []) ∷ ((3, 0x71) ∷ []) ∷ ((5, 253) ∷ []) ∷ ((7, 0x9F) ∷ (8, 0x0F) ∷ []) ∷ ((7, 0x50) ∷ (8, 0xC3) ∷ []) ∷ ((11, 24) ∷ [])
+    ∷ ((11, 1) ∷ (12, 4) ∷ []) ∷ ((19, 0) ∷ (11, 49) ∷ []) ∷ ((19, 0) ∷ (11, 0x2D) ∷ (12, 1) ∷ []) ∷ ((1, 0x67) ∷ (2, 0x17) ∷ []) ∷ ((3, 0x67) ∷ []) ∷ ((5, 28) ∷ []) ∷ ((29, 16) ∷ [])
+    ∷ []) is replicate 13 11)
+    -- rapid stop while tracking; with sequence 16
+    ∷ (map (told DA7280) (((19, 0) ∷ (33, 1) ∷ []) ∷ ((19, 0) ∷ (33, 1) ∷ (29, 16) ∷ []) ∷ []) is (14 ∷ 11 ∷ [])) ∷ []
 
 abbrev pub wireExamples : List Example
 wireExamples =
-    -- in ETWM_MODE, where TOP_CFG2 reads 0F and TOP_INT_CFG8 reads 8C
-    (wire (0x0F ∷ 0x8C ∷ []) (operation.configure chip (actuatorConfigAt (settingsFor 4) 0) (deviceConfigAt (settingsFor 4) 18))
+    -- where TOP_CFG2 reads 0F and TOP_INT_CFG8 reads 8C: in ETWM_MODE; accelerating, where TOP_CFG2 reads 1F; WIDEBAND with the third trigger alone
+    (wire (0x0F ∷ 0x8C ∷ []) (configuring DA7280 (settingsFor 4))
     is (0x4A001380 ∷ 0x4A0114 ∷ 0x4A00141F ∷ 0x4A006E00 ∷ 0x4A000C6A ∷ 0x4A000DFF ∷ 0x4A000E12 ∷ 0x4A000F00 ∷ 0x4A00106D ∷ 0x4A006002 ∷ 0x4A001C02 ∷ 0x4A001D23 ∷ 0x4A001E03 ∷ 0x4A001F00 ∷ 0x4A000A22 ∷ 0x4A000B3B
     ∷ 0x4A0120 ∷ 0x4A00207C ∷ 0x4A004800 ∷ 0x4A004980 ∷ 0x4A002402 ∷ 0x4A001680 ∷ 0x4A00290C ∷ 0x4A002A15 ∷ 0x4A002B1E ∷ []))
-    ∷ (wire (0xBA ∷ []) (operation.new 0x4A DA7280) is (0x4A0100 ∷ []))
+    ∷ (wire (0x1F ∷ 0x8C ∷ []) (configuring DA7280 (accelerating 1))
+    is (0x4A0013BC ∷ 0x4A0114 ∷ 0x4A00140F ∷ 0x4A006E01 ∷ 0x4A000C6A ∷ 0x4A000DFF ∷ 0x4A000E1F ∷ 0x4A000F04 ∷ 0x4A00103E ∷ 0x4A00600C ∷ 0x4A000A22 ∷ 0x4A000B3B ∷ 0x4A0120 ∷ 0x4A00207C ∷ []))
+    ∷ (drop 16 (wire (0x0F ∷ 0x8C ∷ []) (configuring DA7280 (replaced (settingsFor 4) ((19, 1) ∷ (20, 0) ∷ (24, 0) ∷ []))))
+    is (0x4A0120 ∷ 0x4A00207C ∷ 0x4A004800 ∷ 0x4A004980 ∷ 0x4A002B1E ∷ []))
+    ∷ (wire (0xBA ∷ []) (operation.new 0x4A DA7280) is (0x4A0100 ∷ [])) ∷ (map revision (DA7280 ∷ DA7281 ∷ DA7282 ∷ []) is (0xBA ∷ 0xCA ∷ 0xDA ∷ []))
     ∷ (wire (0xBA ∷ []) (operation.getChipRev chip) is (0x4A0100 ∷ [])) ∷ (operation.getChipRev chip .answers (0xBA ∷ []) is 0xBA)
     ∷ (wire (1 ∷ 2 ∷ 3 ∷ []) (operation.getEvents chip) is (0x4A0103 ∷ 0x4A0104 ∷ 0x4A0105 ∷ 0x4A0003FF ∷ [])) ∷ (operation.getEvents chip .answers (1 ∷ 2 ∷ 3 ∷ []) is 0x010203)
     ∷ (wire (9 ∷ []) (operation.getStatus chip) is (0x4A0106 ∷ [])) ∷ (operation.getStatus chip .answers (9 ∷ []) is 9)
-    ∷ (wire [] (operation.setFrequency chip 170) is (0x4A000A22 ∷ 0x4A000B3B ∷ [])) ∷ (wire [] (operation.setOverrideValue chip (negsuc 0)) is (0x4A0023FF ∷ []))
-    ∷ (wire (3 ∷ []) (operation.setTimebase chip «TIMEBASE_136_544_2176_4352») is (0x4A0124 ∷ 0x4A002407 ∷ []))
-    ∷ (wire [] (operation.enable chip) is (0x4A002201 ∷ [])) ∷ (wire (0x1F ∷ []) (operation.disable chip) is (0x4A0122 ∷ 0x4A002218 ∷ []))
+    ∷ (wire [] (operation.setFrequency chip 170) is (0x4A000A22 ∷ 0x4A000B3B ∷ []))
+    ∷ (wire [] (operation.setOverrideValue chip (negsuc 0)) is (0x4A0023FF ∷ [])) ∷ (wire [] (operation.setOverrideValue chip (negsuc 127)) is (0x4A002380 ∷ []))
+    ∷ (map (λ timebase. wire (0x13 ∷ []) (operation.setTimebase chip timebase)) («TIMEBASE_544_2176_4352_8704» ∷ «TIMEBASE_136_544_2176_4352» ∷ [])
+    is ((0x4A0124 ∷ 0x4A002413 ∷ []) ∷ (0x4A0124 ∷ 0x4A002417 ∷ []) ∷ []))
+    ∷ (map (λ mode. wire [] (operation.enable (chipWith (settingsFor mode)))) (0 ∷ 1 ∷ 2 ∷ 3 ∷ 4 ∷ []) is map (λ byte. byte ∷ []) (0x4A002200 ∷ 0x4A002201 ∷ 0x4A002202 ∷ 0x4A002203 ∷ 0x4A002204 ∷ []))
+    ∷ (wire (0x1F ∷ []) (operation.disable chip) is (0x4A0122 ∷ 0x4A002218 ∷ []))
     ∷ (wire [] (operation.unlockWaveformMemory chip) is (0x4A002D80 ∷ [])) ∷ (wire [] (operation.lockWaveformMemory chip) is (0x4A002D00 ∷ []))
-    ∷ (wire [] (operation.uploadWaveformMemory chip loaded34 true) is (0x4A002D80 ∷ bigEndian 0x4A0084 (replicate 32 7) ∷ 0x4A00A40809 ∷ 0x4A002D00 ∷ []))
+    ∷ (wire [] (operation.uploadWaveformMemory chip (loadedTo 98) true)
+    is (0x4A002D80 ∷ bigEndian 0x4A0084 (replicate 32 7) ∷ bigEndian 0x4A00A4 (replicate 32 7) ∷ bigEndian 0x4A00C4 (replicate 32 7) ∷ 0x4A00E40809 ∷ 0x4A002D00 ∷ []))
+    ∷ (wire [] (operation.uploadWaveformMemory chip (loadedTo 2) false) is (0x4A002D80 ∷ 0x4A00840707 ∷ []))
     ∷ (wire (5 ∷ 6 ∷ []) (operation.readWaveformMemory chip 2 5) is (0x4A0184 ∷ 0x4A0185 ∷ [])) ∷ (operation.readWaveformMemory chip 2 5 .answers (5 ∷ 6 ∷ []) is 2)
     ∷ (wire [] (operation.selectSequence chip 3 2) is (0x4A002823 ∷ [])) ∷ (wire (1 ∷ []) (operation.startSequence chip) is (0x4A0122 ∷ 0x4A002211 ∷ []))
     ∷ (wire (1 ∷ []) (operation.playSequence chip 3 2) is (0x4A002823 ∷ 0x4A0122 ∷ 0x4A002211 ∷ [])) ∷ refusedExamples
+
+pub record Examples : Type 0 where
+  pub checked : Hold checkedExamples
+  pub wired : Hold wireExamples

@@ -5,17 +5,14 @@ use mathlib.Core.List.{List, [], _∷_, _++_}
 use lib.Dec.{ltb}
 use lib.ListN.{replicate}
 use Rattle.field.specs.Field.{codeOf}
-use Rattle.registers.specs.Addresses.{addressOf}
-use Rattle.registers_control.specs.Table.{top-ctl1}
-use Rattle.registers_trigger.specs.Table.{seq-ctl2, mem-ctl2}
 use Rattle.config.specs.declared.OperationMode.{OperationMode}
 use Rattle.config.specs.Codes.{operationCode}
 use Rattle.da728x.specs.declared.DA728x.{DA728x}
 use Rattle.da728x.specs.Record.{recordBytes}
 use Rattle.exchange.specs.declared.Step.{Step}
-use Rattle.exchange.specs.declared.Step.the-variants.{Write, Read, Chunk}
+use Rattle.exchange.specs.declared.Step.the-variants.{Chunk}
 use Rattle.exchange.specs.State.{Begun, begunWith}
-use Rattle.plans.specs.Fields.{put, fresh, updated}
+use Rattle.plans.specs.Fields.{put, fresh, written, updated}
 
 -- ---- what a session is begun with
 
@@ -37,22 +34,22 @@ carrying purpose r = begunWith (r .address) 0 0 purpose noImage (recordBytes r)
 -- ---- register values and steps
 
 unfoldable pub enabled : OperationMode → ℕ
-enabled mode = fresh top-ctl1 (put "OPERATION_MODE" (operationCode mode) ∷ put "STANDBY_EN" 0 ∷ put "SEQ_START" 0 ∷ [])
+enabled mode = fresh "TOP_CTL1" (put "OPERATION_MODE" (operationCode mode) ∷ put "STANDBY_EN" 0 ∷ put "SEQ_START" 0 ∷ [])
 
 unfoldable pub seqCtl2 : ℕ → ℕ → ℕ
-seqCtl2 id loops = fresh seq-ctl2 (put "PS_SEQ_ID" id ∷ put "PS_SEQ_LOOP" loops ∷ [])
+seqCtl2 id loops = fresh "SEQ_CTL2" (put "PS_SEQ_ID" id ∷ put "PS_SEQ_LOOP" loops ∷ [])
 
 abbrev pub selectStep : ℕ → ℕ → Step
-selectStep id loops = Write (addressOf "SEQ_CTL2") (seqCtl2 id loops)
+selectStep id loops = written "SEQ_CTL2" (seqCtl2 id loops)
 
 abbrev pub startSteps : List Step
-startSteps = Read (addressOf "TOP_CTL1") ∷ updated (addressOf "TOP_CTL1") top-ctl1 (put "SEQ_START" 1) ∷ []
+startSteps = updated "TOP_CTL1" (put "SEQ_START" 1)
 
 unfoldable pub memCtl2 : Bool → ℕ
-memCtl2 unlocked = fresh mem-ctl2 (put "WAV_MEM_LOCK" (codeOf unlocked) ∷ [])
+memCtl2 unlocked = fresh "MEM_CTL2" (put "WAV_MEM_LOCK" (codeOf unlocked) ∷ [])
 
-abbrev pub unlockStep : Bool → Step
-unlockStep unlocked = Write (addressOf "MEM_CTL2") (memCtl2 unlocked)
+abbrev pub setUnlocked : Bool → Step
+setUnlocked unlocked = written "MEM_CTL2" (memCtl2 unlocked)
 
 -- the part from an offset on, of n bytes in all: none behind the end
 unfoldable pub chunkStep : ℕ → ℕ → List Step
@@ -63,9 +60,8 @@ unfoldable pub chunkSteps : ℕ → List Step
 chunkSteps n = chunkStep n 0 ++ (chunkStep n 32 ++ (chunkStep n 64 ++ chunkStep n 96))
 
 unfoldable pub lockSteps : Bool → List Step
-lockSteps true = unlockStep false ∷ []
-lockSteps false = []
+lockSteps lockAfter = cond lockAfter (setUnlocked false ∷ []) []
 
 -- unlock, n bytes, and lock if asked
 unfoldable pub sendSteps : ℕ → Bool → List Step
-sendSteps n lockAfter = unlockStep true ∷ (chunkSteps n ++ lockSteps lockAfter)
+sendSteps n lockAfter = setUnlocked true ∷ (chunkSteps n ++ lockSteps lockAfter)

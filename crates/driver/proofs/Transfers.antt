@@ -5,24 +5,24 @@ use mathlib.Core.Path.{_≡_, refl, _∙_}
 use mathlib.Core.Bool.{true, not, _&&_}
 use mathlib.Core.List.{List, [], _∷_}
 use lib.Dec.{ltb, eqb}
-use lib.ListN.{length}
+use lib.ListN.{length, take, drop, getD}
 use Rattle.exchange.specs.declared.Step.the-variants.{Store}
 use Rattle.exchange.specs.State.{isSession, readCount, indexed, completed, Begun, begunWith, begunIn}
-use Rattle.exchange.specs.Turn.{changed}
-use Rattle.exchange.specs.Session.{AnswerCall, lastAfter, unread, exchangesOf, final, came}
+use Rattle.exchange.specs.Turn.{resized}
+use Rattle.exchange.specs.Session.{AnswerCall, exchangesOf, final, came}
 use Rattle.exchange.proofs.Fills.{fills}
 use Rattle.exchange.proofs.Keeps.{keeps}
 use Rattle.exchange.proofs.Latest.{bytesWanted}
 use Rattle.da728x.specs.declared.DA728x.{DA728x}
 use Rattle.sessions.specs.Sessions.{noImage, blankRecord}
-use Rattle.driver.specs.Theorems.{Exchanges}
+use Rattle.driver.specs.Theorems.{Transfers}
 use Rattle.driver.proofs.Begun.{Holds, holds, all-came, no-image, no-record}
 use Rattle.driver.proofs.Upload.{shown}
 
 -- memory reads want a byte each
 wanted-each : (n i address last : ℕ) (image bytes : List ℕ) → bytesWanted (exchangesOf address last image (indexed Store i n) bytes) ≡ n
 wanted-each zero i address last image bytes = refl
-wanted-each (suc n) i address last image bytes = let k = wanted-each n (suc i) address (lastAfter true last bytes) image (unread true bytes) in omega (arith, k)
+wanted-each (suc n) i address last image bytes = let k = wanted-each n (suc i) address (getD (take 1 bytes) 0 last) image (drop 1 bytes) in omega (arith, k)
 
 module _ (r : DA728x) (len room : ℕ) (st : List ℕ) (cs : List AnswerCall) (e : isSession st ≡ true) (h : room < 2 ^ 64) where
   abbrev n : ℕ
@@ -37,19 +37,19 @@ module _ (r : DA728x) (len room : ℕ) (st : List ℕ) (cs : List AnswerCall) (e
   came-all : completed (final (begunIn st b []) cs) ≡ true → length (came (begunIn st b []) cs) ≡ n
   came-all done = all-came held cs done ∙ wanted-each (min n 100) 0 (r .address) 0 noImage (came (begunIn st b []) cs) ∙ omega arith
 
-  another : (m : ℕ) → changed (final (begunIn st b []) cs) m ≡ ltb 0 n && not (eqb m room)
-  another m =
+  otherBuffer : (m : ℕ) → resized (final (begunIn st b []) cs) m ≡ ltb 0 n && not (eqb m room)
+  otherBuffer m =
       let k = keeps cs (begunIn st b []) (held .session) in
       let p : readCount (final (begunIn st b []) cs) ≡ n = k .reads ∙ held .reads ∙ omega arith in
       λ i. ltb 0 (p i) && not (eqb m ((k .room ∙ held .room) i))
 
-pub exchanges : Exchanges
-exchanges = record {
+pub transfers : Transfers
+transfers = record {
   shown = shown;
   reads = λ r len buffer st replies e h.
       let n = min (min len 100) (length buffer) in
       let b = begunWith (r .address) n (length buffer) 5 noImage blankRecord in
       fills replies (begunIn st b []) 0 (min n 100) buffer (holds st b [] e (omega arith, h, no-image, no-record) .steps) (omega arith);
   came-all = λ r len room st cs e h. came-all r len room st cs e h;
-  another = λ r len room m st cs e h. another r len room st cs e h m;
+  otherBuffer = λ r len room m st cs e h. otherBuffer r len room st cs e h m;
 }
