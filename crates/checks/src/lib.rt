@@ -1,7 +1,7 @@
 // The checks that `configure` makes before its first exchange (lib.rs; document 01, 'Settings to registers'), those that document 01 adds
 // among them. Nothing is left out.
-// Proved: the answer is the number of the first check of specs/Checks.antt that fails, in that order; none does
-// exactly for the settings in the ranges of specs/InRange.antt (proofs/Accepted.antt).
+// Proved: the answer is the number of the first check of specs/Checks.antt that fails, in that order; no
+// check fails if and only if the settings are in the ranges of specs/InRange.antt (proofs/Accepted.antt).
 ghost use mathlib.Core.Path.{_≡_};
 ghost use mathlib.Core.Bool.{not, _&&_, _||_};
 ghost use lib.Dec.{ltb, eqb};

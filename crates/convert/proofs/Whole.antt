@@ -1,4 +1,4 @@
--- Where the checks accept, no value is cut by its register: plans/proofs/Accepted.antt joins these laws.
+-- Where the checks accept, no value but a PID word is cut by its register: plans/proofs/Accepted.antt joins these laws.
 -- Assumes nothing.
 use Prim.Native.Nat.{ℕ, zero, suc, _≤_, _<_, _-_, _*_, _/_}
 use native.Mathlib.Omega.{arith}

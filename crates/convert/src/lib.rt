@@ -1,6 +1,6 @@
 // Settings to register values (lib.rs, `configure`, `set_frequency`, `set_override_value`; document 01, 'Settings to registers').
-// Proved: each function equals its definition in specs/ for every argument, a refused setting too. That no accepted setting is cut by
-// its register's width is in plans/specs/Accepted.antt.
+// Proved: each function equals its definition in specs/ for every argument, a refused setting too. That no accepted setting but a
+// PID word's bit 15 is cut by its register's width is in plans/specs/Accepted.antt.
 // The Rust matches the rows on mOhm × 1000, which outgrows its type; document 01 has whole ohms.
 ghost use mathlib.Core.Path.{_≡_};
 ghost use Rattle.convert.specs.Convert.{voltageByte, imaxCode, v2iWord, periodWord, highPart, lowPart, overrideByte};

@@ -57,7 +57,8 @@ pub record Each (P : Operation → Type 0) : Type 0 where
 
 -- ---- what is sent and answered
 
--- of a session begun as `s` for the chip at an address, with these steps, under a list of answers, where the operation's result is `result` of the bytes that came
+-- what holds under a list of answers of a session that begins as `s`, for the chip at this address, with these steps; `result` gives the
+-- operation's answer from the bytes that came
 pub record Course (s : List ℕ) (address : ℕ) (image : List ℕ) (xs : List Step) (result : List ℕ → ℕ) (cs : List AnswerCall) : Type 0 where
   -- demand 2's exchanges: those of the steps, in order from the first, with the bytes read substituted
   pub order : sent s cs ≡ take (length (sent s cs)) (exchangesOf address 0 image xs (came s cs))

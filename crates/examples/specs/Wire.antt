@@ -43,7 +43,7 @@ abbrev pub replaced : List ℕ → List (ℕ × ℕ) → List ℕ
 replaced l [] = l
 replaced l (c ∷ cs) = replaced (set l (c .0) (c .1)) cs
 
--- a DA7280 at 4A with settings stored, one of them in DRO_MODE
+-- a DA7280 at 4A with these settings stored; `chip` has the first in DRO_MODE
 abbrev pub chipWith : List ℕ → DA728x
 chipWith settings = recordAt (0x4A ∷ 0 ∷ 2 ∷ settings)
 

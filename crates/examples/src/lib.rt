@@ -1,5 +1,5 @@
 // Document 01's checked examples that are marked P ('Checked examples'), as the rows of one computed table: points, frames, an image, and
-// the register values of settings. specs/Rows.antt has the table, and proofs/Examples.antt the one statement that all its rows hold.
-// specs/Wire.antt has a second table, of ours: what one of each operation sends and answers; proofs/Wire.antt says that its rows hold.
+// the register values of settings: specs/Rows.antt. specs/Wire.antt has a second table, of ours: what one of each operation sends and
+// answers, and by which number it is refused. One record says that all rows of both hold (`Examples`; proofs/Examples.antt).
 // The rows use the definitions that the functions' contracts cite. There is no code here and no Rust file. Left out: the examples that
 // are not marked, which the harness compares.

@@ -1,4 +1,4 @@
--- The definitions that the contracts of `exchange` cite.
+-- The definitions that the contracts of `exchange` cite, and its theorem.
 pub mod Steps
 pub mod State
 pub mod Turn

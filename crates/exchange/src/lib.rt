@@ -2,8 +2,8 @@
 // exchange of one step after the other, takes back the bus's answer, and ends. Its state is bytes that the caller lends, so that
 // firmware can hold it across an await; the layout stands in specs/State.antt. Left out: the bus itself and its waiting.
 //
-// Proved: each function equals its definition for every state, answer and buffer. Bytes of another length than 279, or whose stage is not
-// that of a session that was begun, have no step left and are not completed. proofs/Session.antt: over every list of answers the
+// Proved: each function equals its definition for every state, answer and buffer. Bytes of another length than 279, or whose stage is not 1
+// (not begun, or broken off), have no step left and are not completed. proofs/Session.antt: over every list of answers the
 // exchanges are those of the steps, in order, and the count is true.
 ghost use mathlib.Core.Path.{_≡_};
 ghost use mathlib.Core.Bool.{cond};

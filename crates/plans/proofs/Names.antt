@@ -1,4 +1,4 @@
--- Every field that the steps of `configure` name is in its register's table, and the steps write the fields listed here: a misspelt
+-- Every field that the steps of `configure` name is in its register's row of the table, and the steps write the fields listed here: a misspelt
 -- name would have no width, and its value would be missing. In a fresh byte a field that is given 0 changes nothing, however spelt.
 -- Assumes nothing.
 use Prim.Native.Nat.{ℕ}

@@ -1,4 +1,4 @@
--- Which settings `configure` takes, and that it writes them whole: the ranges of document 01 (checks/specs/InRange.antt) are exactly what
+-- Which settings `configure` takes, and that it writes them whole (PID words, which lose bit 15, apart): the ranges of document 01 (checks/specs/InRange.antt) are exactly what
 -- its checks pass, and in them each conversion is its quotient, rounded down and not cut, and fits its register's field. Which byte goes to
 -- which register: specs/Configure.antt. That it is so: proofs/Accepted.antt.
 use Prim.Native.Nat.{_-_, _*_, _/_, _<_}

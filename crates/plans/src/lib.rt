@@ -1,7 +1,7 @@
 // The steps of `configure` (lib.rs; document 01, 'Settings to registers' and 'Exchanges'), pushed to a session that was begun.
 // Each function pushes one part of the Rust's body, in its order; the register types are those of registers.rs.
-// Proved: what is pushed is specs/Configure.antt's list, 14 to 25 steps (proofs/Lengths.antt); of accepted settings no value is cut by
-// its register (proofs/Accepted.antt). Left out: the steps where rapid stop is on, which the Rust does not have and `checks` refuses.
+// Proved: what is pushed is specs/Configure.antt's list, 14 to 25 steps (proofs/Lengths.antt); of accepted settings no value but a
+// PID word, which loses bit 15, is cut by its register (proofs/Accepted.antt). Left out: the steps where rapid stop is on, which the Rust does not have and `checks` refuses.
 ghost use mathlib.Core.Path.{_≡_};
 ghost use Rattle.exchange.specs.State.{pushed, pushedAll};
 ghost use Rattle.exchange.specs.declared.Step.the-variants.{Write, Read, Update};
