@@ -6,6 +6,7 @@ use Prim.Native.Nat.{ℕ, _+_, _≤_, _<_}
 use native.Mathlib.Omega.{arith}
 use lib.Dec.{ltb, leb}
 use lib.ListN.{length}
+use Rattle.laws.proofs.Tests.{choice}
 use Rattle.errors.specs.Told.{Told, gives, refuses, Handed, accepted, refused, Built}
 use Rattle.snippet.specs.declared.SnippetBuilder.{SnippetBuilder}
 use Rattle.snippet.specs.Point as made
@@ -29,13 +30,9 @@ by-refusing b n h = (h, λ k. refl)
 by-accepting : {B : Type 0} (b x : B) → Answers b (accepted x)
 by-accepting b x = (omega arith, λ k. absurd (omega arith))
 
-either : {B : Type 0} (b : B) (t : Bool) (x y : Handed B) → Answers b x → Answers b y → Answers b (cond t x y)
-either b true x y h k = h
-either b false x y h k = k
-
 -- refused with n, or accepted
 one : {B : Type 0} (b : B) (t : Bool) (n : ℕ) (x : B) → n ≤ 14 → Answers b (cond t (refused n b) (accepted x))
-one b t n x h = either b t (refused n b) (accepted x) (by-refusing b n h) (by-accepting b x)
+one b t n x h = choice (Answers b) t (refused n b) (accepted x) (by-refusing b n h) (by-accepting b x)
 
 point-answers : (b : SnippetBuilder) (x : ℕ) → Answers b (withPoint b (pointOf x))
 point-answers b x = one b (leb 16 (b .len)) 6 _ (omega arith)
@@ -76,10 +73,10 @@ pub memory-answers : (m : WaveformMemoryBuilder) (k : MemoryCall) → Answers m 
 memory-answers m (addSnippet ks) =
     let b = snippetFrom ks in
     let r = builtSnippet b in
-    either m (ltb 0 (r .number)) (refused (r .number) m) (withSnippet m (r .item)) (by-refusing m (r .number) (built-number (ltb (b .len) 1) _ _ (omega arith) (omega arith)))
+    choice (Answers m) (ltb 0 (r .number)) (refused (r .number) m) (withSnippet m (r .item)) (by-refusing m (r .number) (built-number (ltb (b .len) 1) _ _ (omega arith) (omega arith)))
     (one m (leb 15 (m .«num_snippets»)) 6 _ (omega arith))
 memory-answers m (addSequence ms) =
     let b = sequenceFrom ms in
     let r = builtSequence b in
-    either m (ltb 0 (r .number)) (refused (r .number) m) (withSequence m (r .item)) (by-refusing m (r .number) (built-number (ltb (b .len) 1) _ _ (omega arith) (omega arith)))
+    choice (Answers m) (ltb 0 (r .number)) (refused (r .number) m) (withSequence m (r .item)) (by-refusing m (r .number) (built-number (ltb (b .len) 1) _ _ (omega arith) (omega arith)))
     (one m (leb 16 (m .«num_sequences»)) 7 _ (omega arith))

@@ -7,6 +7,7 @@ use mathlib.Core.List.{List, [], _∷_, _++_}
 use lib.Dec.{eqb}
 use lib.ListN.{length, drop, getD, replicate, length-take, length-replicate}
 use borrow.Author.Tests.{eq-eqb, ne-eqb, ltb-true}
+use Rattle.laws.proofs.Tests.{choice}
 use Rattle.laws.specs.Bytes.{Bytes}
 use Rattle.field.specs.Field.{codeOf}
 use Rattle.exchange.specs.declared.Exchange.{Exchange}
@@ -95,10 +96,6 @@ bounded-exchange st h = go (left st)
     go (Store i ∷ xs) = (omega arith, byte-of st 0 h)
 
 -- what is told of an answer, by how it fits
-choice : {A : Type 0} (P : A → Type 0) (q : Bool) (x y : A) → P x → P y → P (cond q x y)
-choice P true x y p r = p
-choice P false x y p r = r
-
 module _ (st : List ℕ) (kind byte n : ℕ) (h : Bytes st) (b : byte < 256) where
   told : (reportOf st (replyOf kind byte) n .number < 256) × (reportOf st (replyOf kind byte) n .code < 256)
   unfolding reportOf fitOf

@@ -82,19 +82,3 @@ module _ {A B : Type 0} (Fit : A → Type 0) (read : A → Option B) (write : B 
 pub map-id : {A : Type 0} (l : List A) → map (λ x. x) l ≡ l
 map-id [] = refl
 map-id (x ∷ l) = ap (λ r. x ∷ r) (map-id l)
-
-pub all-append : {A : Type 0} (P : A → Type 0) (l m : List A) → All P l → All P m → All P (l ++ m)
-all-append P [] m p q = q
-all-append P (x ∷ l) m p q = (p .0, all-append P l m (p .1) q)
-
-pub all-left : {A : Type 0} (P : A → Type 0) (l m : List A) → All P (l ++ m) → All P l
-all-left P [] m h = tt
-all-left P (x ∷ l) m h = (h .0, all-left P l m (h .1))
-
-pub all-right : {A : Type 0} (P : A → Type 0) (l m : List A) → All P (l ++ m) → All P m
-all-right P [] m h = h
-all-right P (x ∷ l) m h = all-right P l m (h .1)
-
-pub all-map : {A B : Type 0} {P : A → Type 0} (Q : B → Type 0) (f : A → B) (h : (a : A) → P a → Q (f a)) (l : List A) → All P l → All Q (map f l)
-all-map Q f h [] p = tt
-all-map Q f h (x ∷ l) p = (h x (p .0), all-map Q f h l (p .1))

@@ -8,6 +8,7 @@ use mathlib.Core.Option.{Option, none, some}
 use Prim.Native.Nat.{ℕ, zero, suc, _+_, _-_, _≤_, _<_}
 use native.Mathlib.Omega.{arith}
 use lib.ListN.{length, replicate, length-map, length-append}
+use Rattle.laws.proofs.Lists.{all-append, all-left, all-right, all-map}
 use Rattle.laws.specs.Bytes.{All, Bytes}
 use Rattle.laws.specs.Lists.{joined}
 use Rattle.frame.specs.declared.FrameBuilder.{FrameBuilder}
@@ -16,7 +17,7 @@ use Rattle.memory.specs.Image.{endPointers, imageSize, imageBytes}
 use Rattle.content.specs.Content.{Point, Content, pointBytes, framesBytes, imageOf, Admitted, Same}
 use Rattle.content.proofs.Admits.{SnippetAdmitted, SequenceAdmitted}
 use Rattle.content.specs.ReadImage.{andThen, every, readSnippet, readSequence, Items, readItems, contentIn, readImage}
-use Rattle.content.proofs.Codec.{Codec, every-codec, refuses, same, write-canon, good-canon, then-some, some-inj, map-id, all-append, all-left, all-right, all-map}
+use Rattle.content.proofs.Codec.{Codec, every-codec, refuses, same, write-canon, good-canon, then-some, some-inj, map-id}
 use Rattle.content.proofs.Points.{snippet-codec, snippet-long}
 use Rattle.content.proofs.Sequences.{sequence-codec, sequence-long}
 use Rattle.content.proofs.Items.{NotEmpty, written, Good, hundred, items-sound, items-complete}

@@ -9,6 +9,7 @@ use native.Mathlib.Omega.{arith}
 use borrow.Author.Tests.{le-leb, leb-true}
 use lib.Dec.{leb}
 use lib.ListN.{length, length-append}
+use Rattle.laws.proofs.Lists.{all-append, all-right}
 use Rattle.laws.specs.Bytes.{All, Bytes}
 use Rattle.frame.specs.declared.FrameBuilder.{FrameBuilder}
 use Rattle.frame.specs.Agreement.{FrameAdmitted}
@@ -21,7 +22,7 @@ use Rattle.frame.proofs.Frames.{frame-bytes}
 use Rattle.content.specs.Content.{framesBytes}
 use Rattle.content.proofs.Admits.{SequenceAdmitted}
 use Rattle.content.specs.ReadImage.{andThen, readFrames, readSequence}
-use Rattle.content.proofs.Codec.{Codec, cond-some, cond-on, some-inj, none-some, then-some, all-append, all-right}
+use Rattle.content.proofs.Codec.{Codec, cond-some, cond-on, some-inj, none-some, then-some}
 
 frames-sound : (k : ℕ) (bs : List ℕ) (fs : List FrameBuilder) → Bytes bs → readFrames k bs ≡ some fs
     → (length fs ≤ k) × All FrameAdmitted fs × (framesBytes fs ≡ bs)

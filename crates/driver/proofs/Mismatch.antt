@@ -2,12 +2,14 @@
 use Prim.Native.Nat.{ℕ, zero, suc, _-_, min}
 use native.Mathlib.Omega.{arith}
 use mathlib.Core.Path.{_≡_, refl, sym, _∙_, ap, subst}
-use mathlib.Core.Bool.{Bool, true, false, cond, not, _&&_, true≢false, false≢true}
+use mathlib.Core.Bool.{Bool, true, false, not, _&&_, true≢false, false≢true}
 use mathlib.Core.List.{List, [], _∷_, _++_}
 use Prim.Native.String.{String}
 use lib.Dec.{ltb, eqb}
 use lib.ListN.{length, drop}
 use Rattle.laws.specs.Bytes.{All}
+use Rattle.laws.proofs.Lists.{all-append}
+use Rattle.laws.proofs.Tests.{choice}
 use Rattle.config.specs.declared.ActuatorConfig.{ActuatorConfig}
 use Rattle.config.specs.declared.DeviceConfig.{DeviceConfig}
 use Rattle.config.specs.declared.Pid.{Pid}
@@ -43,25 +45,17 @@ Plain (Store i) = Unit
 abbrev pub AllPlain : List Step → Type 0
 AllPlain xs = All Plain xs
 
-joined : (xs ys : List Step) → AllPlain xs → AllPlain ys → AllPlain (xs ++ ys)
-joined [] ys p q = q
-joined (x ∷ xs) ys p q = (p .0, joined xs ys (p .1) q)
-
 dropped : (k : ℕ) (xs : List Step) → AllPlain xs → AllPlain (drop k xs)
 dropped zero xs p = p
 dropped (suc k) [] p = p
 dropped (suc k) (x ∷ xs) p = dropped k xs (p .1)
-
-either : (b : Bool) (xs ys : List Step) → AllPlain xs → AllPlain ys → AllPlain (cond b xs ys)
-either true xs ys p q = p
-either false xs ys p q = q
 
 stores : (n i : ℕ) → AllPlain (indexed Store i n)
 stores zero i = tt
 stores (suc n) i = (tt, stores n (suc i))
 
 pub all-plain : (b : Begun) (xs : List Step) → AllPlain xs → AllPlain (allSteps b xs)
-all-plain b xs p = joined xs _ p (stores (min (b .reads) 100) 0)
+all-plain b xs p = all-append Plain xs _ p (stores (min (b .reads) 100) 0)
 
 -- ---- such are those of `configure`, and of an upload
 
@@ -88,12 +82,12 @@ gpi-plain digit (trigger.Given t) = (tt, tt)
 given-plain : (r s t : Trigger) → AllPlain (givenSteps r s t)
 unfolding givenSteps
 given-plain r s t =
-    joined (gpiSteps "0" r) (gpiSteps "1" s ++ gpiSteps "2" t) (gpi-plain "0" r) (joined (gpiSteps "1" s) (gpiSteps "2" t) (gpi-plain "1" s) (gpi-plain "2" t))
+    all-append Plain (gpiSteps "0" r) (gpiSteps "1" s ++ gpiSteps "2" t) (gpi-plain "0" r) (all-append Plain (gpiSteps "1" s) (gpiSteps "2" t) (gpi-plain "1" s) (gpi-plain "2" t))
 
 triggers-plain : (d : DeviceConfig) → AllPlain (triggerSteps d)
 unfolding triggerSteps
 triggers-plain d =
-    either (etwm (d .«operation_mode»)) (givenSteps (d .«gpi_trigger_0») (d .«gpi_trigger_1») (d .«gpi_trigger_2»)) []
+    choice AllPlain (etwm (d .«operation_mode»)) (givenSteps (d .«gpi_trigger_0») (d .«gpi_trigger_1») (d .«gpi_trigger_2»)) []
     (given-plain (d .«gpi_trigger_0») (d .«gpi_trigger_1») (d .«gpi_trigger_2»)) tt
 
 pub configure-plain : (a : ActuatorConfig) (d : DeviceConfig) → AllPlain (configureSteps a d)
@@ -102,13 +96,13 @@ configure-plain a d =
     let mode = drivingSteps (d .«driving_mode») in
     let last = rapidStopSteps ++ (mode ++ triggerSteps d) in
     let period = frequencySteps (a .«frequency_Hz») in
-    let end : AllPlain last = (tt, (tt, joined mode (triggerSteps d) (driving-plain (d .«driving_mode»)) (triggers-plain d))) in
-    let rest = joined (pidSteps (a .«pid_Kp_Ki»)) (period ++ last) (pid-plain (a .«pid_Kp_Ki»)) (joined period last (frequency-plain (a .«frequency_Hz»)) end) in
+    let end : AllPlain last = (tt, (tt, all-append Plain mode (triggerSteps d) (driving-plain (d .«driving_mode»)) (triggers-plain d))) in
+    let rest = all-append Plain (pidSteps (a .«pid_Kp_Ki»)) (period ++ last) (pid-plain (a .«pid_Kp_Ki»)) (all-append Plain period last (frequency-plain (a .«frequency_Hz»)) end) in
     (tt, (tt, (tt, (tt, (tt, (tt, (tt, (tt, (tt, (tt, rest))))))))))
 
 chunk-plain : (n offset : ℕ) → AllPlain (chunkStep n offset)
 unfolding chunkStep
-chunk-plain n offset = either (ltb offset n) (Chunk offset (min 32 (n - offset)) ∷ []) [] (tt, tt) tt
+chunk-plain n offset = choice AllPlain (ltb offset n) (Chunk offset (min 32 (n - offset)) ∷ []) [] (tt, tt) tt
 
 lock-plain : (lockAfter : Bool) → AllPlain (lockSteps lockAfter)
 unfolding lockSteps
@@ -119,12 +113,12 @@ chunks-plain : (n : ℕ) → AllPlain (chunkSteps n)
 unfolding chunkSteps
 chunks-plain n =
     let last = chunkStep n 64 ++ chunkStep n 96 in
-    joined (chunkStep n 0) (chunkStep n 32 ++ last) (chunk-plain n 0)
-    (joined (chunkStep n 32) last (chunk-plain n 32) (joined (chunkStep n 64) (chunkStep n 96) (chunk-plain n 64) (chunk-plain n 96)))
+    all-append Plain (chunkStep n 0) (chunkStep n 32 ++ last) (chunk-plain n 0)
+    (all-append Plain (chunkStep n 32) last (chunk-plain n 32) (all-append Plain (chunkStep n 64) (chunkStep n 96) (chunk-plain n 64) (chunk-plain n 96)))
 
 pub send-plain : (n : ℕ) (lockAfter : Bool) → AllPlain (sendSteps n lockAfter)
 unfolding sendSteps
-send-plain n lockAfter = (tt, joined (chunkSteps n) (lockSteps lockAfter) (chunks-plain n) (lock-plain lockAfter))
+send-plain n lockAfter = (tt, all-append Plain (chunkSteps n) (lockSteps lockAfter) (chunks-plain n) (lock-plain lockAfter))
 
 -- ---- what is told
 
@@ -149,4 +143,4 @@ unmatched st l p q a n e = go l p q a e (on (taken st a n) (ap (λ (m : ℕ). eq
 pub never : {s : List ℕ} {b : Begun} {xs : List Step} → Holds s b xs → AllPlain xs → (cs : List AnswerCall) (c : AnswerCall) → ¬ (numberAt (final s cs) c ≡ 16)
 never {s} {b} {xs} h p cs c =
     let k = subst AllPlain (sym (h .steps)) p in
-    unmatched (final s cs) _ (session .end s cs) (either (brokenOff s cs) [] _ tt (dropped (length (sent s cs)) (left s) k)) (c .reply) (length (c .buffer))
+    unmatched (final s cs) _ (session .end s cs) (choice AllPlain (brokenOff s cs) [] _ tt (dropped (length (sent s cs)) (left s) k)) (c .reply) (length (c .buffer))

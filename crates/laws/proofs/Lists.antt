@@ -1,14 +1,14 @@
--- Lists that show a part of an array, and lists of bytes.
+-- Lists that show a part of an array, lists of bytes, and what holds of each element.
 -- Assumes nothing.
 use mathlib.Core.Path.{_≡_, ap, sym, _∙_}
-use mathlib.Core.List.{List, [], _∷_, map}
+use mathlib.Core.List.{List, [], _∷_, _++_, map}
 use Prim.Native.Nat.{ℕ, suc, _≤_, _<_, min}
 use native.Mathlib.Decide.{decLe}
 use native.Mathlib.Nat.{min-eq-left, min-eq-right}
 use native.Mathlib.Omega.{arith}
 use lib.ListN.{length, take, getD, length-map, length-take}
 use lib.Seq.{take-all, take-length}
-use Rattle.laws.specs.Bytes.{Bytes}
+use Rattle.laws.specs.Bytes.{All, Bytes}
 
 -- a list shows no more than its length
 pub take-shown : {A : Type 0} (l : List A) (n k : ℕ) → k ≡ min n (length l) → take k l ≡ take n l
@@ -38,3 +38,21 @@ length-of-map X Y f l n e = sym (length-map l f) ∙ e
 pub bytes-of : (l : List ℕ) → ((i : ℕ) → getD l i 0 < 256) → Bytes l
 bytes-of [] h = tt
 bytes-of (b ∷ l) h = (h 0, bytes-of l (λ i. h (suc i)))
+
+-- ---- what holds of each element
+
+pub all-append : {A : Type 0} (P : A → Type 0) (l m : List A) → All P l → All P m → All P (l ++ m)
+all-append P [] m p q = q
+all-append P (x ∷ l) m p q = (p .0, all-append P l m (p .1) q)
+
+pub all-left : {A : Type 0} (P : A → Type 0) (l m : List A) → All P (l ++ m) → All P l
+all-left P [] m h = tt
+all-left P (x ∷ l) m h = (h .0, all-left P l m (h .1))
+
+pub all-right : {A : Type 0} (P : A → Type 0) (l m : List A) → All P (l ++ m) → All P m
+all-right P [] m h = h
+all-right P (x ∷ l) m h = all-right P l m (h .1)
+
+pub all-map : {A B : Type 0} {P : A → Type 0} (Q : B → Type 0) (f : A → B) (h : (a : A) → P a → Q (f a)) (l : List A) → All P l → All Q (map f l)
+all-map Q f h [] p = tt
+all-map Q f h (x ∷ l) p = (h x (p .0), all-map Q f h l (p .1))

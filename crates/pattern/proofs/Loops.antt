@@ -23,7 +23,8 @@ use Rattle.frame.proofs.Parts.{absentIsZero, written}
 use Rattle.content.specs.Content.{Content}
 use Rattle.content.proofs.Admits.{SequenceAdmitted}
 use Rattle.content.specs.ReadImage.{readImage}
-use Rattle.content.proofs.Codec.{some-inj, all-map}
+use Rattle.laws.proofs.Lists.{all-map}
+use Rattle.content.proofs.Codec.{some-inj}
 use Rattle.content.proofs.Images.{image-codec}
 use Rattle.content.proofs.Sameness.{canonical}
 use Rattle.pattern.specs.Demand.{LoopAsRead}

@@ -9,6 +9,7 @@ use native.Mathlib.Decide.{decLe}
 use native.Mathlib.Omega.{arith}
 use borrow.Author.Tests.{lt-ltb, le-ltb, le-leb, lt-leb}
 use lib.ListN.{length, take, length-map}
+use Rattle.laws.proofs.Lists.{all-append}
 use Rattle.laws.specs.Bytes.{All}
 use Rattle.errors.specs.Told.{Handed}
 use Rattle.snippet.specs.declared.SnippetBuilder.{SnippetBuilder}
@@ -23,7 +24,6 @@ use Rattle.memory.specs.Image.{imageSize}
 use Rattle.memory.specs.Memory.{newMemory, imageNumber, snippetItems, sequenceItems, memoryOf, builtMemory}
 use Rattle.content.specs.Content.{Point, Content, pointBytes, framesBytes, imageOf, Admitted}
 use Rattle.content.proofs.Admits.{SnippetAdmitted, SequenceAdmitted}
-use Rattle.content.proofs.Codec.{all-append}
 use Rattle.content.proofs.Sequences.{short}
 use Rattle.pattern.specs.Calls.{held, MemoryCall, addSnippet, addSequence, memoryStep, memoryFrom, contentFrom, builtFrom, snippetFrom, pointsFrom, sequenceFrom, framesFrom}
 use Rattle.pattern.proofs.Items.{Item, points, frames, addedItem, snippetsOf, sequencesOf, contentOf, content-held, withBuiltSnippet, withBuiltSequence}

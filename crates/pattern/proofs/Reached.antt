@@ -9,6 +9,7 @@ use native.Mathlib.Omega.{arith}
 use borrow.Author.Tests.{lt-ltb, le-ltb, le-leb, lt-leb}
 use lib.Dec.{ltb}
 use lib.ListN.{length, length-append, length-map}
+use Rattle.laws.proofs.Lists.{all-left}
 use Rattle.laws.specs.Bytes.{All}
 use Rattle.laws.specs.Lists.{joined}
 use Rattle.errors.specs.Told.{Told, gives, Handed}
@@ -35,7 +36,6 @@ use Rattle.memory.specs.Memory.{newMemory, imageNumber, builtMemory}
 use Rattle.memory.proofs.Images.{joined-length}
 use Rattle.content.specs.Content.{Point, Content, pointBytes, framesBytes, Admitted}
 use Rattle.content.proofs.Admits.{SnippetAdmitted, SequenceAdmitted}
-use Rattle.content.proofs.Codec.{all-left}
 use Rattle.content.proofs.Points.{Good}
 use Rattle.content.proofs.Sequences.{long}
 use Rattle.pattern.specs.Calls.{ran, held, SnippetCall, ramp, step, snippetStep, addedPoint, pointsFrom, FrameCall, gain, timebase, loopCount, frequencyHz, Begin, new, silence, begunBy, FrameCalls, numberOf, frameFrom, sequenceStep, framesFrom, snippetFrom, sequenceFrom, MemoryCall, addSnippet, addSequence, memoryStep, contentFrom, builtFrom}

@@ -9,6 +9,7 @@ use native.Mathlib.Omega.{arith}
 use borrow.Author.Tests.{lt-ltb, le-ltb, le-leb, lt-leb}
 use lib.ListN.{length, take, drop, length-append, length-take, length-drop}
 use lib.Seq.{take-at}
+use Rattle.laws.proofs.Lists.{all-append}
 use Rattle.laws.specs.Bytes.{All}
 use Rattle.laws.specs.Copied.{over}
 use Rattle.laws.proofs.Copies.{length-over}
@@ -20,7 +21,6 @@ use Rattle.frame.specs.Frame.{bytesOf, frameBytes, builtFrame}
 use Rattle.sequence.specs.declared.SequenceBuilder.{SequenceBuilder}
 use Rattle.sequence.specs.Sequence.{newSequence, withFrame}
 use Rattle.content.specs.Content.{framesBytes}
-use Rattle.content.proofs.Codec.{all-append}
 use Rattle.pattern.specs.Calls.{FrameCall, FrameCalls, frameFrom, begunBy, sequenceStep, sequenceFrom, framesFrom}
 use Rattle.pattern.proofs.Items.{frameRan, withMadeFrame}
 use Rattle.pattern.proofs.Outcomes.{Outcome, all-calls}

@@ -9,6 +9,7 @@ use native.Mathlib.Decide.{decLe}
 use native.Mathlib.Omega.{arith}
 use borrow.Author.Tests.{lt-ltb, le-ltb, le-leb, lt-leb}
 use lib.ListN.{length, take}
+use Rattle.laws.proofs.Lists.{all-append}
 use Rattle.laws.specs.Bytes.{All}
 use Rattle.errors.specs.Told.{Told, gives, refuses, Handed}
 use Rattle.snippet.specs.declared.PwlPoint.{PwlPoint}
@@ -20,7 +21,6 @@ use Rattle.snippet.specs.Snippet.{pointOf, newSnippet, withPoint, withMade, sni
 use Rattle.snippet.proofs.Points.{byte-back, byte-admitted}
 use Rattle.content.specs.Content.{Point, byteOf, pointBytes}
 use Rattle.content.specs.ReadImage.{pointIn}
-use Rattle.content.proofs.Codec.{all-append}
 use Rattle.content.proofs.Points.{Good}
 use Rattle.pattern.specs.Calls.{SnippetCall, ramp, step, point, snippetStep, addedPoint, snippetFrom, pointsFrom}
 use Rattle.pattern.proofs.Outcomes.{Outcome, all-calls, Shows, shows-more}

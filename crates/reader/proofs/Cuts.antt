@@ -10,10 +10,11 @@ use borrow.Author.Tests.{le-leb, lt-leb, ltb-true, ltb-false, leb-true}
 use lib.Dec.{ltb, leb}
 use lib.ListN.{length, take, drop, length-append, length-take, length-drop, take-append-drop}
 use lib.Seq.{drop-drop}
+use Rattle.laws.proofs.Lists.{all-left, all-right}
 use Rattle.laws.specs.Bytes.{All, Bytes}
 use Rattle.laws.specs.Lists.{joined}
 use Rattle.content.specs.ReadImage.{andThen, Cut, cut}
-use Rattle.content.proofs.Codec.{some-inj, cond-some, then-some, all-left, all-right}
+use Rattle.content.proofs.Codec.{some-inj, cond-some, then-some}
 use Rattle.reader.specs.Walk.{Walked, item, walk}
 
 -- the last of the pointers

@@ -7,6 +7,7 @@ use Prim.Native.Nat.{ℕ, zero, suc, _+_, _-_, _*_, _^_, _≤_, _<_}
 use native.Mathlib.Omega.{arith}
 use lib.ListN.{length, take, drop, replicate, getElem?, length-append, length-map, length-replicate, drop-of-length-le}
 use lib.Seq.{take-all, take-at, drop-at}
+use Rattle.laws.proofs.Lists.{all-append, all-map}
 use Rattle.laws.specs.Bytes.{All, Bytes}
 use Rattle.laws.specs.Copied.{copied}
 use Rattle.laws.specs.Lists.{joined}
@@ -21,7 +22,7 @@ use Rattle.memory.proofs.Images.{joined-length}
 use Rattle.content.specs.Content.{Point, Content, byteOf, pointBytes, framesBytes, imageOf, Admitted}
 use Rattle.content.proofs.Admits.{SequenceAdmitted}
 use Rattle.content.specs.ReadImage.{readImage}
-use Rattle.content.proofs.Codec.{none-some, some-inj, cons-eq, all-append, all-map}
+use Rattle.content.proofs.Codec.{none-some, some-inj, cons-eq}
 use Rattle.content.proofs.Points.{snippet-codec}
 use Rattle.content.proofs.Items.{length-pointers}
 use Rattle.content.proofs.Images.{image-codec}
