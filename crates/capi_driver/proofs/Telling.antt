@@ -1,12 +1,13 @@
 -- No word misleads: each number is given back. Assumes nothing.
-use Prim.Native.Nat.{ℕ, zero, suc, _+_, _*_, _/_, _%_, _≤_, _<_, min}
+use Prim.Native.Nat.{ℕ, zero, suc, _+_, _-_, _*_, _/_, _%_, _≤_, _<_, min}
 use native.Mathlib.Omega.{arith}
-use mathlib.Core.Path.{_≡_, refl, ap, _∙_}
+use mathlib.Core.Path.{_≡_, refl, sym, ap, subst, _∙_}
 use mathlib.Core.Bool.{Bool, true, false, cond}
 use mathlib.Core.List.{List, [], _∷_, _++_}
-use lib.Dec.{eqb}
-use lib.ListN.{length, drop, getD, replicate, length-take, length-replicate}
-use borrow.Author.Tests.{eq-eqb, ne-eqb, ltb-true}
+use lib.Dec.{ltb, eqb}
+use lib.ListN.{length, drop, getD, replicate, length-append, length-take, length-replicate}
+use lib.Seq.{take-at}
+use borrow.Author.Tests.{eq-eqb, ne-eqb, le-ltb, ltb-true}
 use Rattle.laws.proofs.Tests.{choice}
 use Rattle.laws.specs.Bytes.{Bytes}
 use Rattle.field.specs.Field.{codeOf}
@@ -15,18 +16,26 @@ use Rattle.exchange.specs.declared.Step.{Step}
 use Rattle.exchange.specs.declared.Step.the-variants.{Write, Read, Update, Match, Chunk, Store}
 use Rattle.exchange.specs.declared.Reply.{Reply}
 use Rattle.exchange.specs.declared.Reply.the-variants.{Done}
-use Rattle.exchange.specs.State.{isBegun, madeIn, countIn, purposeIn, imageIn, left, noneLeft, completed}
+use Rattle.exchange.specs.State.{isSession, isBegun, madeIn, countIn, purposeIn, imageIn, left, noneLeft, completed}
 use Rattle.exchange.specs.Turn.{pendingFor, pendingOf, wanted, resized, fitsNext, fitOf, effectOf, stateAfter, reportOf}
-use Rattle.exchange.specs.Session.{AnswerCall, takenAt, afterCall, sent}
+use Rattle.exchange.specs.Session.{AnswerCall, takenAt, afterCall, final, sent}
 use Rattle.exchange.proofs.Moves.{left-counts}
 use Rattle.exchange.proofs.Session.{session}
 use Rattle.exchange.proofs.Takes.{sends}
+use Rattle.errors.specs.Told.{accepted, refused}
+use Rattle.registers.specs.Table.{addressOf}
+use Rattle.memory.specs.declared.WaveformMemory.{WaveformMemory}
+use Rattle.memory.specs.Memory.{memory, noMemory}
+use Rattle.da728x.specs.declared.DA728x.{DA728x}
 use Rattle.da728x.specs.Record.{recordAt}
 use Rattle.da728x.proofs.Kept.{record-kept}
 use Rattle.outcome.specs.declared.Change.{Change}
 use Rattle.outcome.specs.declared.Change.the-variants.{Same, To}
 use Rattle.outcome.specs.Outcome.{valueIn, outcomeOf, recordBy}
-use Rattle.capi_driver.specs.Words.{exchangeWord, replyOf, reportWord, recordOut, resultWord}
+use Rattle.driver.specs.Operations.{Start, startNumber, startedIn, unless, uploadWaveformMemory}
+use Rattle.driver.specs.Theorems.{addressed, payload}
+use Rattle.driver.proofs.Transfers.{transfers}
+use Rattle.capi_driver.specs.Words.{exchangeWord, replyOf, reportWord, recordOut, resultWord, uploadOf}
 use Rattle.capi_driver.specs.Telling.{Telling}
 
 three : (a b c : ℕ) → a < 256 → b < 256 →
@@ -146,16 +155,47 @@ spared : (l : List ℕ) (c : Change) → ¬ (length l ≡ 37) → recordOut l c 
 spared l Same h = refl
 spared l (To r) h = rw (ne-eqb _ _ h)
 
+-- ---- uploads
+
+module _ (r : DA728x) (image : List ℕ) (lockAfter : Bool) where
+  full : startNumber (uploadOf r image lockAfter) ≡ cond (ltb 100 (length image)) 8 0
+  unfolding uploadOf
+  full = go (ltb 100 (length image)) (image ++ replicate (100 - length image) 0) (length image)
+    where
+      go : (k : Bool) (bytes : List ℕ) (n : ℕ) →
+          let m = cond k (refused 8 noMemory) (accepted (memory bytes n 0 0)) in
+          startNumber (unless (m .number) (uploadWaveformMemory r (m .builder) lockAfter .start)) ≡ cond k 8 0
+      go true bytes n = refl
+      go false bytes n = refl
+
+  -- the memory that bytes make, filled up with zeros
+  abbrev made-of : WaveformMemory
+  made-of = memory (image ++ replicate (100 - length image) 0) (length image) 0 0
+
+  fits : length image ≤ 100 → uploadOf r image lockAfter ≡ uploadWaveformMemory r made-of lockAfter .start
+  unfolding uploadOf
+  fits h = simp (le-ltb 100 (length image) h)
+
+  uploads : (st : List ℕ) (cs : List AnswerCall) → length image ≤ 100 → isSession st ≡ true →
+      let s = startedIn st (uploadOf r image lockAfter) in completed (final s cs) ≡ true → payload (sent s cs) ≡ addressed (addressOf "SNP_MEM_0") image
+  uploads st cs h e =
+      let l : length (image ++ replicate (100 - length image) 0) ≡ 100 =
+      length-append image (replicate (100 - length image) 0) ∙ ap (λ (n : ℕ). length image + n) (length-replicate {A = ℕ} (100 - length image) 0) ∙ omega arith in
+      subst (λ (x : Start). completed (final (startedIn st x) cs) ≡ true → payload (sent (startedIn st x) cs) ≡ addressed (addressOf "SNP_MEM_0") image) (sym (fits h))
+      (λ done. transfers .shown r made-of lockAfter st cs l e done
+      ∙ ap (addressed (addressOf "SNP_MEM_0")) (take-at image (replicate (100 - length image) 0) (length image) refl))
+
 pub telling : Telling
 unfolding reportWord resultWord
 telling = record {
-  exchanges = λ e. three (e .len) (e .address) (e .wanted);
-  bounded-exchange = bounded-exchange;
+  exchanges = λ st h. let k = bounded-exchange st h in three (pendingOf st .len) (pendingOf st .address) (pendingOf st .wanted) (k .0) (k .1);
   ended = ended;
-  reports = λ t. four (t .number) (t .code) (t .made) (codeOf (t .ended));
-  bounded-report = bounded-report;
+  reports = λ st kind byte n h b.
+      let t = reportOf st (replyOf kind byte) n in
+      let k = bounded-report st kind byte n h b in four (t .number) (t .code) (t .made) (codeOf (t .ended)) (k .0) (k .1) (k .2);
   records = records;
   spared = spared;
-  bounded = bounded;
-  results = λ o. wide (o .value) (o .made) (codeOf (o .completed));
+  results = λ st h. let k = bounded st h in wide (outcomeOf st .value) (outcomeOf st .made) (codeOf (outcomeOf st .completed)) (k .0) (k .1);
+  full = full;
+  uploads = uploads;
 }

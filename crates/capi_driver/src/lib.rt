@@ -267,8 +267,8 @@ pub extern "C" fn da728x_answer(
 ) -> u32
     ensures { λ r. ⌜ r ≡ reportWord (reportOf (now (session .entry)) (replyOf kind byte) (length (now (buffer .entry)))) ⌝ }
     ensures { λ _. ⌜ now («record» .exit)
-        ≡ recordOut (now («record» .entry)) (changeBy (stateAfter (now (session .entry)) (replyOf kind byte) (length (now (buffer .entry))))
-        (reportOf (now (session .entry)) (replyOf kind byte) (length (now (buffer .entry)))) (recordAt (now («record» .entry)))) ⌝ }
+        ≡ recordOut (now («record» .entry))
+        (spec.changeAfter (now (session .entry)) (replyOf kind byte) (length (now (buffer .entry))) (recordAt (now («record» .entry)))) ⌝ }
     ensures { λ _. ⌜ now (session .exit) ≡ stateAfter (now (session .entry)) (replyOf kind byte) (length (now (buffer .entry))) ⌝ }
     ensures { λ _. ⌜ now (buffer .exit) ≡ bufferAfter (now (session .entry)) (replyOf kind byte) (now (buffer .entry)) ⌝ }
 {

@@ -1,5 +1,5 @@
 -- Settings to register values: document 01, 'Settings to registers'. "All quotients round down".
--- A byte of the chip holds 256 values: no accepted setting but a PID word reaches that limit (plans/specs/Accepted.antt).
+-- A byte holds 256 values: `% 256` cuts a PID word, and nothing of any other accepted setting (plans/specs/Accepted.antt).
 use Prim.Native.Nat.{ℕ, _+_, _-_, _*_, _/_, _%_}
 use mathlib.Core.Bool.{cond}
 use lib.Dec.{ltb}

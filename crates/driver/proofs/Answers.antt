@@ -9,8 +9,9 @@ use lib.IntN.{ℤ}
 use lib.ListN.{length}
 use Rattle.config.specs.declared.ActuatorConfig.{ActuatorConfig}
 use Rattle.config.specs.declared.DeviceConfig.{DeviceConfig}
-use Rattle.config.specs.Codes.{drivingCode}
+use Rattle.config.specs.Codes.{operationCode, drivingCode}
 use Rattle.config.specs.declared.DrivingMode.the-variants.{«CUSTOM_WAVEFORM»}
+use Rattle.config.specs.declared.OperationMode.the-variants.{INACTIVE}
 use Rattle.checks.specs.Checks.{Check, firstFailing, configureChecks, configureNumber, outsideBand}
 use Rattle.exchange.specs.declared.Step.{Step}
 use Rattle.exchange.specs.declared.Step.the-variants.{Write, Read}
@@ -27,9 +28,9 @@ use Rattle.convert.specs.Convert.{overrideByte}
 use Rattle.memory.specs.Timebase.{timebaseBit}
 use Rattle.plans.specs.Fields.{put, updated}
 use Rattle.sessions.specs.Sessions.{noImage, blank, carrying, enabled, selectStep, startSteps, setUnlocked}
-use Rattle.outcome.specs.declared.Change.the-variants.{Same, To}
+use Rattle.outcome.specs.declared.Change.the-variants.{Same}
 use Rattle.driver.specs.Operations as operation
-use Rattle.outcome.specs.Outcome.{bigEndian, changeFor, recordBy}
+use Rattle.outcome.specs.Outcome.{bigEndian, changeFor}
 use Rattle.driver.specs.Operations.{Start, declines, begins, startedIn, unless, withSettings, runs, Operation, overrideChecks, numberChecks, configured}
 use Rattle.driver.specs.Theorems.{Others, Each, Course, AnswersAs, Answers, allSteps}
 use Rattle.driver.proofs.Begun.{Fits, Holds, holds, no-image, no-record, valueOf, answered, counted, within, all-made}
@@ -94,23 +95,23 @@ Gives result b xs = (bytes : List ℕ) → length bytes ≡ bytesWanted (exchang
 abbrev Sound : ℕ → (List ℕ → ℕ) → Begun → List Step → Type 0
 Sound address result b xs = Fits b xs × Gives result b xs × (b .address ≡ address)
 
-abbrev pub SoundOperation : Operation → Type 0
-SoundOperation o = By (Sound (o .address) (o .answers)) (o .start)
+abbrev pub SoundOperation : ℕ → Operation → Type 0
+SoundOperation address o = By (Sound address (o .answers)) (o .start)
 
 -- and leaves the record, and compares nothing
 abbrev Quiet : ℕ → (List ℕ → ℕ) → Begun → List Step → Type 0
-Quiet address result b xs = Fits b xs × Gives result b xs × (b .address ≡ address) × ((next r : DA728x) → recordBy r (changeFor (b .purpose) next r) ≡ r) × AllPlain xs
+Quiet address result b xs = Fits b xs × Gives result b xs × (b .address ≡ address) × ((next r : DA728x) → changeFor (b .purpose) next r ≡ Same) × AllPlain xs
 
-abbrev pub QuietOperation : Operation → Type 0
-QuietOperation o = By (Quiet (o .address) (o .answers)) (o .start)
+abbrev pub QuietOperation : ℕ → Operation → Type 0
+QuietOperation address o = By (Quiet address (o .answers)) (o .start)
 
 quiet-runs : (r : DA728x) (xs : List Step) → length xs ≤ 25 → AllPlain xs → By (Quiet (r .address) (λ bytes. 0)) (runs r xs)
 quiet-runs r xs h p = ((h, omega arith, no-image, no-record), λ bytes e. refl, refl, λ next s. refl, p)
 
 -- so its session holds what it was begun with
-pub quiet-holds : (o : Operation) → QuietOperation o → (b : Begun) (xs : List Step) → o .start ≡ begins b xs → (st : List ℕ) → isSession st ≡ true →
-    Holds (begunIn st b xs) b (allSteps b xs) × ((next r : DA728x) → recordBy r (changeFor (b .purpose) next r) ≡ r) × AllPlain xs
-quiet-holds o q b xs e st s = let g = subst (λ (x : Start). By (Quiet (o .address) (o .answers)) x) e q in (holds st b xs s (g .0), g .3, g .4)
+pub quiet-holds : (address : ℕ) (o : Operation) → QuietOperation address o → (b : Begun) (xs : List Step) → o .start ≡ begins b xs → (st : List ℕ) → isSession st ≡ true →
+    Holds (begunIn st b xs) b (allSteps b xs) × ((next r : DA728x) → changeFor (b .purpose) next r ≡ Same) × AllPlain xs
+quiet-holds address o q b xs e st s = let g = subst (λ (x : Start). By (Quiet address (o .answers)) x) e q in (holds st b xs s (g .0), g .3, g .4)
 
 -- ---- the sixteen
 
@@ -149,7 +150,7 @@ quiet = record {
       quiet-runs r (updated "SEQ_CTL1" (put "FREQ_WAVEFORM_TIMEBASE" (timebaseBit timebase))) (omega arith) (tt, (tt, tt));
   enable = λ r. by-settings _ (r .settings) _ (λ a d. quiet-runs r (Write (addressOf "TOP_CTL1") (enabled (d .«operation_mode»)) ∷ []) (omega arith) (tt, tt));
   disable = λ r. by-settings _ (r .settings) _ (λ a d.
-      quiet-runs r (updated "TOP_CTL1" (put "OPERATION_MODE" 0)) (omega arith) (tt, (tt, tt)));
+      quiet-runs r (updated "TOP_CTL1" (put "OPERATION_MODE" (operationCode INACTIVE))) (omega arith) (tt, (tt, tt)));
   set-custom-drive-waveform = λ r. by-settings _ (r .settings) _ (λ a d. custom (eqb (drivingCode (d .«driving_mode»)) (drivingCode «CUSTOM_WAVEFORM»)));
   unlock-waveform-memory = λ r. quiet-runs r (setUnlocked true ∷ []) (omega arith) (tt, tt);
   lock-waveform-memory = λ r. quiet-runs r (setUnlocked false ∷ []) (omega arith) (tt, tt);
@@ -166,29 +167,29 @@ quiet = record {
 
 -- ---- from one claim on all of them to another
 
-pub each-others : {P Q : Operation → Type 0} → ((o : Operation) → P o → Q o) → Others P → Others Q
+pub each-others : {P Q : ℕ → Operation → Type 0} → ((address : ℕ) (o : Operation) → P address o → Q address o) → Others P → Others Q
 each-others f e = record {
-  get-chip-rev = λ r. f _ (e .get-chip-rev r);
-  get-events = λ r. f _ (e .get-events r);
-  get-status = λ r. f _ (e .get-status r);
-  set-frequency = λ r hz. f _ (e .set-frequency r hz);
-  set-override-value = λ r value. f _ (e .set-override-value r value);
-  set-timebase = λ r timebase. f _ (e .set-timebase r timebase);
-  enable = λ r. f _ (e .enable r);
-  disable = λ r. f _ (e .disable r);
-  set-custom-drive-waveform = λ r. f _ (e .set-custom-drive-waveform r);
-  unlock-waveform-memory = λ r. f _ (e .unlock-waveform-memory r);
-  lock-waveform-memory = λ r. f _ (e .lock-waveform-memory r);
-  upload-waveform-memory = λ r m lockAfter h. f _ (e .upload-waveform-memory r m lockAfter h);
-  read-waveform-memory = λ r len room h. f _ (e .read-waveform-memory r len room h);
-  select-sequence = λ r id loops. f _ (e .select-sequence r id loops);
-  start-sequence = λ r. f _ (e .start-sequence r);
-  play-sequence = λ r id loops. f _ (e .play-sequence r id loops);
+  get-chip-rev = λ r. f _ _ (e .get-chip-rev r);
+  get-events = λ r. f _ _ (e .get-events r);
+  get-status = λ r. f _ _ (e .get-status r);
+  set-frequency = λ r hz. f _ _ (e .set-frequency r hz);
+  set-override-value = λ r value. f _ _ (e .set-override-value r value);
+  set-timebase = λ r timebase. f _ _ (e .set-timebase r timebase);
+  enable = λ r. f _ _ (e .enable r);
+  disable = λ r. f _ _ (e .disable r);
+  set-custom-drive-waveform = λ r. f _ _ (e .set-custom-drive-waveform r);
+  unlock-waveform-memory = λ r. f _ _ (e .unlock-waveform-memory r);
+  lock-waveform-memory = λ r. f _ _ (e .lock-waveform-memory r);
+  upload-waveform-memory = λ r m lockAfter h. f _ _ (e .upload-waveform-memory r m lockAfter h);
+  read-waveform-memory = λ r len room h. f _ _ (e .read-waveform-memory r len room h);
+  select-sequence = λ r id loops. f _ _ (e .select-sequence r id loops);
+  start-sequence = λ r. f _ _ (e .start-sequence r);
+  play-sequence = λ r id loops. f _ _ (e .play-sequence r id loops);
 }
 
 -- ---- all eighteen
 
-pub fits-new : (address : ℕ) (variant : _) → SoundOperation (operation.new address variant)
+pub fits-new : (address : ℕ) (variant : _) → SoundOperation address (operation.new address variant)
 fits-new address variant = ((omega arith, omega arith, no-image, record-length _), λ bytes e. refl, refl)
 
 pub fits-configure : (r : DA728x) (a : ActuatorConfig) (d : DeviceConfig) → Fits (carrying 2 (configured r a d)) (configureSteps a d)
@@ -198,17 +199,17 @@ sound : Each SoundOperation
 sound = record {
   new = fits-new;
   configure = λ r a d. by-unless _ (configureNumber (r .variant) a d) _ (configure-small r a d) (fits-configure r a d, λ bytes e. refl, refl);
-  others = each-others (λ o q. go (o .address) (o .answers) (o .start) q) quiet;
+  others = each-others (λ address o q. go address (o .answers) (o .start) q) quiet;
 }
   where
     go : (address : ℕ) (result : List ℕ → ℕ) (s : Start) → By (Quiet address result) s → By (Sound address result) s
     go address result (declines number) q = q
     go address result (begins b xs) q = (q .0, q .1, q .2)
 
-each-sound : {Q : Operation → Type 0} → ((o : Operation) → SoundOperation o → Q o) → Each Q
+each-sound : {Q : ℕ → Operation → Type 0} → ((address : ℕ) (o : Operation) → SoundOperation address o → Q address o) → Each Q
 each-sound f = record {
-  new = λ address variant. f _ (sound .new address variant);
-  configure = λ r a d. f _ (sound .configure r a d);
+  new = λ address variant. f _ _ (sound .new address variant);
+  configure = λ r a d. f _ _ (sound .configure r a d);
   others = each-others f (sound .others);
 }
 
@@ -226,13 +227,13 @@ Unmatched b xs = Fits b xs × AllPlain xs
 
 pub answers : Answers
 answers = record {
-  each = each-sound (λ o f b xs e st s cs.
-      let g = subst (λ (x : Start). By (Sound (o .address) (o .answers)) x) e f in
+  each = each-sound (λ address o f b xs e st s cs.
+      let g = subst (λ (x : Start). By (Sound address (o .answers)) x) e f in
       subst (λ (x : ℕ). Course (begunIn st b xs) x (b .image) (allSteps b xs) (o .answers) cs) (g .2)
       (answered (holds st b xs s (g .0)) cs (o .answers) (g .1)));
-  listed = each-sound (λ o f number e. subst (λ (x : Start). By (Sound (o .address) (o .answers)) x) e f);
+  listed = each-sound (λ address o f number e. subst (λ (x : Start). By (Sound address (o .answers)) x) e f);
   mismatch = (
-    each-others (λ o q b xs e st s cs. let h = quiet-holds o q b xs e st s in never (h .0) (all-plain b xs (h .2)) cs) quiet,
+    each-others (λ address o q b xs e st s cs. let h = quiet-holds address o q b xs e st s in never (h .0) (all-plain b xs (h .2)) cs) quiet,
     λ r a d b xs e st s cs.
         let g = subst (By Unmatched) e (by-unless Unmatched (configureNumber (r .variant) a d) _ (configure-small r a d) (fits-configure r a d, configure-plain a d)) in
         never (holds st b xs s (g .0)) (all-plain b xs (g .1)) cs,

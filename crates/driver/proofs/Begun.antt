@@ -131,7 +131,7 @@ module _ {s : List ℕ} {b : Begun} {xs : List Step} (h : Holds s b xs) (cs : Li
   -- completed, exactly where all were made and none failed
   pub completes : completed (final s cs) ≡ not (brokenOff s cs) && eqb (length (sent s cs)) (length xs)
   completes =
-      session .whole s cs (h .opened)
+      session .completes s cs (h .opened)
       ∙ ap (λ (l : List Step). not (brokenOff s cs) && noneLeft (drop (length (sent s cs)) l)) (h .steps)
       ∙ ap (λ (k : Bool). not (brokenOff s cs) && k) (none-past xs (length (sent s cs)) within)
 
@@ -164,6 +164,7 @@ module _ {s : List ℕ} {b : Begun} {xs : List Step} (h : Holds s b xs) (cs : Li
   unfolding outcomeOf
   answered result g = record {
     order = in-order;
+    next = session .end s cs ∙ ap (λ (l : List Step). cond (brokenOff s cs) [] (drop (length (sent s cs)) l)) (h .steps);
     completes = completes;
     whole = all-sent;
     outcome = λ i. record { made = counted i; completed = completed (final s cs); value = go (completed (final s cs)) refl i };

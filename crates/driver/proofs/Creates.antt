@@ -12,7 +12,7 @@ use Rattle.exchange.specs.declared.Reply.{Reply}
 use Rattle.exchange.specs.declared.Reply.the-variants.{Done, Byte, Failed}
 use Rattle.exchange.specs.State.{isUnbroken, left, completed}
 use Rattle.exchange.specs.Turn.{pendingFor, resized, stateAfter, reportOf}
-use Rattle.exchange.specs.Session.{AnswerCall, fitsExchange, taken, takenAt, numberAt, byteOf, breaks, afterCall, final, came}
+use Rattle.exchange.specs.Session.{AnswerCall, fitsExchange, taken, takenAt, numberAt, replyBytes, breaks, afterCall, final, came}
 use Rattle.exchange.proofs.Cases.{Case, same, broken, went, case, idle-state}
 use Rattle.exchange.proofs.Session.{session}
 use Rattle.driver.specs.Theorems.{cameOnly}
@@ -30,7 +30,7 @@ taken-none st a n e = ap (λ (l : List Step). fitsExchange (pendingFor st l) a &
 came-none : (cs : List AnswerCall) (st : List ℕ) → left st ≡ [] → came st cs ≡ []
 came-none [] st e = refl
 came-none (c ∷ cs) st e =
-    ap (λ (k : Bool). cond k (byteOf (c .reply)) [] ++ came (afterCall st c) cs) (taken-none st (c .reply) (length (c .buffer)) e)
+    ap (λ (k : Bool). cond k (replyBytes (c .reply)) [] ++ came (afterCall st c) cs) (taken-none st (c .reply) (length (c .buffer)) e)
     ∙ ap (λ (t : List ℕ). came t cs) (idle-state st c e) ∙ came-none cs st e
 
 -- an answer that is not taken back leaves the session
@@ -80,7 +80,7 @@ module _ (register value : ℕ) where
     byte b false p h = off (b ∷ []) (ap breaks h) p refl
 
     -- by the answer, and whether it is taken back
-    by : (a : Reply) → c .reply ≡ a → (k : Bool) → taken st a (length (c .buffer)) ≡ k → Created (cond k (byteOf a) [])
+    by : (a : Reply) → c .reply ≡ a → (k : Bool) → taken st a (length (c .buffer)) ≡ k → Created (cond k (replyBytes a) [])
     by a p false h = ap (λ (s : List ℕ). completed (final s cs)) (untaken st c (ap (λ (x : Reply). taken st x (length (c .buffer))) p ∙ h))
         ∙ later st e
         ∙ ap (λ (s : List ℕ). cameOnly (came s cs) value) (sym (untaken st c (ap (λ (x : Reply). taken st x (length (c .buffer))) p ∙ h)))

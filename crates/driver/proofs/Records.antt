@@ -19,7 +19,7 @@ use Rattle.da728x.specs.Record.{recordAt}
 use Rattle.outcome.specs.declared.Change.{Change}
 use Rattle.outcome.specs.declared.Change.the-variants.{Same, To}
 use Rattle.outcome.specs.Outcome.{changeFor, changeBy, recordBy}
-use Rattle.driver.specs.Operations.{recordAfter}
+use Rattle.driver.specs.Operations.{changeAfter, recordAfter}
 use Rattle.driver.specs.Theorems.{recordFinal}
 
 -- ---- one answer
@@ -28,43 +28,53 @@ use Rattle.driver.specs.Theorems.{recordFinal}
 abbrev pub madeOf : List ℕ → DA728x → DA728x
 madeOf st r = recordBy r (changeFor (purposeIn st) (recordAt (recordIn st)) r)
 
--- the record after an answer, by whether it is of a session, ends it, and is accepted
-abbrev afterBy : List ℕ → DA728x → Bool → Bool → Bool → DA728x
-afterBy t r s e k = recordBy r (cond (s && (e && k)) (changeFor (purposeIn t) (recordAt (recordIn t)) r) Same)
+-- what an answer does to a record, by whether it is of a session, ends it, and is accepted
+abbrev changeIf : List ℕ → DA728x → Bool → Bool → Bool → Change
+changeIf t r s e k = cond (s && (e && k)) (changeFor (purposeIn t) (recordAt (recordIn t)) r) Same
 
-after-as : (st : List ℕ) (a : Reply) (n : ℕ) (r : DA728x) →
-    recordAfter st a n r ≡ afterBy (stateAfter st a n) r (isSession (stateAfter st a n)) (reportOf st a n .ended) (eqb (reportOf st a n .number) 0)
-unfolding recordAfter changeBy
-after-as st a n r = refl
+change-as : (st : List ℕ) (a : Reply) (n : ℕ) (r : DA728x) →
+    changeAfter st a n r ≡ changeIf (stateAfter st a n) r (isSession (stateAfter st a n)) (reportOf st a n .ended) (eqb (reportOf st a n .number) 0)
+unfolding changeAfter changeBy
+change-as st a n r = refl
 
 -- unless all three, it stays
-stays-refused : (t : List ℕ) (r : DA728x) (s e : Bool) → afterBy t r s e false ≡ r
+stays-refused : (t : List ℕ) (r : DA728x) (s e : Bool) → changeIf t r s e false ≡ Same
 stays-refused t r true true = refl
 stays-refused t r true false = refl
 stays-refused t r false e = refl
 
-stays-before : (t : List ℕ) (r : DA728x) (s k : Bool) → afterBy t r s false k ≡ r
+stays-before : (t : List ℕ) (r : DA728x) (s k : Bool) → changeIf t r s false k ≡ Same
 stays-before t r true k = refl
 stays-before t r false k = refl
+
+same-either : {A : Type 0} (b : Bool) (x : A) → cond b x x ≡ x
+same-either true x = refl
+same-either false x = refl
 
 module _ (st : List ℕ) (a : Reply) (n : ℕ) (r : DA728x) where
   abbrev t : List ℕ
   t = stateAfter st a n
 
-  pub refused : eqb (reportOf st a n .number) 0 ≡ false → recordAfter st a n r ≡ r
+  pub refused : eqb (reportOf st a n .number) 0 ≡ false → changeAfter st a n r ≡ Same
   refused h =
-      after-as st a n r
-      ∙ ap (λ (k : Bool). afterBy t r (isSession t) (reportOf st a n .ended) k) h
+      change-as st a n r
+      ∙ ap (λ (k : Bool). changeIf t r (isSession t) (reportOf st a n .ended) k) h
       ∙ stays-refused t r (isSession t) (reportOf st a n .ended)
 
-  pub before : reportOf st a n .ended ≡ false → recordAfter st a n r ≡ r
+  pub before : reportOf st a n .ended ≡ false → changeAfter st a n r ≡ Same
   before h =
-      after-as st a n r
-      ∙ ap (λ (e : Bool). afterBy t r (isSession t) e (eqb (reportOf st a n .number) 0)) h
+      change-as st a n r
+      ∙ ap (λ (e : Bool). changeIf t r (isSession t) e (eqb (reportOf st a n .number) 0)) h
       ∙ stays-before t r (isSession t) (eqb (reportOf st a n .number) 0)
 
   made : isSession t ≡ true → reportOf st a n .ended ≡ true → eqb (reportOf st a n .number) 0 ≡ true → recordAfter st a n r ≡ madeOf t r
-  made s e k = after-as st a n r ∙ (λ i. afterBy t r (s i) (e i) (k i))
+  made s e k = ap (recordBy r) (change-as st a n r ∙ (λ i. changeIf t r (s i) (e i) (k i)))
+
+  -- a session that is for no record
+  pub for-none : ((next : DA728x) → changeFor (purposeIn t) next r ≡ Same) → changeAfter st a n r ≡ Same
+  for-none h =
+      let k = isSession t && (reportOf st a n .ended && eqb (reportOf st a n .number) 0) in
+      change-as st a n r ∙ ap (λ (m : Change). cond k m Same) (h (recordAt (recordIn t))) ∙ same-either k Same
 
 -- ---- a session without a step left
 
@@ -77,18 +87,18 @@ idle (c ∷ cs) st e = ap (λ (t : List ℕ). final t cs) (idle-state st c e) �
 pub ended : (cs : List AnswerCall) (st : List ℕ) (r : DA728x) → left st ≡ [] → recordFinal st cs r ≡ r
 ended [] st r e = refl
 ended (c ∷ cs) st r e =
-    let k = refused st (c .reply) (length (c .buffer)) r (idle-number st c e) in
+    let k = ap (recordBy r) (refused st (c .reply) (length (c .buffer)) r (idle-number st c e)) in
     (λ i. recordFinal (idle-state st c e i) cs (k i)) ∙ ended cs st r e
 
 -- ---- every list of answers
 
 -- a session is not completed while a step is left
 pub unfinished : (st : List ℕ) (x : Step) (xs : List Step) → left st ≡ x ∷ xs → completed st ≡ false
-unfinished st x xs e = session .whole st [] (going-open _ _ (left-going st x xs e)) ∙ ap noneLeft e
+unfinished st x xs e = session .completes st [] (going-open _ _ (left-going st x xs e)) ∙ ap noneLeft e
 
 -- one that was begun is, once none is left
 pub finished : (st : List ℕ) → isUnbroken st ≡ true → left st ≡ [] → completed st ≡ true
-finished st o e = session .whole st [] o ∙ ap noneLeft e
+finished st o e = session .completes st [] o ∙ ap noneLeft e
 
 -- where a step is left, the record changes exactly if the session is completed
 abbrev Settles : List AnswerCall → Type 0
@@ -130,20 +140,20 @@ module _ (c : AnswerCall) (cs : List AnswerCall) (later : Settles cs) (st : List
       ended cs next-state next-record h ∙ m
       ∙ ap (λ (b : Bool). cond b (madeOf st r) r) (sym (ap completed (idle cs next-state h) ∙ finished next-state o h))
   settled-went (y ∷ ys) h o n =
-      ap (recordFinal next-state cs) (before st (c .reply) (length (c .buffer)) r (ended-as ∙ ap noneLeft h))
+      ap (λ (m : Change). recordFinal next-state cs (recordBy r m)) (before st (c .reply) (length (c .buffer)) r (ended-as ∙ ap noneLeft h))
       ∙ later next-state y ys is-session h r
       ∙ ap (λ (m : DA728x). cond (completed (final next-state cs)) m r) same-made
 
   settled-by : Case st c → Settled
   settled-by (same m n) =
-      ap (recordFinal next-state cs) (refused st (c .reply) (length (c .buffer)) r n)
+      ap (λ (m : Change). recordFinal next-state cs (recordBy r m)) (refused st (c .reply) (length (c .buffer)) r n)
       ∙ later next-state x xs is-session (ap left m ∙ e) r
       ∙ ap (λ (m : DA728x). cond (completed (final next-state cs)) m r) same-made
   settled-by (broken y ys h k n q) =
-      ap (recordFinal next-state cs) (refused st (c .reply) (length (c .buffer)) r n)
+      ap (λ (m : Change). recordFinal next-state cs (recordBy r m)) (refused st (c .reply) (length (c .buffer)) r n)
       ∙ ended cs next-state r k
       ∙ ap (λ (b : Bool). cond b (madeOf st r) r) (sym (
-      session .whole st (c ∷ cs) (going-open _ _ (left-going st x xs e))
+      session .completes st (c ∷ cs) (going-open _ _ (left-going st x xs e))
       ∙ ap (λ (b : Bool). not (b || brokenOff next-state cs) && noneLeft (drop (length (sent st (c ∷ cs))) (left st))) q))
   settled-by (went y ys h k o n) = settled-went ys k o n
 

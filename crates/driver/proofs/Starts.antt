@@ -21,7 +21,7 @@ use Rattle.sessions.specs.Sessions.{blank}
 use Rattle.da728x.specs.declared.DA728x.{DA728x}
 use Rattle.da728x.specs.declared.Settings.{Settings}
 use Rattle.da728x.specs.declared.Settings.the-variants.{Given}
-use Rattle.driver.specs.Operations.{Start, declines, begins, startNumber, startedIn, unless, withSettings, negative, isDro, overriding, setOverrideValue, numbered}
+use Rattle.driver.specs.Operations.{Start, declines, begins, startNumber, startedIn, unless, withSettings, negative, isDro, overriding, setOverrideValue, numberChecks}
 
 -- it decides what is answered, and what is written
 pub told : (st now : List ℕ) (n : ℕ) (s t : Start) → s ≡ t → n ≡ startNumber t → now ≡ startedIn st t → (n ≡ startNumber s) × (now ≡ startedIn st s)
@@ -94,6 +94,9 @@ with-override st now n r a d value e h k =
     told st now n (setOverrideValue r value .start) (overriding (r .address) d value) (with-settings _ _ a d e) h k
 
 -- ---- a sequence's number, and how often it is played
+
+abbrev numbered : ℕ → ℕ → Start → Start
+numbered id loops s = unless (firstFailing (numberChecks id loops)) s
 
 abbrev loops-check : ℕ → List Check
 loops-check loops = (ltb 15 loops, 11) ∷ []

@@ -13,7 +13,9 @@ use Rattle.config.specs.Codes.{variantCode}
 use Rattle.exchange.specs.declared.Step.{Step}
 use Rattle.exchange.specs.declared.Step.the-variants.{Match}
 use Rattle.exchange.specs.State.{recordIn, completed, Begun, begunIn}
-use Rattle.exchange.specs.Session.{AnswerCall, final}
+use Rattle.exchange.specs.Session.{AnswerCall, afterCall, final}
+use Rattle.exchange.proofs.Cases.{idle-state, idle-number}
+use Rattle.exchange.proofs.Keeps.{keeps}
 use Rattle.plans.proofs.Lengths.{at-least}
 use Rattle.plans.specs.Configure.{configureSteps}
 use Rattle.da728x.specs.declared.DA728x.{DA728x}
@@ -24,20 +26,16 @@ use Rattle.sessions.specs.Sessions.{carrying}
 use Rattle.outcome.specs.declared.Change.the-variants.{Same, To}
 use Rattle.driver.specs.Operations as operation
 use Rattle.outcome.specs.Outcome.{changeFor, recordBy, settling, isChipOf}
-use Rattle.driver.specs.Operations.{Start, declines, begins, startedIn, revision, newRecord, configured}
+use Rattle.driver.specs.Operations.{Start, declines, begins, startedIn, revision, newRecord, configured, changeAfter}
 use Rattle.driver.specs.Theorems.{recordFinal, Stored}
 use Rattle.driver.proofs.Answers.{QuietOperation, quiet, quiet-holds, each-others, fits-new, holds-configure}
 use Rattle.driver.proofs.Begun.{Holds, holds}
 use Rattle.driver.proofs.Creates.{creates}
-use Rattle.driver.proofs.Records.{refused, before, ended, settles}
+use Rattle.driver.proofs.Records.{refused, before, for-none, settles}
 
 -- what a session begun so makes of a record
 abbrev madeBy : Begun → DA728x → DA728x
 madeBy b r = recordBy r (changeFor (b .purpose) (recordAt (b .«record»)) r)
-
-same-either : {A : Type 0} (b : Bool) (x : A) → cond b x x ≡ x
-same-either true x = refl
-same-either false x = refl
 
 module _ {s : List ℕ} {b : Begun} (cs : List AnswerCall) (r : DA728x) where
   -- with a step left, exactly if it is completed
@@ -48,9 +46,13 @@ module _ {s : List ℕ} {b : Begun} (cs : List AnswerCall) (r : DA728x) where
       ∙ (λ i. cond (completed (final s cs)) (recordBy r (changeFor (h .purpose i) (recordAt (h .«record» i)) r)) r)
 
   -- one that is for no record never does
-  stays : (xs : List Step) → Holds s b xs → ((next r : DA728x) → recordBy r (changeFor (b .purpose) next r) ≡ r) → recordFinal s cs r ≡ r
-  stays [] h k = ended cs s r (h .steps)
-  stays (x ∷ xs) h k = settled (x ∷ xs) h (omega arith) ∙ ap (λ (m : DA728x). cond (completed (final s cs)) m r) (k (recordAt (b .«record»)) r) ∙ same-either (completed (final s cs)) r
+  stays : (xs : List Step) → Holds s b xs → ((next r : DA728x) → changeFor (b .purpose) next r ≡ Same) → (c : AnswerCall) →
+      changeAfter (final s cs) (c .reply) (length (c .buffer)) r ≡ Same
+  unfolding afterCall
+  stays xs h k c =
+      let p = keeps cs s (h .session) in
+      let q = keeps (c ∷ []) (final s cs) (p .session) in
+      for-none (final s cs) (c .reply) (length (c .buffer)) r (λ next. ap (λ (purpose : ℕ). changeFor purpose next r) (q .purpose ∙ p .purpose ∙ h .purpose) ∙ k next r)
 
 -- `configure`, for the record lent
 module _ (r : DA728x) (a : ActuatorConfig) (d : DeviceConfig) where
@@ -71,7 +73,7 @@ pub stored : Stored
 stored = record {
   refused = refused;
   before = before;
-  ended = λ st cs r. ended cs st r;
+  ended = λ st c r e. (refused st (c .reply) (length (c .buffer)) r (idle-number st c e), idle-state st c e);
   declined = λ s number st e. ap (startedIn st) e;
   creates = λ address variant st cs r s.
       let b = carrying 1 (newRecord address variant) in
@@ -84,5 +86,5 @@ stored = record {
       settled cs lent _ h (omega (arith, at-least a d, ap length (append-nil (configureSteps a d))))
       ∙ ap (λ (next : DA728x). cond (completed (final (startedIn st (operation.configure r a d .start)) cs)) next lent) (own-chip r a d lent);
   own = λ r. simp (eq-eqb (r .address) (r .address) refl, eq-eqb (variantCode (r .variant)) (variantCode (r .variant)) refl);
-  others = each-others (λ o q b xs e st cs r s. let h = quiet-holds o q b xs e st s in stays cs r _ (h .0) (h .1)) quiet;
+  others = each-others (λ address o q b xs e st cs c r s. let h = quiet-holds address o q b xs e st s in stays cs r _ (h .0) (h .1) c) quiet;
 }

@@ -1,23 +1,27 @@
 -- An upload sends what the memory shows, and a read fills the front of the buffer. Assumes nothing.
 use Prim.Native.Nat.{ℕ, zero, suc, _^_, _<_, min}
 use native.Mathlib.Omega.{arith}
-use mathlib.Core.Path.{_≡_, refl, _∙_}
-use mathlib.Core.Bool.{true, not, _&&_}
-use mathlib.Core.List.{List, [], _∷_}
+use mathlib.Core.Path.{_≡_, refl, _∙_, ap}
+use mathlib.Core.Bool.{Bool, true, not, _&&_}
+use mathlib.Core.List.{List, [], _∷_, append-nil}
 use lib.Dec.{ltb, eqb}
 use lib.ListN.{length, take, drop, getD}
+use Rattle.exchange.specs.declared.Step.{Step}
 use Rattle.exchange.specs.declared.Step.the-variants.{Store}
 use Rattle.exchange.specs.State.{isSession, readCount, indexed, completed, Begun, begunWith, begunIn}
 use Rattle.exchange.specs.Turn.{resized}
-use Rattle.exchange.specs.Session.{AnswerCall, exchangesOf, final, came}
+use Rattle.exchange.specs.Session.{AnswerCall, exchangesOf, final, sent, came}
 use Rattle.exchange.proofs.Fills.{fills}
 use Rattle.exchange.proofs.Keeps.{keeps}
 use Rattle.exchange.proofs.Latest.{bytesWanted}
+use Rattle.registers.specs.Table.{addressOf}
+use Rattle.memory.specs.declared.WaveformMemory.{WaveformMemory}
 use Rattle.da728x.specs.declared.DA728x.{DA728x}
 use Rattle.sessions.specs.Sessions.{noImage, blankRecord}
-use Rattle.driver.specs.Theorems.{Transfers}
-use Rattle.driver.proofs.Begun.{Holds, holds, all-came, no-image, no-record}
-use Rattle.driver.proofs.Upload.{shown}
+use Rattle.driver.specs.Operations.{uploadSteps}
+use Rattle.driver.specs.Theorems.{addressed, payload, Transfers}
+use Rattle.driver.proofs.Begun.{Holds, holds, all-sent, all-came, no-image, no-record}
+use Rattle.driver.proofs.Upload.{few, shown}
 
 -- memory reads want a byte each
 wanted-each : (n i address last : ℕ) (image bytes : List ℕ) → bytesWanted (exchangesOf address last image (indexed Store i n) bytes) ≡ n
@@ -43,9 +47,23 @@ module _ (r : DA728x) (len room : ℕ) (st : List ℕ) (cs : List AnswerCall) (e
       let p : readCount (final (begunIn st b []) cs) ≡ n = k .reads ∙ held .reads ∙ omega arith in
       λ i. ltb 0 (p i) && not (eqb m ((k .room ∙ held .room) i))
 
+-- what an upload begins
+module _ (r : DA728x) (m : WaveformMemory) (lockAfter : Bool) (st : List ℕ) (cs : List AnswerCall) (l : length (m .«data») ≡ 100) (e : isSession st ≡ true) where
+  abbrev u : Begun
+  u = begunWith (r .address) 0 0 0 (m .«data») blankRecord
+
+  abbrev s : List ℕ
+  s = begunIn st u (uploadSteps m lockAfter)
+
+  sent-whole : completed (final s cs) ≡ true → payload (sent s cs) ≡ addressed (addressOf "SNP_MEM_0") (take (m .len) (m .«data»))
+  sent-whole done =
+      ap payload (all-sent (holds st u (uploadSteps m lockAfter) e (few m lockAfter, omega arith, l, no-record)) cs done
+      ∙ ap (λ (xs : List Step). exchangesOf (r .address) 0 (m .«data») xs (came s cs)) (append-nil (uploadSteps m lockAfter)))
+      ∙ shown r m lockAfter (came s cs) l
+
 pub transfers : Transfers
 transfers = record {
-  shown = shown;
+  shown = λ r m lockAfter st cs l e. sent-whole r m lockAfter st cs l e;
   reads = λ r len buffer st replies e h.
       let n = min (min len 100) (length buffer) in
       let b = begunWith (r .address) n (length buffer) 5 noImage blankRecord in

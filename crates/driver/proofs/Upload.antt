@@ -52,10 +52,10 @@ addressed-append (x ∷ xs) ys a =
     let k : suc a + length xs ≡ a + suc (length xs) = omega arith in
     ap (λ (l : List (ℕ × ℕ)). (a, x) ∷ l) (addressed-append xs ys (suc a) ∙ ap (λ (i : ℕ). addressed (suc a) xs ++ addressed i ys) k)
 
-module _ (address : ℕ) (image : List ℕ) where
+module _ (address : ℕ) (image bytes : List ℕ) where
   -- what steps that read nothing write
   abbrev writes : List Step → List (ℕ × ℕ)
-  writes xs = payload (exchangesOf address 0 image xs [])
+  writes xs = payload (exchangesOf address 0 image xs bytes)
 
   -- n bytes from an offset on
   abbrev part : ℕ → ℕ → List (ℕ × ℕ)
@@ -83,14 +83,14 @@ module _ (address : ℕ) (image : List ℕ) where
   sends-more n offset further xs e h l w = sends-one n offset xs h ∙ ap (λ (r : List (ℕ × ℕ)). part offset (min 32 (n - offset)) ++ r) w ∙ go (decLe further n) where
     go : Dec (further ≤ n) → part offset (min 32 (n - offset)) ++ part further (n - further) ≡ part offset (n - offset)
     go (yes g) =
-        let bytes = drop offset image in
+        let rest = drop offset image in
         let a : min 32 (n - offset) ≡ 32 = omega arith in
         let b : 32 + (n - further) ≡ n - offset = omega arith in
-        let d : drop further image ≡ drop 32 bytes = ap (λ (i : ℕ). drop i image) e ∙ sym (drop-drop 32 offset image) in
-        let f : 132 + further ≡ 132 + offset + length (take 32 bytes) = omega (arith, length-take 32 bytes, length-drop offset image) in
+        let d : drop further image ≡ drop 32 rest = ap (λ (i : ℕ). drop i image) e ∙ sym (drop-drop 32 offset image) in
+        let f : 132 + further ≡ 132 + offset + length (take 32 rest) = omega (arith, length-take 32 rest, length-drop offset image) in
         (λ i. part offset (a i) ++ addressed (f i) (take (n - further) (d i)))
-        ∙ sym (addressed-append (take 32 bytes) (take (n - further) (drop 32 bytes)) (132 + offset))
-        ∙ ap (addressed (132 + offset)) (sym (take-add 32 (n - further) bytes) ∙ ap (λ (i : ℕ). take i bytes) b)
+        ∙ sym (addressed-append (take 32 rest) (take (n - further) (drop 32 rest)) (132 + offset))
+        ∙ ap (addressed (132 + offset)) (sym (take-add 32 (n - further) rest) ∙ ap (λ (i : ℕ). take i rest) b)
     go (no g) =
         let a : min 32 (n - offset) ≡ n - offset = omega arith in
         let b : n - further ≡ 0 = omega arith in
@@ -102,10 +102,10 @@ module _ (address : ℕ) (image : List ℕ) where
   sends-none false = refl
 
 -- what the memory shows
-pub shown : (r : DA728x) (m : WaveformMemory) (lockAfter : Bool) → length (m .«data») ≡ 100 →
-    payload (exchangesOf (r .address) 0 (m .«data») (uploadSteps m lockAfter) []) ≡ addressed (addressOf "SNP_MEM_0") (take (m .len) (m .«data»))
+pub shown : (r : DA728x) (m : WaveformMemory) (lockAfter : Bool) (bytes : List ℕ) → length (m .«data») ≡ 100 →
+    payload (exchangesOf (r .address) 0 (m .«data») (uploadSteps m lockAfter) bytes) ≡ addressed (addressOf "SNP_MEM_0") (take (m .len) (m .«data»))
 unfolding sendSteps chunkSteps
-shown r m lockAfter e =
+shown r m lockAfter bytes e =
     let image = m .«data» in
     let n = min (m .len) 100 in
     let l : n ≤ length image = omega arith in
@@ -113,10 +113,10 @@ shown r m lockAfter e =
     let z : n - 128 ≡ 0 = omega arith in
     let p : (chunkStep n 0 ++ (chunkStep n 32 ++ (chunkStep n 64 ++ chunkStep n 96))) ++ lockSteps lockAfter
     ≡ chunkStep n 0 ++ (chunkStep n 32 ++ (chunkStep n 64 ++ (chunkStep n 96 ++ lockSteps lockAfter))) = simp append-assoc in
-    let more = sends-more (r .address) image n in
-    ap (writes (r .address) image) p
+    let more = sends-more (r .address) image bytes n in
+    ap (writes (r .address) image bytes) p
     ∙ more 0 32 _ refl (omega arith) l
     (more 32 64 _ refl (omega arith) l
     (more 64 96 _ refl (omega arith) l
-    (more 96 128 _ refl (omega arith) l (sends-none (r .address) image lockAfter ∙ ap (part (r .address) image 128) (sym z)))))
+    (more 96 128 _ refl (omega arith) l (sends-none (r .address) image bytes lockAfter ∙ ap (part (r .address) image bytes 128) (sym z)))))
     ∙ ap (addressed 132) (ap (λ (i : ℕ). take i image) (sub-zero n) ∙ take-shown image (m .len) n k)

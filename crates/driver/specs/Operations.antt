@@ -10,7 +10,7 @@ use Rattle.config.specs.declared.ActuatorConfig.{ActuatorConfig}
 use Rattle.config.specs.declared.DeviceConfig.{DeviceConfig}
 use Rattle.config.specs.declared.DrivingMode.the-variants.{«CUSTOM_WAVEFORM»}
 use Rattle.config.specs.declared.OperationMode.{OperationMode}
-use Rattle.config.specs.declared.OperationMode.the-variants.{«DRO_MODE»}
+use Rattle.config.specs.declared.OperationMode.the-variants.{INACTIVE, «DRO_MODE»}
 use Rattle.config.specs.declared.Variant.{Variant}
 use Rattle.config.specs.declared.Variant.the-variants.{DA7280, DA7281, DA7282}
 use Rattle.config.specs.Codes.{operationCode, drivingCode}
@@ -30,6 +30,7 @@ use Rattle.da728x.specs.declared.DA728x.{DA728x}
 use Rattle.da728x.specs.declared.Settings.{Settings}
 use Rattle.da728x.specs.declared.Settings.the-variants.{Absent, Given}
 use Rattle.sessions.specs.Sessions.{noImage, blankRecord, blank, carrying, enabled, selectStep, startSteps, setUnlocked, sendSteps}
+use Rattle.outcome.specs.declared.Change.{Change}
 use Rattle.outcome.specs.Outcome.{bigEndian, changeBy, recordBy}
 
 -- ---- what starting an operation comes to
@@ -42,12 +43,12 @@ abbrev pub startNumber : Start → ℕ
 startNumber (declines number) = number
 startNumber (begins b xs) = 0
 
--- the lent session afterwards: a refusal writes nothing
+-- the lent session afterwards: a refusal writes nothing, and bytes of another length stay (that such a start still tells 0 is ours)
 abbrev pub startedIn : List ℕ → Start → List ℕ
 startedIn st (declines number) = st
 startedIn st (begins b xs) = begunIn st b xs
 
--- refused with the first number of a list of checks, else begun
+-- refused with a number, the first of a list of checks; begun where it is 0
 abbrev pub unless : ℕ → Start → Start
 unless zero s = s
 unless (suc n) s = declines (suc n)
@@ -59,28 +60,32 @@ withSettings (Given a d) f = f a d
 
 -- ---- what an answer gives
 
--- the record in force after an answer, where n bytes are lent with it
-unfoldable pub recordAfter : List ℕ → Reply → ℕ → DA728x → DA728x
-recordAfter st a n r = recordBy r (changeBy (stateAfter st a n) (reportOf st a n) r)
+-- what an answer does to the record lent with it, where n bytes are lent too; a record that is left keeps its bytes
+unfoldable pub changeAfter : List ℕ → Reply → ℕ → DA728x → Change
+changeAfter st a n r = changeBy (stateAfter st a n) (reportOf st a n) r
 
--- ---- the operations, by their names in lib.rs
+-- the record in force after it
+abbrev pub recordAfter : List ℕ → Reply → ℕ → DA728x → DA728x
+recordAfter st a n r = recordBy r (changeAfter st a n r)
 
--- the chip's address, how it starts, and what it answers where these bytes came
+-- ---- the operations, by their names in lib.rs; what each session is for (the first number of `blank`, `carrying` and `asking`, the fourth of
+-- `begunWith`) is a code of outcome/specs/Outcome.antt
+
+-- how it starts, and what it answers where these bytes came
 pub record Operation : Type 0 where
-  pub address : ℕ
   pub start : Start
   pub answers : List ℕ → ℕ
 
 -- one that answers nothing
-abbrev pub plain : ℕ → Start → Operation
-plain address s = record { address = address; start = s; answers = λ bytes. 0 }
+abbrev pub plain : Start → Operation
+plain s = record { start = s; answers = λ bytes. 0 }
 
 abbrev pub runs : DA728x → List Step → Start
 runs r xs = begins (blank 0 (r .address)) xs
 
 -- one that answers the bytes that came
 abbrev pub asking : ℕ → DA728x → List Step → Operation
-asking purpose r xs = record { address = r .address; start = begins (blank purpose (r .address)) xs; answers = bigEndian 0 }
+asking purpose r xs = record { start = begins (blank purpose (r .address)) xs; answers = bigEndian 0 }
 
 -- "CHIP_REV does not read BA for the DA7280, CA for the DA7281, DA for the DA7282"
 abbrev pub revision : Variant → ℕ
@@ -92,14 +97,14 @@ abbrev pub newRecord : ℕ → Variant → DA728x
 newRecord address variant = record { address = address; variant = variant; settings = Absent }
 
 abbrev pub new : ℕ → Variant → Operation
-new address variant = plain address (begins (carrying 1 (newRecord address variant)) (Match (addressOf "CHIP_REV") (revision variant) ∷ []))
+new address variant = plain (begins (carrying 1 (newRecord address variant)) (Match (addressOf "CHIP_REV") (revision variant) ∷ []))
 
 -- a record with these settings
 abbrev pub configured : DA728x → ActuatorConfig → DeviceConfig → DA728x
 configured r a d = record { address = r .address; variant = r .variant; settings = Given a d }
 
 abbrev pub configure : DA728x → ActuatorConfig → DeviceConfig → Operation
-configure r a d = plain (r .address) (unless (configureNumber (r .variant) a d) (begins (carrying 2 (configured r a d)) (configureSteps a d)))
+configure r a d = plain (unless (configureNumber (r .variant) a d) (begins (carrying 2 (configured r a d)) (configureSteps a d)))
 
 abbrev pub getChipRev : DA728x → Operation
 getChipRev r = asking 3 r (Read (addressOf "CHIP_REV") ∷ [])
@@ -114,7 +119,7 @@ getStatus r = asking 3 r (Read (addressOf "IRQ_STATUS1") ∷ [])
 
 abbrev pub setFrequency : DA728x → ℕ → Operation
 setFrequency r hz =
-    plain (r .address) (withSettings (r .settings) (λ a d. unless (firstFailing ((outsideBand (d .«driving_mode») hz, 11) ∷ [])) (runs r (frequencySteps hz))))
+    plain (withSettings (r .settings) (λ a d. unless (firstFailing ((outsideBand (d .«driving_mode») hz, 11) ∷ [])) (runs r (frequencySteps hz))))
 
 abbrev pub negative : ℤ → Bool
 negative (pos n) = false
@@ -131,51 +136,48 @@ abbrev pub overriding : ℕ → DeviceConfig → ℤ → Start
 overriding address d value = unless (firstFailing (overrideChecks d value)) (begins (blank 0 address) (written "TOP_CTL2" (overrideByte value) ∷ []))
 
 abbrev pub setOverrideValue : DA728x → ℤ → Operation
-setOverrideValue r value = plain (r .address) (withSettings (r .settings) (λ a d. overriding (r .address) d value))
+setOverrideValue r value = plain (withSettings (r .settings) (λ a d. overriding (r .address) d value))
 
 abbrev pub setTimebase : DA728x → WaveformMemoryTimebase → Operation
-setTimebase r timebase = plain (r .address) (runs r (updated "SEQ_CTL1" (put "FREQ_WAVEFORM_TIMEBASE" (timebaseBit timebase))))
+setTimebase r timebase = plain (runs r (updated "SEQ_CTL1" (put "FREQ_WAVEFORM_TIMEBASE" (timebaseBit timebase))))
 
 abbrev pub enable : DA728x → Operation
-enable r = plain (r .address) (withSettings (r .settings) (λ a d. runs r (written "TOP_CTL1" (enabled (d .«operation_mode»)) ∷ [])))
+enable r = plain (withSettings (r .settings) (λ a d. runs r (written "TOP_CTL1" (enabled (d .«operation_mode»)) ∷ [])))
 
 abbrev pub disable : DA728x → Operation
-disable r = plain (r .address) (withSettings (r .settings) (λ a d. runs r (updated "TOP_CTL1" (put "OPERATION_MODE" 0))))
+disable r = plain (withSettings (r .settings) (λ a d. runs r (updated "TOP_CTL1" (put "OPERATION_MODE" (operationCode INACTIVE)))))
 
 -- "15 comes first", then "that the mode is CUSTOM_WAVEFORM (12)"; "We refuse, the last with 14 after its Rust checks"
 abbrev pub setCustomDriveWaveform : DA728x → Operation
-setCustomDriveWaveform r = plain (r .address) (withSettings (r .settings) (λ a d. declines (cond (eqb (drivingCode (d .«driving_mode»)) (drivingCode «CUSTOM_WAVEFORM»)) 14 12)))
+setCustomDriveWaveform r = plain (withSettings (r .settings) (λ a d. declines (cond (eqb (drivingCode (d .«driving_mode»)) (drivingCode «CUSTOM_WAVEFORM»)) 14 12)))
 
 abbrev pub unlockWaveformMemory : DA728x → Operation
-unlockWaveformMemory r = plain (r .address) (runs r (setUnlocked true ∷ []))
+unlockWaveformMemory r = plain (runs r (setUnlocked true ∷ []))
 
 abbrev pub lockWaveformMemory : DA728x → Operation
-lockWaveformMemory r = plain (r .address) (runs r (setUnlocked false ∷ []))
+lockWaveformMemory r = plain (runs r (setUnlocked false ∷ []))
 
 abbrev pub uploadSteps : WaveformMemory → Bool → List Step
 uploadSteps m lockAfter = sendSteps (min (m .len) 100) lockAfter
 
 abbrev pub uploadWaveformMemory : DA728x → WaveformMemory → Bool → Operation
-uploadWaveformMemory r m lockAfter = plain (r .address) (begins (begunWith (r .address) 0 0 0 (m .«data») blankRecord) (uploadSteps m lockAfter))
+uploadWaveformMemory r m lockAfter = plain (begins (begunWith (r .address) 0 0 0 (m .«data») blankRecord) (uploadSteps m lockAfter))
 
 -- "min(len, 100, buffer length) bytes, one an exchange; zero needs none"
 abbrev pub readWaveformMemory : DA728x → ℕ → ℕ → Operation
 readWaveformMemory r len room =
     let n = min (min len 100) room in
-    record { address = r .address; start = begins (begunWith (r .address) n room 5 noImage blankRecord) []; answers = λ bytes. n }
+    record { start = begins (begunWith (r .address) n room 5 noImage blankRecord) []; answers = λ bytes. n }
 
 -- "a sequence number or loop count above 15 (11)"
 abbrev pub numberChecks : ℕ → ℕ → List Check
 numberChecks id loops = (ltb 15 id, 11) ∷ (ltb 15 loops, 11) ∷ []
 
-abbrev pub numbered : ℕ → ℕ → Start → Start
-numbered id loops s = unless (firstFailing (numberChecks id loops)) s
-
 abbrev pub selectSequence : DA728x → ℕ → ℕ → Operation
-selectSequence r id loops = plain (r .address) (numbered id loops (runs r (selectStep id loops ∷ [])))
+selectSequence r id loops = plain (unless (firstFailing (numberChecks id loops)) (runs r (selectStep id loops ∷ [])))
 
 abbrev pub startSequence : DA728x → Operation
-startSequence r = plain (r .address) (runs r startSteps)
+startSequence r = plain (runs r startSteps)
 
 abbrev pub playSequence : DA728x → ℕ → ℕ → Operation
-playSequence r id loops = plain (r .address) (numbered id loops (runs r (selectStep id loops ∷ startSteps)))
+playSequence r id loops = plain (unless (firstFailing (numberChecks id loops)) (runs r (selectStep id loops ∷ startSteps)))

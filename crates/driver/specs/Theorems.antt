@@ -24,35 +24,36 @@ use Rattle.exchange.specs.Turn.{resized, reportOf}
 use Rattle.exchange.specs.Session.{AnswerCall, numberAt, afterCall, final, sent, came, brokenOff, exchangesOf, lending, filled}
 use Rattle.checks.specs.Checks.{configureNumber}
 use Rattle.da728x.specs.declared.DA728x.{DA728x}
+use Rattle.outcome.specs.declared.Change.the-variants.{Same}
 use Rattle.outcome.specs.declared.Outcome.{Outcome}
 use Rattle.outcome.specs.Outcome.{isChipOf, outcomeOf}
 use Rattle.driver.specs.Operations as operation
-use Rattle.driver.specs.Operations.{Start, declines, begins, startedIn, Operation, newRecord, revision, configured, recordAfter}
+use Rattle.driver.specs.Operations.{Start, declines, begins, startedIn, Operation, newRecord, revision, configured, changeAfter, recordAfter}
 
 -- ---- all eighteen operations
 
--- the sixteen that leave the record
-pub record Others (P : Operation → Type 0) : Type 0 where
-  pub get-chip-rev : (r : DA728x) → P (operation.getChipRev r)
-  pub get-events : (r : DA728x) → P (operation.getEvents r)
-  pub get-status : (r : DA728x) → P (operation.getStatus r)
-  pub set-frequency : (r : DA728x) (hz : ℕ) → P (operation.setFrequency r hz)
-  pub set-override-value : (r : DA728x) (value : ℤ) → P (operation.setOverrideValue r value)
-  pub set-timebase : (r : DA728x) (timebase : WaveformMemoryTimebase) → P (operation.setTimebase r timebase)
-  pub enable : (r : DA728x) → P (operation.enable r)
-  pub disable : (r : DA728x) → P (operation.disable r)
-  pub set-custom-drive-waveform : (r : DA728x) → P (operation.setCustomDriveWaveform r)
-  pub unlock-waveform-memory : (r : DA728x) → P (operation.unlockWaveformMemory r)
-  pub lock-waveform-memory : (r : DA728x) → P (operation.lockWaveformMemory r)
-  pub upload-waveform-memory : (r : DA728x) (m : WaveformMemory) (lockAfter : Bool) → length (m .«data») ≡ 100 → P (operation.uploadWaveformMemory r m lockAfter)
-  pub read-waveform-memory : (r : DA728x) (len room : ℕ) → room < 2 ^ 64 → P (operation.readWaveformMemory r len room)
-  pub select-sequence : (r : DA728x) (id loops : ℕ) → P (operation.selectSequence r id loops)
-  pub start-sequence : (r : DA728x) → P (operation.startSequence r)
-  pub play-sequence : (r : DA728x) (id loops : ℕ) → P (operation.playSequence r id loops)
+-- the sixteen that leave the record, each with its chip's address
+pub record Others (P : ℕ → Operation → Type 0) : Type 0 where
+  pub get-chip-rev : (r : DA728x) → P (r .address) (operation.getChipRev r)
+  pub get-events : (r : DA728x) → P (r .address) (operation.getEvents r)
+  pub get-status : (r : DA728x) → P (r .address) (operation.getStatus r)
+  pub set-frequency : (r : DA728x) (hz : ℕ) → P (r .address) (operation.setFrequency r hz)
+  pub set-override-value : (r : DA728x) (value : ℤ) → P (r .address) (operation.setOverrideValue r value)
+  pub set-timebase : (r : DA728x) (timebase : WaveformMemoryTimebase) → P (r .address) (operation.setTimebase r timebase)
+  pub enable : (r : DA728x) → P (r .address) (operation.enable r)
+  pub disable : (r : DA728x) → P (r .address) (operation.disable r)
+  pub set-custom-drive-waveform : (r : DA728x) → P (r .address) (operation.setCustomDriveWaveform r)
+  pub unlock-waveform-memory : (r : DA728x) → P (r .address) (operation.unlockWaveformMemory r)
+  pub lock-waveform-memory : (r : DA728x) → P (r .address) (operation.lockWaveformMemory r)
+  pub upload-waveform-memory : (r : DA728x) (m : WaveformMemory) (lockAfter : Bool) → length (m .«data») ≡ 100 → P (r .address) (operation.uploadWaveformMemory r m lockAfter)
+  pub read-waveform-memory : (r : DA728x) (len room : ℕ) → room < 2 ^ 64 → P (r .address) (operation.readWaveformMemory r len room)
+  pub select-sequence : (r : DA728x) (id loops : ℕ) → P (r .address) (operation.selectSequence r id loops)
+  pub start-sequence : (r : DA728x) → P (r .address) (operation.startSequence r)
+  pub play-sequence : (r : DA728x) (id loops : ℕ) → P (r .address) (operation.playSequence r id loops)
 
-pub record Each (P : Operation → Type 0) : Type 0 where
-  pub new : (address : ℕ) (variant : Variant) → P (operation.new address variant)
-  pub configure : (r : DA728x) (a : ActuatorConfig) (d : DeviceConfig) → P (operation.configure r a d)
+pub record Each (P : ℕ → Operation → Type 0) : Type 0 where
+  pub new : (address : ℕ) (variant : Variant) → P address (operation.new address variant)
+  pub configure : (r : DA728x) (a : ActuatorConfig) (d : DeviceConfig) → P (r .address) (operation.configure r a d)
   pub others : Others P
 
 -- ---- what is sent and answered
@@ -62,6 +63,8 @@ pub record Each (P : Operation → Type 0) : Type 0 where
 pub record Course (s : List ℕ) (address : ℕ) (image : List ℕ) (xs : List Step) (result : List ℕ → ℕ) (cs : List AnswerCall) : Type 0 where
   -- demand 2's exchanges: those of the steps, in order from the first, with the bytes read substituted
   pub order : sent s cs ≡ take (length (sent s cs)) (exchangesOf address 0 image xs (came s cs))
+  -- still to be made are the steps behind those that were; none once it is broken off
+  pub next : left (final s cs) ≡ cond (brokenOff s cs) [] (drop (length (sent s cs)) xs)
   -- completed exactly where no answer broke it off and as many were made as there are steps; then they are all that is to be sent
   pub completes : completed (final s cs) ≡ not (brokenOff s cs) && eqb (length (sent s cs)) (length xs)
   pub whole : completed (final s cs) ≡ true → sent s cs ≡ exchangesOf address 0 image xs (came s cs)
@@ -73,21 +76,21 @@ pub record Course (s : List ℕ) (address : ℕ) (image : List ℕ) (xs : List S
 abbrev pub allSteps : Begun → List Step → List Step
 allSteps b xs = xs ++ indexed Store 0 (min (b .reads) 100)
 
-abbrev pub AnswersAs : Operation → Type 0
-AnswersAs o = (b : Begun) (xs : List Step) → o .start ≡ begins b xs → (st : List ℕ) → isSession st ≡ true → (cs : List AnswerCall) →
-    Course (begunIn st b xs) (o .address) (b .image) (allSteps b xs) (o .answers) cs
+abbrev pub AnswersAs : ℕ → Operation → Type 0
+AnswersAs address o = (b : Begun) (xs : List Step) → o .start ≡ begins b xs → (st : List ℕ) → isSession st ≡ true → (cs : List AnswerCall) →
+    Course (begunIn st b xs) address (b .image) (allSteps b xs) (o .answers) cs
 
 -- no answer to a session that it begins is told by 16
-abbrev pub NoMismatch : Operation → Type 0
-NoMismatch o = (b : Begun) (xs : List Step) → o .start ≡ begins b xs → (st : List ℕ) → isSession st ≡ true → (cs : List AnswerCall) (c : AnswerCall) →
+abbrev pub NoMismatch : ℕ → Operation → Type 0
+NoMismatch address o = (b : Begun) (xs : List Step) → o .start ≡ begins b xs → (st : List ℕ) → isSession st ≡ true → (cs : List AnswerCall) (c : AnswerCall) →
     ¬ (numberAt (final (begunIn st b xs) cs) c ≡ 16)
 
 pub record Answers : Type 0 where
   pub each : Each AnswersAs
-  -- a start that is refused before its first exchange tells one of 11 to 15
-  pub listed : Each (λ o. (number : ℕ) → o .start ≡ declines number → (11 ≤ number) × (number ≤ 15))
+  -- a start of these eighteen that is refused before its first exchange tells one of 11 to 15
+  pub listed : Each (λ address o. (number : ℕ) → o .start ≡ declines number → (11 ≤ number) × (number ≤ 15))
   -- "16 VariantMismatch, in `new`": in no other operation
-  pub mismatch : Others NoMismatch × ((r : DA728x) (a : ActuatorConfig) (d : DeviceConfig) → NoMismatch (operation.configure r a d))
+  pub mismatch : Others NoMismatch × ((r : DA728x) (a : ActuatorConfig) (d : DeviceConfig) → NoMismatch (r .address) (operation.configure r a d))
   -- "`configure` makes at most 25, at least 14 if none fails"
   pub counts : (r : DA728x) (a : ActuatorConfig) (d : DeviceConfig) (st : List ℕ) (cs : List AnswerCall) →
       configureNumber (r .variant) a d ≡ 0 → isSession st ≡ true →
@@ -106,12 +109,12 @@ cameOnly bytes value = eqb (length bytes) 1 && eqb (at bytes 0) value
 
 -- for every record lent and every list of answers; the first three for every session's bytes (old, foreign, forged)
 pub record Stored : Type 0 where
-  -- an answer that is refused (16, 17, 19) or is not the last leaves the record
-  pub refused : (st : List ℕ) (a : Reply) (n : ℕ) (r : DA728x) → eqb (reportOf st a n .number) 0 ≡ false → recordAfter st a n r ≡ r
-  pub before : (st : List ℕ) (a : Reply) (n : ℕ) (r : DA728x) → reportOf st a n .ended ≡ false → recordAfter st a n r ≡ r
-  -- so do all answers to a session that has ended, that was never begun, or of another length
-  pub ended : (st : List ℕ) (cs : List AnswerCall) (r : DA728x) → left st ≡ [] → recordFinal st cs r ≡ r
-  -- a start that is refused leaves the session's bytes, and so what they were begun with before
+  -- an answer that is refused (16, 17, 19) or is not the last leaves the record, every byte of it
+  pub refused : (st : List ℕ) (a : Reply) (n : ℕ) (r : DA728x) → eqb (reportOf st a n .number) 0 ≡ false → changeAfter st a n r ≡ Same
+  pub before : (st : List ℕ) (a : Reply) (n : ℕ) (r : DA728x) → reportOf st a n .ended ≡ false → changeAfter st a n r ≡ Same
+  -- so does every answer to a session that has ended, that was never begun, or of another length; such a session stays
+  pub ended : (st : List ℕ) (c : AnswerCall) (r : DA728x) → left st ≡ [] → (changeAfter st (c .reply) (length (c .buffer)) r ≡ Same) × (afterCall st c ≡ st)
+  -- a start that is refused leaves the session's bytes
   pub declined : (s : Start) (number : ℕ) (st : List ℕ) → s ≡ declines number → startedIn st s ≡ st
   -- `new` makes a record exactly if the one byte that came from CHIP_REV is the variant's
   pub creates : (address : ℕ) (variant : Variant) (st : List ℕ) (cs : List AnswerCall) (r : DA728x) → isSession st ≡ true →
@@ -122,9 +125,9 @@ pub record Stored : Type 0 where
       isSession st ≡ true → let s = startedIn st (operation.configure r a d .start) in
       recordFinal s cs lent ≡ cond (completed (final s cs)) (cond (isChipOf r lent) (configured lent a d) lent) lent
   pub own : (r : DA728x) → isChipOf r r ≡ true
-  -- no other operation changes it
-  pub others : Others (λ o. (b : Begun) (xs : List Step) → o .start ≡ begins b xs → (st : List ℕ) (cs : List AnswerCall) (r : DA728x) → isSession st ≡ true →
-      recordFinal (begunIn st b xs) cs r ≡ r)
+  -- no answer to another operation changes it
+  pub others : Others (λ address o. (b : Begun) (xs : List Step) → o .start ≡ begins b xs → (st : List ℕ) (cs : List AnswerCall) (c : AnswerCall) (r : DA728x) →
+      isSession st ≡ true → changeAfter (final (begunIn st b xs) cs) (c .reply) (length (c .buffer)) r ≡ Same)
 
 -- ---- what is uploaded and read
 
@@ -139,10 +142,10 @@ payload [] = []
 payload (e ∷ es) = cond (leb (addressOf "SNP_MEM_0") (at (e .bytes) 0)) (addressed (at (e .bytes) 0) (drop 1 (take (e .len) (e .bytes)))) [] ++ payload es
 
 pub record Transfers : Type 0 where
-  -- "Upload sends what `WaveformMemory::as_bytes` shows .. from address 84 (hexadecimal)": each byte to its own address, and no other
-  pub shown : (r : DA728x) (m : WaveformMemory) (lockAfter : Bool) → length (m .«data») ≡ 100 →
-      payload (exchangesOf (r .address) 0 (m .«data») (operation.uploadSteps m lockAfter) [])
-      ≡ addressed (addressOf "SNP_MEM_0") (take (m .len) (m .«data»))
+  -- "Upload sends what `WaveformMemory::as_bytes` shows .. from address 84 (hexadecimal)": once completed, each byte to its own address, and no other
+  pub shown : (r : DA728x) (m : WaveformMemory) (lockAfter : Bool) (st : List ℕ) (cs : List AnswerCall) → length (m .«data») ≡ 100 → isSession st ≡ true →
+      let s = startedIn st (operation.uploadWaveformMemory r m lockAfter .start) in
+      completed (final s cs) ≡ true → payload (sent s cs) ≡ addressed (addressOf "SNP_MEM_0") (take (m .len) (m .«data»))
   -- a read fills the front of the buffer with the bytes that came, and changes no other byte
   pub reads : (r : DA728x) (len : ℕ) (buffer : List ℕ) (st : List ℕ) (replies : List Reply) → isSession st ≡ true → length buffer < 2 ^ 64 →
       let s = startedIn st (operation.readWaveformMemory r len (length buffer) .start) in

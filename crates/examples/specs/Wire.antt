@@ -5,9 +5,10 @@ use Prim.Native.Nat.{ℕ}
 use mathlib.Core.Bool.{true, false}
 use mathlib.Core.List.{List, [], _∷_, _++_, map}
 use lib.ListN.{take, drop, set, replicate}
-use lib.IntN.{negsuc}
+use lib.IntN.{ℤ, pos, negsuc}
 use Rattle.config.specs.declared.Variant.{Variant}
 use Rattle.config.specs.declared.Variant.the-variants.{DA7280, DA7281, DA7282}
+use Rattle.convert.specs.Trim.{capCode, resistanceCode}
 use Rattle.memory.specs.declared.WaveformMemory.{WaveformMemory}
 use Rattle.memory.specs.declared.WaveformMemoryTimebase.the-variants.{«TIMEBASE_544_2176_4352_8704», «TIMEBASE_136_544_2176_4352»}
 use Rattle.exchange.specs.Session.{exchangesOf}
@@ -27,16 +28,16 @@ abbrev pub wire : List ℕ → Operation → List ℕ
 wire bytes o = wireOf bytes (o .start)
 
 -- settings as bytes, in this operation mode: LRA, 2500 and 5990 mV, 165 mA, 8000 mOhm, 50 µH, 170 Hz, Kp 0x8123, Ki 0x0180, CUSTOM_WAVEFORM, the
--- triggers with sequences 1 rising, 2 falling, 3 both
+-- triggers with sequences 1 rising, 2 falling, 3 both, the last MultiSequence
 abbrev pub settingsFor : ℕ → List ℕ
 settingsFor mode =
     0 ∷ 0xC4 ∷ 0x09 ∷ 0x66 ∷ 0x17 ∷ 165 ∷ 0 ∷ 0x40 ∷ 0x1F ∷ 50 ∷ 0 ∷ 170 ∷ 0 ∷ 1 ∷ 0x23 ∷ 0x81 ∷ 0x80 ∷ 0x01
-    ∷ mode ∷ 2 ∷ 1 ∷ 1 ∷ 0 ∷ 0 ∷ 1 ∷ 2 ∷ 1 ∷ 0 ∷ 1 ∷ 3 ∷ 2 ∷ 0 ∷ 0 ∷ 0 ∷ []
+    ∷ mode ∷ 2 ∷ 1 ∷ 1 ∷ 0 ∷ 0 ∷ 1 ∷ 2 ∷ 1 ∷ 0 ∷ 1 ∷ 3 ∷ 2 ∷ 1 ∷ 0 ∷ 0 ∷ []
 
--- ERM, 252 mA, 49999 mOhm, 17 µH, no PID words, FREQUENCY_TRACK, no triggers, acceleration
+-- ERM, 1200 and 3000 mV, 252 mA, 49999 mOhm, 17 µH, 235 Hz, no PID words, FREQUENCY_TRACK, no triggers, acceleration
 abbrev pub accelerating : ℕ → List ℕ
 accelerating mode =
-    1 ∷ 0xC4 ∷ 0x09 ∷ 0x66 ∷ 0x17 ∷ 252 ∷ 0 ∷ 0x4F ∷ 0xC3 ∷ 17 ∷ 0 ∷ 170 ∷ 0 ∷ (replicate 5 0 ++ (mode ∷ 0 ∷ (replicate 12 0 ++ (1 ∷ 0 ∷ []))))
+    1 ∷ 0xB0 ∷ 0x04 ∷ 0xB8 ∷ 0x0B ∷ 252 ∷ 0 ∷ 0x4F ∷ 0xC3 ∷ 17 ∷ 0 ∷ 235 ∷ 0 ∷ (replicate 5 0 ++ (mode ∷ 0 ∷ (replicate 12 0 ++ (1 ∷ 0 ∷ []))))
 
 -- bytes with some replaced, by their indexes
 abbrev pub replaced : List ℕ → List (ℕ × ℕ) → List ℕ
@@ -57,25 +58,25 @@ configuring v settings = operation.configure (newRecord 0x4A v) (actuatorConfigA
 abbrev pub loadedTo : ℕ → WaveformMemory
 loadedTo n = record { «data» = replicate 96 7 ++ (8 ∷ 9 ∷ 0 ∷ 0 ∷ []); len = n; «num_snippets» = 1; «num_sequences» = 1 }
 
-abbrev pub numberOf : Operation → ℕ
-numberOf o = startNumber (o .start)
+abbrev pub refusal : Operation → ℕ
+refusal o = startNumber (o .start)
 
 -- what `configure` tells of the settings in ETWM_MODE with these bytes replaced
 abbrev pub told : Variant → List (ℕ × ℕ) → ℕ
-told v changes = numberOf (configuring v (replaced (settingsFor 4) changes))
+told v changes = refusal (configuring v (replaced (settingsFor 4) changes))
 
 abbrev pub refusedExamples : List Example
 refusedExamples =
     -- without settings
-    (map (λ o. numberOf (o (newRecord 0x4A DA7280))) ((λ r. operation.setFrequency r 170) ∷ (λ r. operation.setOverrideValue r (negsuc 0)) ∷ operation.enable
+    (map (λ o. refusal (o (newRecord 0x4A DA7280))) ((λ r. operation.setFrequency r 170) ∷ (λ r. operation.setOverrideValue r (negsuc 0)) ∷ operation.enable
     ∷ operation.disable ∷ operation.setCustomDriveWaveform ∷ []) is replicate 5 15)
     -- for a custom waveform, and while tracking
-    ∷ (numberOf (operation.setCustomDriveWaveform chip) is 14) ∷ (numberOf (operation.setCustomDriveWaveform (chipWith (accelerating 1))) is 12)
-    ∷ (map (λ hz. numberOf (operation.setFrequency chip hz)) (24 ∷ 25 ∷ 1024 ∷ 1025 ∷ []) is (11 ∷ 0 ∷ 0 ∷ 11 ∷ []))
-    ∷ (map (λ hz. numberOf (operation.setFrequency (chipWith (accelerating 1)) hz)) (49 ∷ 50 ∷ 300 ∷ 301 ∷ []) is (11 ∷ 0 ∷ 0 ∷ 11 ∷ []))
-    -- in ETWM_MODE with a negative value, accelerating or not
-    ∷ (map (λ settings. numberOf (operation.setOverrideValue (chipWith settings) (negsuc 0))) (accelerating 4 ∷ settingsFor 4 ∷ []) is (11 ∷ 12 ∷ []))
-    ∷ (map numberOf (operation.selectSequence chip 16 0 ∷ operation.selectSequence chip 0 16 ∷ operation.playSequence chip 16 0 ∷ operation.playSequence chip 0 16 ∷ []) is replicate 4 11)
+    ∷ (refusal (operation.setCustomDriveWaveform chip) is 14) ∷ (refusal (operation.setCustomDriveWaveform (chipWith (accelerating 1))) is 12)
+    ∷ (map (λ hz. refusal (operation.setFrequency chip hz)) (24 ∷ 25 ∷ 1024 ∷ 1025 ∷ []) is (11 ∷ 0 ∷ 0 ∷ 11 ∷ []))
+    ∷ (map (λ hz. refusal (operation.setFrequency (chipWith (accelerating 1)) hz)) (49 ∷ 50 ∷ 300 ∷ 301 ∷ []) is (11 ∷ 0 ∷ 0 ∷ 11 ∷ []))
+    -- −1 in ETWM_MODE, accelerating and not; 0 and 127 in DRO_MODE, accelerating
+    ∷ (map (λ (c : List ℕ × ℤ). refusal (operation.setOverrideValue (chipWith (c .0)) (c .1))) ((accelerating 4, negsuc 0) ∷ (settingsFor 4, negsuc 0) ∷ (accelerating 1, pos 0) ∷ (accelerating 1, pos 127) ∷ []) is (11 ∷ 12 ∷ 0 ∷ 0 ∷ []))
+    ∷ (map refusal (operation.selectSequence chip 16 0 ∷ operation.selectSequence chip 0 16 ∷ operation.playSequence chip 16 0 ∷ operation.playSequence chip 0 16 ∷ []) is replicate 4 11)
     -- `configure`: as they are; acceleration, and rapid stop with no trigger, where it does not track; no trigger and 253 mA
     ∷ (map (told DA7280) ([] ∷ ((32, 1) ∷ []) ∷ ((33, 1) ∷ (20, 0) ∷ (24, 0) ∷ (28, 0) ∷ []) ∷ ((20, 0) ∷ (24, 0) ∷ (28, 0) ∷ (5, 253) ∷ []) ∷ []) is (0 ∷ 12 ∷ 12 ∷ 13 ∷ []))
     -- one trigger on a DA7281; two and 253 mA
@@ -84,8 +85,8 @@ refusedExamples =
     ∷ (map (told DA7280) (((1, 0x71) ∷ (2, 0x17) ∷ []) ∷ ((3, 0x71) ∷ []) ∷ ((5, 253) ∷ []) ∷ ((7, 0x9F) ∷ (8, 0x0F) ∷ []) ∷ ((7, 0x50) ∷ (8, 0xC3) ∷ []) ∷ ((11, 24) ∷ [])
     ∷ ((11, 1) ∷ (12, 4) ∷ []) ∷ ((19, 0) ∷ (11, 49) ∷ []) ∷ ((19, 0) ∷ (11, 0x2D) ∷ (12, 1) ∷ []) ∷ ((1, 0x67) ∷ (2, 0x17) ∷ []) ∷ ((3, 0x67) ∷ []) ∷ ((5, 28) ∷ []) ∷ ((29, 16) ∷ [])
     ∷ []) is replicate 13 11)
-    -- rapid stop while tracking; with sequence 16
-    ∷ (map (told DA7280) (((19, 0) ∷ (33, 1) ∷ []) ∷ ((19, 0) ∷ (33, 1) ∷ (29, 16) ∷ []) ∷ []) is (14 ∷ 11 ∷ [])) ∷ []
+    -- rapid stop while tracking; with sequence 16; with 5991 mV
+    ∷ (map (told DA7280) (((19, 0) ∷ (33, 1) ∷ []) ∷ ((19, 0) ∷ (33, 1) ∷ (29, 16) ∷ []) ∷ ((19, 0) ∷ (33, 1) ∷ (3, 0x67) ∷ []) ∷ []) is (14 ∷ 11 ∷ 11 ∷ [])) ∷ []
 
 abbrev pub wireExamples : List Example
 wireExamples =
@@ -94,7 +95,7 @@ wireExamples =
     is (0x4A001380 ∷ 0x4A0114 ∷ 0x4A00141F ∷ 0x4A006E00 ∷ 0x4A000C6A ∷ 0x4A000DFF ∷ 0x4A000E12 ∷ 0x4A000F00 ∷ 0x4A00106D ∷ 0x4A006002 ∷ 0x4A001C02 ∷ 0x4A001D23 ∷ 0x4A001E03 ∷ 0x4A001F00 ∷ 0x4A000A22 ∷ 0x4A000B3B
     ∷ 0x4A0120 ∷ 0x4A00207C ∷ 0x4A004800 ∷ 0x4A004980 ∷ 0x4A002402 ∷ 0x4A001680 ∷ 0x4A00290C ∷ 0x4A002A15 ∷ 0x4A002B1E ∷ []))
     ∷ (wire (0x1F ∷ 0x8C ∷ []) (configuring DA7280 (accelerating 1))
-    is (0x4A0013BC ∷ 0x4A0114 ∷ 0x4A00140F ∷ 0x4A006E01 ∷ 0x4A000C6A ∷ 0x4A000DFF ∷ 0x4A000E1F ∷ 0x4A000F04 ∷ 0x4A00103E ∷ 0x4A00600C ∷ 0x4A000A22 ∷ 0x4A000B3B ∷ 0x4A0120 ∷ 0x4A00207C ∷ []))
+    is (0x4A0013BC ∷ 0x4A0114 ∷ 0x4A00140F ∷ 0x4A006E01 ∷ 0x4A000C33 ∷ 0x4A000D80 ∷ 0x4A000E1F ∷ 0x4A000F04 ∷ 0x4A00103E ∷ 0x4A00600C ∷ 0x4A000A18 ∷ 0x4A000B77 ∷ 0x4A0120 ∷ 0x4A00207C ∷ []))
     ∷ (drop 16 (wire (0x0F ∷ 0x8C ∷ []) (configuring DA7280 (replaced (settingsFor 4) ((19, 1) ∷ (20, 0) ∷ (24, 0) ∷ []))))
     is (0x4A0120 ∷ 0x4A00207C ∷ 0x4A004800 ∷ 0x4A004980 ∷ 0x4A002B1E ∷ []))
     ∷ (wire (0xBA ∷ []) (operation.new 0x4A DA7280) is (0x4A0100 ∷ [])) ∷ (map revision (DA7280 ∷ DA7281 ∷ DA7282 ∷ []) is (0xBA ∷ 0xCA ∷ 0xDA ∷ []))
@@ -102,7 +103,7 @@ wireExamples =
     ∷ (wire (1 ∷ 2 ∷ 3 ∷ []) (operation.getEvents chip) is (0x4A0103 ∷ 0x4A0104 ∷ 0x4A0105 ∷ 0x4A0003FF ∷ [])) ∷ (operation.getEvents chip .answers (1 ∷ 2 ∷ 3 ∷ []) is 0x010203)
     ∷ (wire (9 ∷ []) (operation.getStatus chip) is (0x4A0106 ∷ [])) ∷ (operation.getStatus chip .answers (9 ∷ []) is 9)
     ∷ (wire [] (operation.setFrequency chip 170) is (0x4A000A22 ∷ 0x4A000B3B ∷ []))
-    ∷ (wire [] (operation.setOverrideValue chip (negsuc 0)) is (0x4A0023FF ∷ [])) ∷ (wire [] (operation.setOverrideValue chip (negsuc 127)) is (0x4A002380 ∷ []))
+    ∷ (map (λ value. wire [] (operation.setOverrideValue chip value)) (negsuc 0 ∷ negsuc 127 ∷ pos 127 ∷ []) is ((0x4A0023FF ∷ []) ∷ (0x4A002380 ∷ []) ∷ (0x4A00237F ∷ []) ∷ []))
     ∷ (map (λ timebase. wire (0x13 ∷ []) (operation.setTimebase chip timebase)) («TIMEBASE_544_2176_4352_8704» ∷ «TIMEBASE_136_544_2176_4352» ∷ [])
     is ((0x4A0124 ∷ 0x4A002413 ∷ []) ∷ (0x4A0124 ∷ 0x4A002417 ∷ []) ∷ []))
     ∷ (map (λ mode. wire [] (operation.enable (chipWith (settingsFor mode)))) (0 ∷ 1 ∷ 2 ∷ 3 ∷ 4 ∷ []) is map (λ byte. byte ∷ []) (0x4A002200 ∷ 0x4A002201 ∷ 0x4A002202 ∷ 0x4A002203 ∷ 0x4A002204 ∷ []))
@@ -112,8 +113,11 @@ wireExamples =
     is (0x4A002D80 ∷ bigEndian 0x4A0084 (replicate 32 7) ∷ bigEndian 0x4A00A4 (replicate 32 7) ∷ bigEndian 0x4A00C4 (replicate 32 7) ∷ 0x4A00E40809 ∷ 0x4A002D00 ∷ []))
     ∷ (wire [] (operation.uploadWaveformMemory chip (loadedTo 2) false) is (0x4A002D80 ∷ 0x4A00840707 ∷ []))
     ∷ (wire (5 ∷ 6 ∷ []) (operation.readWaveformMemory chip 2 5) is (0x4A0184 ∷ 0x4A0185 ∷ [])) ∷ (operation.readWaveformMemory chip 2 5 .answers (5 ∷ 6 ∷ []) is 2)
-    ∷ (wire [] (operation.selectSequence chip 3 2) is (0x4A002823 ∷ [])) ∷ (wire (1 ∷ []) (operation.startSequence chip) is (0x4A0122 ∷ 0x4A002211 ∷ []))
-    ∷ (wire (1 ∷ []) (operation.playSequence chip 3 2) is (0x4A002823 ∷ 0x4A0122 ∷ 0x4A002211 ∷ [])) ∷ refusedExamples
+    ∷ (wire [] (operation.selectSequence chip 3 2) is (0x4A002823 ∷ [])) ∷ (wire [] (operation.selectSequence chip 15 15) is (0x4A0028FF ∷ [])) ∷ (wire (1 ∷ []) (operation.startSequence chip) is (0x4A0122 ∷ 0x4A002211 ∷ []))
+    ∷ (wire (1 ∷ []) (operation.playSequence chip 3 2) is (0x4A002823 ∷ 0x4A0122 ∷ 0x4A002211 ∷ []))
+    -- TRIM4's codes: inductances around each limit of the cap code; whole ohms at 25 and at 113 µH; columns at 18 ohms
+    ∷ (map capCode (17 ∷ 18 ∷ 27 ∷ 28 ∷ 40 ∷ 41 ∷ []) is (3 ∷ 2 ∷ 2 ∷ 1 ∷ 1 ∷ 0 ∷ [])) ∷ (map (λ mOhm. resistanceCode mOhm 25) (5999 ∷ 6000 ∷ 9999 ∷ 10000 ∷ []) is (2 ∷ 1 ∷ 1 ∷ 0 ∷ []))
+    ∷ (map (λ mOhm. resistanceCode mOhm 113) (45999 ∷ 46000 ∷ []) is (3 ∷ 2 ∷ [])) ∷ (map (resistanceCode 18000) (62 ∷ 63 ∷ 237 ∷ 238 ∷ 65535 ∷ []) is (0 ∷ 1 ∷ 2 ∷ 3 ∷ 3 ∷ [])) ∷ refusedExamples
 
 pub record Examples : Type 0 where
   pub checked : Hold checkedExamples

@@ -16,10 +16,10 @@ use Rattle.exchange.specs.Turn.{fittingOf, resized, fitsNext, fitOf, Eff
 use Rattle.exchange.proofs.Moves.{left-counts, stateBy}
 
 -- an answer that counts came to a session that has a step left
-pub fits-going : (st : List ℕ) (a : Reply) (n : ℕ) (f : Fit) → fitOf st a n ≡ f → effectOf f .made ≡ true → going st
+pub fits-going : (st : List ℕ) (a : Reply) (n : ℕ) (f : Fit) → fitOf st a n ≡ f → effectOf f .counts ≡ true → going st
 unfolding fitOf
-fits-going st a n f e h = go (resized st n) (left st) refl (ap (λ (f : Fit). effectOf f .made) e ∙ h) where
-  go : (t : Bool) (xs : List Step) → left st ≡ xs → effectOf (cond t Unfit (fitsNext xs a)) .made ≡ true → going st
+fits-going st a n f e h = go (resized st n) (left st) refl (ap (λ (f : Fit). effectOf f .counts) e ∙ h) where
+  go : (t : Bool) (xs : List Step) → left st ≡ xs → effectOf (cond t Unfit (fitsNext xs a)) .counts ≡ true → going st
   go true xs k w = absurd (true≢false (sym w))
   go false [] k w = absurd (true≢false (sym w))
   go false (x ∷ xs) k w = left-counts st x xs k

@@ -34,7 +34,7 @@ pending-wants st x xs n e h = ap (λ (l : List Step). pendingFor st l .wanted) e
 -- by how the first answer fits
 comes-by : (f : Fit) (st t : List ℕ) (cs : List AnswerCall) → Turned f st t →
     (brokenOff t cs ≡ false → length (came t cs) ≡ bytesWanted (sent t cs)) → eqb (effectOf f .stage) 2 || brokenOff t cs ≡ false →
-    length (effectOf f .came ++ came t cs) ≡ bytesWanted (cond (effectOf f .made) (pendingOf st ∷ []) [] ++ sent t cs)
+    length (effectOf f .came ++ came t cs) ≡ bytesWanted (cond (effectOf f .counts) (pendingOf st ∷ []) [] ++ sent t cs)
 comes-by Unfit st t cs g k h = k h
 comes-by (Broke code) st t cs g k h = absurd (true≢false h)
 comes-by Went st t cs g k h = omega (arith, k h, pending-wants st _ _ _ (g .before) (g .reads))

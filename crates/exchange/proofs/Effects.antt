@@ -13,7 +13,7 @@ use Rattle.exchange.specs.declared.Fit.{Fit}
 use Rattle.exchange.specs.declared.Fit.the-variants.{Unfit, Broke, Went, Got, Kept, Wrong}
 use Rattle.exchange.specs.State.{left, completed}
 use Rattle.exchange.specs.Turn.{wanted, fitsNext, resized, fitOf, effectOf, stateAfter, reportOf}
-use Rattle.exchange.specs.Session.{AnswerCall, taken, byteOf, breaks}
+use Rattle.exchange.specs.Session.{AnswerCall, taken, replyBytes, breaks}
 use Rattle.exchange.proofs.Left.{closed}
 use Rattle.exchange.proofs.Moves.{stateBy}
 use Rattle.exchange.proofs.Takes.{takes}
@@ -26,11 +26,11 @@ not-same false true e = absurd (true≢false e)
 not-same false false e = refl
 
 -- whether it counts
-pub made-taken : (st : List ℕ) (a : Reply) (n : ℕ) → taken st a n ≡ effectOf (fitOf st a n) .made
+pub made-taken : (st : List ℕ) (a : Reply) (n : ℕ) → taken st a n ≡ effectOf (fitOf st a n) .counts
 unfolding reportOf
 made-taken st a n = not-same _ _ (sym (takes st a n) ∙ go (fitOf st a n))
   where
-    go : (f : Fit) → eqb (effectOf f .number) 19 ≡ not (effectOf f .made)
+    go : (f : Fit) → eqb (effectOf f .number) 19 ≡ not (effectOf f .counts)
     go Unfit = refl
     go (Broke code) = refl
     go Went = refl
@@ -39,13 +39,13 @@ made-taken st a n = not-same _ _ (sym (takes st a n) ∙ go (fitOf st a n))
     go (Wrong b) = refl
 
 -- the byte that comes with it
-came-by : (k : Bool) (l : List Step) (a : Reply) → cond (effectOf (cond k Unfit (fitsNext l a)) .made) (byteOf a) [] ≡ effectOf (cond k Unfit (fitsNext l a)) .came
+came-by : (k : Bool) (l : List Step) (a : Reply) → cond (effectOf (cond k Unfit (fitsNext l a)) .counts) (replyBytes a) [] ≡ effectOf (cond k Unfit (fitsNext l a)) .came
 came-by true l a = refl
 came-by false [] a = refl
 came-by false (x ∷ xs) (Failed code) = refl
 came-by false (x ∷ xs) Done = go (eqb (wanted x) 0)
   where
-    go : (w : Bool) → cond (effectOf (cond w Went Unfit) .made) [] [] ≡ effectOf (cond w Went Unfit) .came
+    go : (w : Bool) → cond (effectOf (cond w Went Unfit) .counts) [] [] ≡ effectOf (cond w Went Unfit) .came
     go true = refl
     go false = refl
 came-by false (Write r v ∷ xs) (Byte b) = refl
@@ -53,15 +53,15 @@ came-by false (Read r ∷ xs) (Byte b) = refl
 came-by false (Update r s w v ∷ xs) (Byte b) = refl
 came-by false (Match r v ∷ xs) (Byte b) = go (eqb b v)
   where
-    go : (q : Bool) → cond (effectOf (cond q (Got b) (Wrong b)) .made) (b ∷ []) [] ≡ effectOf (cond q (Got b) (Wrong b)) .came
+    go : (q : Bool) → cond (effectOf (cond q (Got b) (Wrong b)) .counts) (b ∷ []) [] ≡ effectOf (cond q (Got b) (Wrong b)) .came
     go true = refl
     go false = refl
 came-by false (Chunk i n ∷ xs) (Byte b) = refl
 came-by false (Store i ∷ xs) (Byte b) = refl
 
-pub came-taken : (st : List ℕ) (a : Reply) (n : ℕ) → cond (taken st a n) (byteOf a) [] ≡ effectOf (fitOf st a n) .came
+pub came-taken : (st : List ℕ) (a : Reply) (n : ℕ) → cond (taken st a n) (replyBytes a) [] ≡ effectOf (fitOf st a n) .came
 unfolding fitOf
-came-taken st a n = ap (λ (k : Bool). cond k (byteOf a) []) (made-taken st a n) ∙ came-by (resized st n) (left st) a
+came-taken st a n = ap (λ (k : Bool). cond k (replyBytes a) []) (made-taken st a n) ∙ came-by (resized st n) (left st) a
 
 -- whether it breaks the session off
 pub stage-breaks : (st : List ℕ) (a : Reply) (n : ℕ) → breaks (reportOf st a n .number) ≡ eqb (effectOf (fitOf st a n) .stage) 2

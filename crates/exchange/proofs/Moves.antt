@@ -103,7 +103,7 @@ moves st w came s =
 
 -- the state after an answer that does this
 abbrev pub stateBy : List ℕ → Effect → List ℕ
-stateBy st e = cond (e .made) (moved st (e .stage) (e .came)) st
+stateBy st e = cond (e .counts) (moved st (e .stage) (e .came)) st
 
 -- of a session that was begun it is counted
 pub counts-more : (st t : List ℕ) (w : ℕ) (came : List ℕ) → Moved st t w came → isSession st ≡ true → at st 1 ≡ 1 → ltb 0 w ≡ true → countIn t ≡ countIn st + 1

@@ -6,14 +6,13 @@ use mathlib.Core.Bool.{Bool, true, false, cond, not, _&&_, _||_}
 use mathlib.Core.List.{List, [], _∷_, _++_}
 use lib.Dec.{ltb, eqb}
 use lib.ListN.{length, take, drop, getD, set}
-use Rattle.laws.specs.Lists.{at}
 use Rattle.exchange.specs.declared.Step.{Step}
 use Rattle.exchange.specs.declared.Step.the-variants.{Match, Store}
 use Rattle.exchange.specs.declared.Exchange.{Exchange}
 use Rattle.exchange.specs.declared.Reply.{Reply}
 use Rattle.exchange.specs.declared.Reply.the-variants.{Done, Byte, Failed}
 use Rattle.exchange.specs.Steps.{exchangeFor}
-use Rattle.exchange.specs.State.{isBegun, isUnbroken, addressIn, countIn, imageIn, left, noneLeft, completed}
+use Rattle.exchange.specs.State.{isBegun, isUnbroken, addressIn, countIn, lastIn, imageIn, left, noneLeft, completed}
 use Rattle.exchange.specs.Turn.{pendingOf, wanted, resized, stateAfter, bufferAfter, reportOf}
 
 -- ---- what the steps ask for
@@ -38,10 +37,10 @@ abbrev pub taken : List ℕ → Reply → ℕ → Bool
 taken st a n = fitsExchange (pendingOf st) a && not (resized st n)
 
 -- the byte of an answer
-abbrev pub byteOf : Reply → List ℕ
-byteOf Done = []
-byteOf (Byte b) = b ∷ []
-byteOf (Failed code) = []
+abbrev pub replyBytes : Reply → List ℕ
+replyBytes Done = []
+replyBytes (Byte b) = b ∷ []
+replyBytes (Failed code) = []
 
 -- "16 and 17 end the session"
 abbrev pub breaks : ℕ → Bool
@@ -73,7 +72,7 @@ sent st (c ∷ cs) = cond (takenAt st c) (pendingOf st ∷ []) [] ++ sent (after
 -- the bytes that came back with them
 abbrev pub came : List ℕ → List AnswerCall → List ℕ
 came st [] = []
-came st (c ∷ cs) = cond (takenAt st c) (byteOf (c .reply)) [] ++ came (afterCall st c) cs
+came st (c ∷ cs) = cond (takenAt st c) (replyBytes (c .reply)) [] ++ came (afterCall st c) cs
 
 -- whether 16 or 17 was told
 abbrev pub brokenOff : List ℕ → List AnswerCall → Bool
@@ -96,7 +95,7 @@ filled st buffer (a ∷ replies) = filled (stateAfter st a (length buffer)) (buf
 pub record Session : Type 0 where
   -- the exchanges made are those of the steps left, in order from the first, with the bytes read substituted
   pub order : (st : List ℕ) (cs : List AnswerCall) →
-      sent st cs ≡ take (length (sent st cs)) (exchangesOf (addressIn st) (at st 3) (imageIn st) (left st) (came st cs))
+      sent st cs ≡ take (length (sent st cs)) (exchangesOf (addressIn st) (lastIn st) (imageIn st) (left st) (came st cs))
   -- the count is how many were made
   pub count : (st : List ℕ) (cs : List AnswerCall) → countIn (final st cs) ≡ countIn st + length (sent st cs)
   -- no more are made than there are steps
@@ -107,7 +106,7 @@ pub record Session : Type 0 where
   pub closed : (st : List ℕ) → isUnbroken st ≡ false → (left st ≡ []) × (completed st ≡ false)
   pub uncounted : (st : List ℕ) → isBegun st ≡ false → countIn st ≡ 0
   -- a session that was begun is completed exactly where no step is left and it was not broken off
-  pub whole : (st : List ℕ) (cs : List AnswerCall) → isUnbroken st ≡ true →
+  pub completes : (st : List ℕ) (cs : List AnswerCall) → isUnbroken st ≡ true →
       completed (final st cs) ≡ not (brokenOff st cs) && noneLeft (drop (length (sent st cs)) (left st))
   -- 19 is told exactly where the answer does not fit the exchange handed out, or the read buffer's length has changed
   pub takes : (st : List ℕ) (a : Reply) (n : ℕ) → eqb (reportOf st a n .number) 19 ≡ not (taken st a n)

@@ -4,7 +4,7 @@
 --   1 stage: 0 not begun,        7 how many memory reads        17 the image to upload, 100 bytes
 --     1 begun, 2 broken off      8 length of the read buffer,  117 the record that it is for, 37 bytes
 --   2 exchanges made               8 bytes                     154 the steps, 25 of five bytes
---   3 the last bytes read, 3
+--   3 the last three bytes read, the newest first
 use Prim.Native.Nat.{ℕ, suc, zero, _+_, _-_, _*_, min}
 use mathlib.Core.Bool.{Bool, true, false, cond, _&&_}
 use mathlib.Core.List.{List, [], _∷_, _++_, map}
@@ -39,6 +39,10 @@ madeIn st = at st 2
 -- "The count of exchanges made"
 abbrev pub countIn : List ℕ → ℕ
 countIn st = cond (isBegun st) (madeIn st) 0
+
+-- the byte read last
+abbrev pub lastIn : List ℕ → ℕ
+lastIn st = at st 3
 
 abbrev pub stepCount : List ℕ → ℕ
 stepCount st = min (at st 6) 25

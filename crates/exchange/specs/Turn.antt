@@ -18,13 +18,13 @@ use Rattle.exchange.specs.declared.Fit.{Fit}
 use Rattle.exchange.specs.declared.Fit.the-variants.{Unfit, Broke, Went, Got, Kept, Wrong}
 use Rattle.exchange.specs.declared.Turn.{Turn}
 use Rattle.exchange.specs.Steps.{exchange, exchangeFor}
-use Rattle.exchange.specs.State.{addressIn, madeIn, countIn, readCount, roomIn, imageIn, left, noneLeft}
+use Rattle.exchange.specs.State.{addressIn, madeIn, countIn, lastIn, readCount, roomIn, imageIn, left, noneLeft}
 
 -- ---- the pending exchange
 
 abbrev pub pendingFor : List ℕ → List Step → Exchange
 pendingFor st [] = exchange 0 [] 0
-pendingFor st (x ∷ xs) = exchangeFor (addressIn st) (at st 3) (imageIn st) x
+pendingFor st (x ∷ xs) = exchangeFor (addressIn st) (lastIn st) (imageIn st) x
 
 -- the exchange of the next step; none once the session has ended
 abbrev pub pendingOf : List ℕ → Exchange
@@ -64,7 +64,7 @@ fitOf st a n = cond (resized st n) Unfit (fitsNext (left st) a)
 
 -- ---- what an answer does
 
--- a session that has a step left has its size, and can count one more
+-- that a session has its size and can count one exchange more, as one with a step left does
 abbrev pub going : List ℕ → Type 0
 going st = (length st ≡ 279) × (madeIn st < 125)
 
@@ -74,14 +74,14 @@ pub record Effect : Type 0 where
   pub number : ℕ
   pub code : ℕ
   -- whether the exchange counts as made, the session's stage then, and the byte that came
-  pub made : Bool
+  pub counts : Bool
   pub stage : ℕ
   pub came : List ℕ
   -- the lent buffer afterwards
   pub buffer : List ℕ → List ℕ
 
 abbrev pub effect : ℕ → ℕ → Bool → ℕ → List ℕ → (List ℕ → List ℕ) → Effect
-effect number code made stage came buffer = record { number = number; code = code; made = made; stage = stage; came = came; buffer = buffer }
+effect number code counts stage came buffer = record { number = number; code = code; counts = counts; stage = stage; came = came; buffer = buffer }
 
 -- 16 and 17 end the session; "Each byte read is stored at its own index in the buffer lent with that answer, and that call changes no other byte"
 abbrev pub effectOf : Fit → Effect
@@ -98,7 +98,7 @@ moved st stage came = over st 1 (stage ∷ (madeIn st + 1) ∷ take 3 (came ++ (
 
 -- a refusal hands back the session as it came in
 unfoldable pub stateAfter : List ℕ → Reply → ℕ → List ℕ
-stateAfter st a n = let e = effectOf (fitOf st a n) in cond (e .made) (moved st (e .stage) (e .came)) st
+stateAfter st a n = let e = effectOf (fitOf st a n) in cond (e .counts) (moved st (e .stage) (e .came)) st
 
 unfoldable pub bufferAfter : List ℕ → Reply → List ℕ → List ℕ
 bufferAfter st a l = effectOf (fitOf st a (length l)) .buffer l

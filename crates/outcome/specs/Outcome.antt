@@ -6,7 +6,7 @@ use lib.Dec.{eqb}
 use lib.ListN.{getD}
 use Rattle.laws.specs.Lists.{at}
 use Rattle.config.specs.Codes.{variantCode}
-use Rattle.exchange.specs.State.{isSession, countIn, completed, readCount, purposeIn, recordIn}
+use Rattle.exchange.specs.State.{isSession, countIn, lastIn, completed, readCount, purposeIn, recordIn}
 use Rattle.exchange.specs.Turn.{Report}
 use Rattle.da728x.specs.declared.DA728x.{DA728x}
 use Rattle.da728x.specs.Record.{recordAt}
@@ -48,7 +48,7 @@ recordBy r (To next) = next
 
 -- what the operation answers
 abbrev pub valueIn : List ℕ → ℕ
-valueIn st = getD (0 ∷ 0 ∷ 0 ∷ at st 3 ∷ bigEndian 0 (at st 5 ∷ at st 4 ∷ at st 3 ∷ []) ∷ readCount st ∷ []) (purposeIn st) 0
+valueIn st = getD (0 ∷ 0 ∷ 0 ∷ lastIn st ∷ bigEndian 0 (at st 5 ∷ at st 4 ∷ lastIn st ∷ []) ∷ readCount st ∷ []) (purposeIn st) 0
 
 -- "The count of exchanges made stands in every session result"
 unfoldable pub outcomeOf : List ℕ → Outcome

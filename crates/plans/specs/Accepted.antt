@@ -1,6 +1,7 @@
--- Which settings `configure` takes, and that it writes them whole (PID words, which lose bit 15, apart): the ranges of document 01 (checks/specs/InRange.antt) are exactly what
--- its checks pass, and in them each conversion is its quotient, rounded down and not cut, and fits its register's field. Which byte goes to
--- which register: specs/Configure.antt. That it is so: proofs/Accepted.antt.
+-- Which settings `configure` takes, and that their conversions lose nothing (PID words, which lose bit 15, apart): the ranges of document 01
+-- (checks/specs/InRange.antt) are exactly what its checks pass; in them voltages, IMAX and the period word are their quotients, rounded down
+-- and not cut, and IMAX, V2I and TRIM4's codes fit their fields. Which byte goes to which register: specs/Configure.antt, and worked out by
+-- hand examples/specs/Wire.antt. That it is so: proofs/Accepted.antt.
 use Prim.Native.Nat.{_-_, _*_, _/_, _<_}
 use mathlib.Core.Path.{_≡_}
 use mathlib.Core.Logic.{_↔_}

@@ -6,12 +6,14 @@ use Rattle.da728x.specs.Record.{recordAt}
 use Rattle.exchange.specs.Turn.{reportOf, stateAfter, bufferAfter}
 use Rattle.exchange.specs.declared.Reply.{Reply}
 use Rattle.outcome.specs.Outcome.{changeBy}
+use Rattle.driver.specs.Operations.{changeAfter}
 use Rattle.capi_driver.specs.Words.{reportWord, recordOut}
 use borrow.Author.Needs.{needs}
 use Rattle.capi_driver.proofs.da728x_answer.Statement.{statement}
 use Rattle.capi_driver.proofs.da728x_answer.Tie as tie
 
 returns : tie.Need-returns
+unfolding changeAfter
 returns c =
     let b = c .before .before .before .before .before .before .before .before .before .before in
     let a = b .before .before .before .before .before .before .before .args in

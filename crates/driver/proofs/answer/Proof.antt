@@ -1,13 +1,13 @@
 -- The turn and the bytes are those of the exchange; the record is changed by them. Assumes nothing.
 use mathlib.Core.Path.{ap, _∙_}
 use Rattle.outcome.specs.Outcome.{changeBy, recordBy}
-use Rattle.driver.specs.Operations.{recordAfter}
+use Rattle.driver.specs.Operations.{changeAfter}
 use borrow.Author.Needs.{needs}
 use Rattle.driver.proofs.answer.Statement.{statement}
 use Rattle.driver.proofs.answer.Tie as tie
 
 returns : tie.Need-returns
-unfolding recordAfter
+unfolding changeAfter
 returns c =
     let d = c .before .before .before .before .before .before .before in
     let e = d .answer .ensures in

@@ -20,7 +20,7 @@ found : (j : tie.After-judge) (f : Fit) → j .judge .result ≡ f →
 found j f e = sym (j .judge .ensures) ∙ e
 
 -- where it fits, the session is going
-goes : (j : tie.After-judge) (f : Fit) → j .judge .result ≡ f → effectOf f .made ≡ true → going (now (j .before .before .before .before .args .session))
+goes : (j : tie.After-judge) (f : Fit) → j .judge .result ≡ f → effectOf f .counts ≡ true → going (now (j .before .before .before .before .args .session))
 goes j f e h =
     let a = j .before .before .before .before .args in
     fits-going (now (a .session)) (a .reply) (length (now (a .buffer))) f (found j f e) h
