@@ -18,7 +18,7 @@ use Rattle.calls.specs.Said as Call
 use Rattle.calls.specs.declared.UnderWay.{UnderWay}
 use Rattle.calls.specs.declared.UnderWay.the-variants as UnderWay
 use Rattle.calls.specs.declared.Builders.{Builders}
-use Rattle.calls.specs.Calls.{callsIn, builders, begun, uses}
+use Rattle.calls.specs.Calls.{callsIn, builders, frameBegun, uses}
 use Rattle.memory.specs.declared.WaveformMemoryBuilder.{WaveformMemoryBuilder}
 use Rattle.memory.specs.Memory.{newMemory}
 use Rattle.pattern.specs.Calls.{ran, answersTo, snippetStep, snippetFrom, FrameCall, frameStep, Begin, new, silence, begunBy, FrameCalls, sequenceStep, sequenceFrom, MemoryCall, addSnippet, addSequence, memoryStep, memoryFrom}
@@ -66,7 +66,7 @@ module _ (g : Groups) where
 
   -- a call on the frame
   abbrev sets : FrameCall → UnderWay → Handed Builders
-  sets k u = onTold (begun u) (λ f. onFrame (frameStep f k .number) (UnderWay.Begun (frameStep f k .builder))) (λ n. refused n b)
+  sets k u = onTold (frameBegun u) (λ f. onFrame (frameStep f k .number) (UnderWay.Begun (frameStep f k .builder))) (λ n. refused n b)
 
   set-call : (k : FrameCall) (ks : List FrameCall) (t : Told FrameBuilder) → Three t → b .frame ≡ underWay ks t
       → sets k (underWay ks t) ≡ onFrame (answerOn t ks k) (underWay (ks ++ (k ∷ [])) t)
@@ -82,7 +82,7 @@ module _ (g : Groups) where
   frame-left false = refl
 
   abbrev adds : UnderWay → Handed Builders
-  adds u = onTold (begun u) (λ f. uses b (withFrame (b .sequence) (builtFrame f))) (λ n. refused n b)
+  adds u = onTold (frameBegun u) (λ f. uses b (withFrame (b .sequence) (builtFrame f))) (λ n. refused n b)
 
   add-call : (t : Told FrameBuilder) → Three t → b .frame ≡ underWay (g .frame .calls) t
       → adds (underWay (g .frame .calls) t)

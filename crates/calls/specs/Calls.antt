@@ -70,9 +70,9 @@ abbrev pub started : Builders
 started = builders newSnippet UnderWay.NotBegun newSequence
 
 -- the frame under construction: one that is not begun is refused with 3, as `new` of number 0 is
-abbrev pub begun : UnderWay → Told FrameBuilder
-begun UnderWay.NotBegun = refuses 3
-begun (UnderWay.Begun f) = gives f
+abbrev pub frameBegun : UnderWay → Told FrameBuilder
+frameBegun UnderWay.NotBegun = refuses 3
+frameBegun (UnderWay.Begun f) = gives f
 
 -- what `new` or `silence` leaves under construction: where it is refused, no frame
 abbrev pub underWay : Told FrameBuilder → UnderWay
@@ -92,11 +92,11 @@ called b (Call.OnSnippet k) =
     handed (snippetStep (b .snippet) k .number) (builders (snippetStep (b .snippet) k .builder) (b .frame) (b .sequence))
 called b (Call.BeginFrame k) = handed (begunNumber (begunBy k)) (builders (b .snippet) (underWay (begunBy k)) (b .sequence))
 called b (Call.OnFrame k) =
-    onTold (begun (b .frame))
+    onTold (frameBegun (b .frame))
     (λ f. handed (frameStep f k .number) (builders (b .snippet) (UnderWay.Begun (frameStep f k .builder)) (b .sequence)))
     (λ n. refused n b)
 called b Call.SequenceNew = accepted (builders (b .snippet) (b .frame) newSequence)
-called b Call.AddFrame = onTold (begun (b .frame)) (λ f. uses b (withFrame (b .sequence) (builtFrame f))) (λ n. refused n b)
+called b Call.AddFrame = onTold (frameBegun (b .frame)) (λ f. uses b (withFrame (b .sequence) (builtFrame f))) (λ n. refused n b)
 
 -- a call on a memory is none for these three; what is none is refused with 14, NotSupported
 abbrev pub calledBy : Builders → Call → Handed Builders

@@ -9,14 +9,14 @@ use Rattle.laws.specs.Copied.{copied}
 use Rattle.errors.specs.Told.{Told, gives, refuses, onTold, toldBy, Built}
 use Rattle.frame.specs.Frame.{frameBytes, builtFrame}
 use Rattle.calls.specs.declared.UnderWay.{UnderWay}
-use Rattle.calls.specs.Calls.{begun}
+use Rattle.calls.specs.Calls.{frameBegun}
 
 -- the bytes of what was built, and of a frame under construction
 abbrev pub itemFrom : {I B : Type 0} → (I → List ℕ) → Built I B → Told (List ℕ)
 itemFrom bytes r = toldBy (r .number) (bytes (r .item))
 
 abbrev pub frameUnderWay : UnderWay → Told (List ℕ)
-frameUnderWay u = onTold (begun u) (λ f. gives (frameBytes (builtFrame f))) refuses
+frameUnderWay u = onTold (frameBegun u) (λ f. gives (frameBytes (builtFrame f))) refuses
 
 module _ {I B : Type 0} (bytes : I → List ℕ) (r : Built I B) (n : ℕ) (e : n ≡ r .number) where
   pub refused-item : 0 < n → refuses n ≡ itemFrom bytes r

@@ -8,7 +8,7 @@ use Rattle.errors.specs.Told.{Told, gives, refuses, onTold, toldBy}
 use Rattle.snippet.specs.Snippet.{snippetBytes, builtSnippet}
 use Rattle.frame.specs.Frame.{frameBytes, builtFrame}
 use Rattle.sequence.specs.Sequence.{sequenceBytes, builtSequence}
-use Rattle.calls.specs.Calls.{begun}
+use Rattle.calls.specs.Calls.{frameBegun}
 use Rattle.assemble.specs.Lists.{buildersOf}
 
 -- the bytes of the snippet, the frame and the sequence under construction after the calls, or the number of the refusal
@@ -16,7 +16,7 @@ abbrev pub snippetItem : List ℕ → Told (List ℕ)
 snippetItem calls = let r = builtSnippet (buildersOf calls .snippet) in toldBy (r .number) (snippetBytes (r .item))
 
 abbrev pub frameItem : List ℕ → Told (List ℕ)
-frameItem calls = onTold (begun (buildersOf calls .frame)) (λ f. gives (frameBytes (builtFrame f))) refuses
+frameItem calls = onTold (frameBegun (buildersOf calls .frame)) (λ f. gives (frameBytes (builtFrame f))) refuses
 
 abbrev pub sequenceItem : List ℕ → Told (List ℕ)
 sequenceItem calls = let r = builtSequence (buildersOf calls .sequence) in toldBy (r .number) (sequenceBytes (r .item))

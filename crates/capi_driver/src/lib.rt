@@ -29,6 +29,11 @@ use memory::WaveformMemoryTimebase;
 use outcome::Change;
 use outcome::Outcome;
 
+// What the bus answered, as a number: done, or a byte; any other is a failure.
+const DONE: u8 = 0;
+
+const BYTE: u8 = 1;
+
 #[no_mangle]
 pub extern "C" fn da728x_new(address: u8, variant: u8, session: &mut [u8]) -> u8
     ensures { λ r. ⌜ r ≡ spec.startNumber (spec.new address (variantAt variant) .start) ⌝ }
@@ -311,8 +316,8 @@ fn reply(kind: u8, byte: u8) -> Reply
     ensures { λ r. ⌜ r ≡ replyOf kind byte ⌝ }
 {
     match kind {
-        0 => Reply::Done,
-        1 => Reply::Byte(byte),
+        DONE => Reply::Done,
+        BYTE => Reply::Byte(byte),
         _ => Reply::Failed(byte),
     }
 }

@@ -227,7 +227,7 @@ Unmatched b xs = Fits b xs × AllPlain xs
 
 pub answers : Answers
 answers = record {
-  each = each-sound (λ address o f b xs e st s cs.
+  courses = each-sound (λ address o f b xs e st s cs.
       let g = subst (λ (x : Start). By (Sound address (o .answers)) x) e f in
       subst (λ (x : ℕ). Course (begunIn st b xs) x (b .image) (allSteps b xs) (o .answers) cs) (g .2)
       (answered (holds st b xs s (g .0)) cs (o .answers) (g .1)));

@@ -86,7 +86,7 @@ NoMismatch address o = (b : Begun) (xs : List Step) → o .start ≡ begins b xs
     ¬ (numberAt (final (begunIn st b xs) cs) c ≡ 16)
 
 pub record Answers : Type 0 where
-  pub each : Each AnswersAs
+  pub courses : Each AnswersAs
   -- a start of these eighteen that is refused before its first exchange tells one of 11 to 15
   pub listed : Each (λ address o. (number : ℕ) → o .start ≡ declines number → (11 ≤ number) × (number ≤ 15))
   -- "16 VariantMismatch, in `new`": in no other operation

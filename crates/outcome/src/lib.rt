@@ -93,8 +93,8 @@ fn change_for(driver: DA728x, session: &[u8]) -> Change
     ensures { λ r. ⌜ r ≡ spec.changeFor (purposeIn (now (session .entry))) (recordAt (recordIn (now (session .entry)))) driver ⌝ }
 {
     match session[exchange::PURPOSE] {
-        1 => Change::To(carried(session)),
-        2 => settle(carried(session), driver),
+        NEW => Change::To(carried(session)),
+        SETTINGS => settle(carried(session), driver),
         _ => Change::Same,
     }
 }
@@ -164,13 +164,13 @@ fn value(session: &[u8]) -> u32
 {
     let last = session[exchange::LAST];
     match session[exchange::PURPOSE] {
-        3 => one(last),
-        4 => three(
+        BYTE => one(last),
+        THREE_BYTES => three(
             session[exchange::LAST + 2],
             session[exchange::LAST + 1],
             last,
         ),
-        5 => no_more(session[exchange::READS]),
+        LENGTH => no_more(session[exchange::READS]),
         _ => 0,
     }
 }

@@ -1,7 +1,7 @@
 -- Each arm by the equation that names its variant. Assumes nothing.
 use borrow.Author.Needs.{needs}
 use Rattle.sequence.specs.Sequence.{withFrame}
-use Rattle.calls.specs.Calls.{begun, uses}
+use Rattle.calls.specs.Calls.{frameBegun, uses}
 use Rattle.errors.specs.Told.{Handed, onTold, refused}
 use Rattle.frame.specs.Frame.{builtFrame}
 use Rattle.calls.specs.declared.UnderWay.{UnderWay}
@@ -11,7 +11,7 @@ use Rattle.calls.proofs.Builders.add_frame.Statement.{statement}
 use Rattle.calls.proofs.Builders.add_frame.Tie as tie
 
 abbrev adds : Builders → UnderWay → Handed Builders
-adds b u = onTold (begun u) (λ f. uses b (withFrame (b .sequence) (builtFrame f))) (λ n. refused n b)
+adds b u = onTold (frameBegun u) (λ f. uses b (withFrame (b .sequence) (builtFrame f))) (λ n. refused n b)
 
 returns : tie.Need-returns
 returns c = simp (c .before .enum-told .given .1) (c .not-begun .ensures)
