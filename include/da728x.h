@@ -299,14 +299,19 @@ size_t da728x_replace_trigger(uint8_t byte, uint8_t value, uint8_t *out, size_t 
  *   has not made                 address 0, and da728x_configure sets that up
  *   a record of another length   lent with a start: it has no settings, address 0, and is a DA7280.
  *   than DA728X_RECORD           Lent with an answer: NO refusal, and it is never written
- *   a session of another length  a start answers as for any session, but begins nothing; nothing is
- *   than DA728X_SESSION          pending, every answer is refused with 19, the result is 0
+ *   a session of another length  a start returns what it would for any session, but begins nothing;
+ *   than DA728X_SESSION          nothing is pending, every answer is refused with 19, the result is
+ *                                0. If the length is wrong at the start only: NO sign. The start
+ *                                returns 0, and pending and result are those of the operation
+ *                                before
  *   a session of zeros           was never begun: nothing is pending, every answer is refused
  *                                with 19, the result is 0
  *   other bytes that no start    NO refusal: they may be taken for a session under way or
  *   has written                  completed. Clear a session before its first use
  *   a result not looked at       a session that failed has nothing pending, as one that is
  *                                completed: bit 32 of da728x_result tells them apart
+ *   a chip that lost its supply  NO refusal: the record still says what was set up. Run
+ *                                da728x_configure and da728x_upload_waveform_memory again
  *
  * A record is:
  *    0      chip address, of 7 bits, handed to the bus as it is (0x4A by the datasheet)
@@ -340,13 +345,13 @@ size_t da728x_replace_trigger(uint8_t byte, uint8_t value, uint8_t *out, size_t 
 #define DA728X_RECORD 37
 #define DA728X_SETTINGS 34
 
-/* Each of these starts an operation from a record: 0, and the session is begun. Or the
- * number of the refusal; the session is then unchanged. A session of another length stays in
- * either case.
+/* Each of these starts an operation, from a record (da728x_new: from an address and a variant).
+ * Returns 0, and the session is begun if it has DA728X_SESSION bytes (one of another length
+ * stays). Or the number of the refusal, and the session stays as it was.
  *
  * Reads CHIP_REV, which has to be that of the variant (0xBA, 0xCA, 0xDA; da728x_answer tells
- * 16 otherwise). The answer makes the record, whatever its bytes were: it has this address and
- * variant and no settings. Never refused. */
+ * 16 otherwise). The answer that is told 0 makes the record, whatever its bytes were: it has this
+ * address and variant and no settings. Never refused. */
 uint8_t da728x_new(uint8_t address, uint8_t variant,
                    uint8_t *session, size_t session_len);
 
@@ -357,9 +362,11 @@ uint8_t da728x_new(uint8_t address, uint8_t variant,
  * and FRQ_PHASE_L stays when the chip is set up for tracking afterwards.
  * Settings for a custom waveform write SEQ_CTL1 anew: da728x_set_timebase has to follow them.
  * Refused with the first that holds: 12 for acceleration or rapid stop when not tracking;
- * 13 for no trigger in ETWM mode, 14 for more than one on the DA7281; 11 for a value
+ * in ETWM mode 13 for no trigger, 14 for more than one on the DA7281; 11 for a value
  * outside the ranges above (of a trigger's sequence number in ETWM mode only); 14 for
- * rapid stop. */
+ * rapid stop.
+ * The settings are stored as they are understood, so their bytes may differ from those lent: a
+ * code past the last as the last, a flag as 1, PID words and triggers that are not given as 0. */
 uint8_t da728x_configure(const uint8_t *record, size_t record_len,
                          const uint8_t *settings, size_t settings_len,
                          uint8_t *session, size_t session_len);
@@ -419,7 +426,7 @@ uint8_t da728x_upload_waveform_memory(const uint8_t *record, size_t record_len,
 
 /* Reads len bytes from the front of the waveform memory, but at most 100 and at most
  * buffer_len, one an exchange, into the buffer that da728x_answer is lent: buffer_len is
- * its length, at each answer. If that is none, it is completed at once. Never refused. */
+ * its length, at each answer. If no byte is to be read, it is completed at once. Never refused. */
 uint8_t da728x_read_waveform_memory(const uint8_t *record, size_t record_len,
                                     size_t len, size_t buffer_len,
                                     uint8_t *session, size_t session_len);
@@ -446,16 +453,16 @@ uint32_t da728x_pending(const uint8_t *session, size_t session_len,
 
 /* What the bus answered to the pending exchange. DA728X_DONE fits where no byte is wanted,
  * DA728X_BYTE, with the byte, where one is; DA728X_FAILED (or any kind above it), with the
- * bus's own code, fits always. With DA728X_DONE the byte is ignored. */
+ * bus's own code, fits both. With DA728X_DONE the byte is ignored. */
 #define DA728X_DONE 0
 #define DA728X_BYTE 1
 #define DA728X_FAILED 2
 
 /* Takes the answer back. The number of the refusal or 0, plus 256 times the bus's code
  * (at 17, else 0), plus 65536 times how many exchanges were made, failed ones included,
- * plus 2^24 if the session has ended:
- *   19  the answer does not fit, the session has ended, or it reads memory and buffer_len is
- *       not what was said at its start: nothing changes, and the exchange is still pending;
+ * plus 2^24 if nothing is pending now (the session has ended, or was never begun):
+ *   19  the answer does not fit, nothing is pending, or the session reads memory and buffer_len
+ *       is not what was said at its start: nothing changes, and what was pending still is;
  *   17  the bus failed, and 16  the chip is of another variant (in da728x_new only): the
  *       session has ended, what was sent stands, and the record stays as it was;
  *    0  the exchange was made. A byte of memory is stored at its own index of buffer; no

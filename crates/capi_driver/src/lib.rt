@@ -2,7 +2,8 @@
 // and byte slices; include/da728x.h declares and explains each. The caller lends the session's bytes and the record's; `da728x_pending`
 // and `da728x_answer` run the session, and the answer that completes `new` or `configure` changes the record. Every one is total: any bytes, any lengths.
 // Proved: the answer and every lent byte are those of the definitions of `driver` and `exchange` for the record that the bytes hold; how
-// an answer is one number is specs/Words.antt, and proofs/Telling.antt: each word gives back its parts.
+// an answer is one number is specs/Words.antt, and proofs/Telling.antt: each word gives back its parts, and
+// an upload sends the bytes that were handed in.
 // Left out: nothing; `set_custom_drive_waveform` is always refused, as document 01 says.
 ghost use mathlib.Core.Path.{_≡_};
 ghost use lib.Dec.{ltb};

@@ -26,7 +26,7 @@ exchangesOf address last image (x ∷ xs) bytes =
 
 -- ---- what a session does under a list of answers
 
--- whether an answer fits an exchange: done where nothing is wanted, a byte where one is, a failure always; nothing fits none
+-- whether an answer fits an exchange: done where nothing is wanted, a byte where one is, a failure both; where nothing is pending no answer fits
 abbrev pub fitsExchange : Exchange → Reply → Bool
 fitsExchange e Done = ltb 0 (e .len) && eqb (e .wanted) 0
 fitsExchange e (Byte b) = ltb 0 (e .len) && eqb (e .wanted) 1

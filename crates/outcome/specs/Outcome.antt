@@ -14,7 +14,7 @@ use Rattle.outcome.specs.declared.Change.{Change}
 use Rattle.outcome.specs.declared.Change.the-variants.{Same, To}
 use Rattle.outcome.specs.declared.Outcome.{Outcome}
 
--- What a session is for: 0 nothing, 1 the record of `new`, 2 the settings of `configure`,
+-- What a session is for: 0 no record and no value, 1 the record of `new`, 2 the settings of `configure`,
 -- 3 the byte read last, 4 the last three bytes, 5 how many bytes of memory were read.
 
 -- bytes as one number, the first highest
