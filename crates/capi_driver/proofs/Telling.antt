@@ -1,11 +1,12 @@
 -- No word misleads: each number is given back. Assumes nothing.
 use Prim.Native.Nat.{ℕ, zero, suc, _+_, _-_, _*_, _/_, _%_, _≤_, _<_, min}
 use native.Mathlib.Omega.{arith}
-use mathlib.Core.Path.{_≡_, refl, sym, ap, subst, _∙_}
+use mathlib.Core.Path.{_≡_, refl, ap, _∙_}
 use mathlib.Core.Bool.{Bool, true, false, cond}
+use mathlib.Core.Logic.{_⊎_, inl, inr}
 use mathlib.Core.List.{List, [], _∷_, _++_}
-use lib.Dec.{ltb, eqb}
-use lib.ListN.{length, drop, getD, replicate, length-append, length-take, length-replicate}
+use lib.Dec.{eqb}
+use lib.ListN.{length, take, drop, getD, replicate, length-append, length-take, length-replicate}
 use lib.Seq.{take-at}
 use borrow.Author.Tests.{eq-eqb, ne-eqb, le-ltb, ltb-true}
 use Rattle.laws.proofs.Tests.{choice}
@@ -15,28 +16,24 @@ use Rattle.exchange.specs.declared.Exchange.{Exchange}
 use Rattle.exchange.specs.declared.Step.{Step}
 use Rattle.exchange.specs.declared.Step.the-variants.{Write, Read, Update, Match, Chunk, Store}
 use Rattle.exchange.specs.declared.Reply.{Reply}
-use Rattle.exchange.specs.declared.Reply.the-variants.{Done}
-use Rattle.exchange.specs.State.{isSession, isBegun, madeIn, countIn, purposeIn, imageIn, left, noneLeft, completed}
+use Rattle.exchange.specs.declared.Reply.the-variants.{Done, Byte, Failed}
+use Rattle.exchange.specs.State.{isBegun, madeIn, countIn, purposeIn, imageIn, left, noneLeft, completed}
 use Rattle.exchange.specs.Turn.{pendingFor, pendingOf, wanted, resized, fitsNext, fitOf, effectOf, stateAfter, reportOf}
-use Rattle.exchange.specs.Session.{AnswerCall, takenAt, afterCall, final, sent}
+use Rattle.exchange.specs.Session.{AnswerCall, taken, afterCall, sent}
 use Rattle.exchange.proofs.Moves.{left-counts}
 use Rattle.exchange.proofs.Session.{session}
 use Rattle.exchange.proofs.Takes.{sends}
-use Rattle.errors.specs.Told.{accepted, refused}
-use Rattle.registers.specs.Table.{addressOf}
-use Rattle.memory.specs.declared.WaveformMemory.{WaveformMemory}
-use Rattle.memory.specs.Memory.{memory, noMemory}
+use Rattle.memory.specs.Memory.{memory}
 use Rattle.da728x.specs.declared.DA728x.{DA728x}
 use Rattle.da728x.specs.Record.{recordAt}
 use Rattle.da728x.proofs.Kept.{record-kept}
 use Rattle.outcome.specs.declared.Change.{Change}
 use Rattle.outcome.specs.declared.Change.the-variants.{Same, To}
 use Rattle.outcome.specs.Outcome.{valueIn, outcomeOf, recordBy}
-use Rattle.driver.specs.Operations.{Start, startNumber, startedIn, unless, uploadWaveformMemory}
-use Rattle.driver.specs.Theorems.{addressed, payload}
-use Rattle.driver.proofs.Transfers.{transfers}
+use Rattle.driver.specs.Operations.{uploadWaveformMemory}
 use Rattle.capi_driver.specs.Words.{exchangeWord, replyOf, reportWord, recordOut, resultWord, uploadOf}
 use Rattle.capi_driver.specs.Telling.{Telling}
+use Rattle.capi_driver.proofs.Uploads.{upload-refused}
 
 three : (a b c : ℕ) → a < 256 → b < 256 →
     ((a + 256 * b + 65536 * c) % 256 ≡ a) × ((a + 256 * b + 65536 * c) / 256 % 256 ≡ b) × ((a + 256 * b + 65536 * c) / 65536 ≡ c)
@@ -128,7 +125,7 @@ module _ (st : List ℕ) (kind byte n : ℕ) (h : Bytes st) (b : byte < 256) whe
   call = record { reply = replyOf kind byte; buffer = replicate n 0 }
 
   one-sent : length (sent st (call ∷ [])) ≤ 1
-  one-sent = choice (λ (es : List Exchange). length (es ++ []) ≤ 1) (takenAt st call) (pendingOf st ∷ []) [] (omega arith) (omega arith)
+  one-sent = choice (λ (es : List Exchange). length (es ++ []) ≤ 1) (taken st (call .reply) (length (call .buffer))) (pendingOf st ∷ []) [] (omega arith) (omega arith)
 
   -- one more is counted where a step is left
   more : countIn (afterCall st call) < 256
@@ -151,39 +148,32 @@ records : (l : List ℕ) (c : Change) → length l ≡ 37 → recordAt (recordOu
 records l Same h = refl
 records l (To r) h = rw (eq-eqb _ _ h) (record-kept r)
 
-spared : (l : List ℕ) (c : Change) → ¬ (length l ≡ 37) → recordOut l c ≡ l
-spared l Same h = refl
-spared l (To r) h = rw (ne-eqb _ _ h)
+spared : (l : List ℕ) (c : Change) → (¬ (length l ≡ 37)) ⊎ (c ≡ Same) → recordOut l c ≡ l
+spared l c (inl h) = go c
+  where
+    go : (c : Change) → recordOut l c ≡ l
+    go Same = refl
+    go (To r) = rw (ne-eqb _ _ h)
+spared l c (inr e) = ap (recordOut l) e
 
--- ---- uploads
+-- ---- answers of the bus, and uploads
 
-module _ (r : DA728x) (image : List ℕ) (lockAfter : Bool) where
-  full : startNumber (uploadOf r image lockAfter) ≡ cond (ltb 100 (length image)) 8 0
-  unfolding uploadOf
-  full = go (ltb 100 (length image)) (image ++ replicate (100 - length image) 0) (length image)
-    where
-      go : (k : Bool) (bytes : List ℕ) (n : ℕ) →
-          let m = cond k (refused 8 noMemory) (accepted (memory bytes n 0 0)) in
-          startNumber (unless (m .number) (uploadWaveformMemory r (m .builder) lockAfter .start)) ≡ cond k 8 0
-      go true bytes n = refl
-      go false bytes n = refl
+replies : (kind byte : ℕ) → (replyOf 0 byte ≡ Done) × (replyOf 1 byte ≡ Byte byte) × (2 ≤ kind → replyOf kind byte ≡ Failed byte)
+replies kind byte = (refl, refl, failed kind)
+  where
+    failed : (kind : ℕ) → 2 ≤ kind → replyOf kind byte ≡ Failed byte
+    failed zero h = absurd (omega arith)
+    failed (suc zero) h = absurd (omega arith)
+    failed (suc (suc n)) h = refl
 
-  -- the memory that bytes make, filled up with zeros
-  abbrev made-of : WaveformMemory
-  made-of = memory (image ++ replicate (100 - length image) 0) (length image) 0 0
-
-  fits : length image ≤ 100 → uploadOf r image lockAfter ≡ uploadWaveformMemory r made-of lockAfter .start
-  unfolding uploadOf
-  fits h = simp (le-ltb 100 (length image) h)
-
-  uploads : (st : List ℕ) (cs : List AnswerCall) → length image ≤ 100 → isSession st ≡ true →
-      let s = startedIn st (uploadOf r image lockAfter) in completed (final s cs) ≡ true → payload (sent s cs) ≡ addressed (addressOf "SNP_MEM_0") image
-  uploads st cs h e =
-      let l : length (image ++ replicate (100 - length image) 0) ≡ 100 =
-      length-append image (replicate (100 - length image) 0) ∙ ap (λ (n : ℕ). length image + n) (length-replicate {A = ℕ} (100 - length image) 0) ∙ omega arith in
-      subst (λ (x : Start). completed (final (startedIn st x) cs) ≡ true → payload (sent (startedIn st x) cs) ≡ addressed (addressOf "SNP_MEM_0") image) (sym (fits h))
-      (λ done. transfers .shown r made-of lockAfter st cs l e done
-      ∙ ap (addressed (addressOf "SNP_MEM_0")) (take-at image (replicate (100 - length image) 0) (length image) refl))
+uploads : (r : DA728x) (image : List ℕ) (lockAfter : Bool) → length image ≤ 100 → let m = memory (image ++ replicate (100 - length image) 0) (length image) 0 0 in
+    (uploadOf r image lockAfter ≡ uploadWaveformMemory r m lockAfter .start) × (take (m .len) (m .«data») ≡ image) × (length (m .«data») ≡ 100)
+unfolding uploadOf
+uploads r image lockAfter h = (
+  simp (le-ltb 100 (length image) h),
+  take-at image (replicate (100 - length image) 0) (length image) refl,
+  length-append image (replicate (100 - length image) 0) ∙ ap (λ (n : ℕ). length image + n) (length-replicate {A = ℕ} (100 - length image) 0) ∙ omega arith,
+)
 
 pub telling : Telling
 unfolding reportWord resultWord
@@ -196,6 +186,7 @@ telling = record {
   records = records;
   spared = spared;
   results = λ st h. let k = bounded st h in wide (outcomeOf st .value) (outcomeOf st .made) (codeOf (outcomeOf st .completed)) (k .0) (k .1);
-  full = full;
+  replies = replies;
+  full = upload-refused;
   uploads = uploads;
 }

@@ -17,7 +17,8 @@ use Rattle.config.specs.declared.Trigger.{Trigger}
 use Rattle.config.specs.declared.Trigger.the-variants.{Absent, Given}
 use Rattle.config.specs.declared.Variant.{Variant}
 use Rattle.config.specs.declared.Variant.the-variants.{DA7280, DA7281, DA7282}
-use Rattle.checks.specs.Checks.{tracking, etwm, isDA7281, oneIfGiven, triggersGiven, sequenceAbove15, triggersAbove15, Check, configureChecks, firstFailing, configureNumber}
+use Rattle.config.specs.Codes.{variantCode}
+use Rattle.checks.specs.Checks.{tracking, etwm, oneIfGiven, triggersGiven, sequenceAbove15, triggersAbove15, Check, configureChecks, firstFailing, configureNumber}
 use Rattle.checks.specs.InRange.{SequenceTo15, OneAbsent, InRange}
 use Rattle.checks.proofs.First.{failsAt}
 
@@ -98,6 +99,9 @@ is-etwm «DRO_MODE» e = absurd (false≢true e)
 is-etwm «PWM_MODE» e = absurd (false≢true e)
 is-etwm «RTWM_MODE» e = absurd (false≢true e)
 is-etwm «ETWM_MODE» e = refl
+
+abbrev isDA7281 : Variant → Bool
+isDA7281 v = eqb (variantCode v) (variantCode DA7281)
 
 is-DA7281 : (v : Variant) → isDA7281 v ≡ true → v ≡ DA7281
 is-DA7281 DA7280 e = absurd (false≢true e)

@@ -24,9 +24,6 @@ tracking mode = eqb (drivingCode mode) (drivingCode «FREQUENCY_TRACK»)
 abbrev pub etwm : OperationMode → Bool
 etwm mode = eqb (operationCode mode) (operationCode «ETWM_MODE»)
 
-abbrev pub isDA7281 : Variant → Bool
-isDA7281 v = eqb (variantCode v) (variantCode DA7281)
-
 abbrev pub oneIfGiven : Trigger → ℕ
 oneIfGiven Absent = 0
 oneIfGiven (Given t) = 1
@@ -57,7 +54,7 @@ abbrev pub configureChecks : Variant → ActuatorConfig → DeviceConfig → Lis
 configureChecks v a d =
     (not (tracking (d .«driving_mode»)) && (d .acceleration || d .«rapid_stop»), 12)
     ∷ (etwm (d .«operation_mode») && eqb (triggersGiven d) 0, 13)
-    ∷ (etwm (d .«operation_mode») && (isDA7281 v && ltb 1 (triggersGiven d)), 14)
+    ∷ (etwm (d .«operation_mode») && (eqb (variantCode v) (variantCode DA7281) && ltb 1 (triggersGiven d)), 14)
     ∷ (ltb 6000 (a .«nominal_max_mV»), 11) ∷ (ltb 6000 (a .«absolute_max_mV»), 11)
     ∷ (ltb 252 (a .«max_current_mA»), 11)
     ∷ (ltb (a .«impedance_mOhm») 4000 || ltb 49999 (a .«impedance_mOhm»), 11)

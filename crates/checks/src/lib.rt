@@ -6,6 +6,8 @@ ghost use mathlib.Core.Path.{_≡_};
 ghost use mathlib.Core.Bool.{not, _&&_, _||_};
 ghost use lib.Dec.{ltb, eqb};
 ghost use Rattle.errors.specs.Number.{answerNumber};
+ghost use Rattle.config.specs.Codes.{variantCode};
+ghost use Rattle.config.specs.declared.Variant.the-variants.{DA7281};
 ghost use Rattle.checks.specs.Checks as spec;
 use config::ActuatorConfig;
 use config::DeviceConfig;
@@ -120,7 +122,7 @@ fn lacks_trigger(device: DeviceConfig) -> bool
 
 // In ETWM mode, more than one trigger on the DA7281.
 fn has_too_many_triggers(variant: Variant, device: DeviceConfig) -> bool
-    ensures { λ r. ⌜ r ≡ (spec.etwm (device .«operation_mode») && (spec.isDA7281 variant && ltb 1 (spec.triggersGiven device))) ⌝ }
+    ensures { λ r. ⌜ r ≡ (spec.etwm (device .«operation_mode») && (eqb (variantCode variant) (variantCode DA7281) && ltb 1 (spec.triggersGiven device))) ⌝ }
 {
     let mode = device.operation_mode;
     if is_etwm(mode) {
@@ -133,7 +135,7 @@ fn has_too_many_triggers(variant: Variant, device: DeviceConfig) -> bool
 }
 
 fn is_DA7281(variant: Variant) -> bool
-    ensures { λ r. ⌜ r ≡ spec.isDA7281 variant ⌝ }
+    ensures { λ r. ⌜ r ≡ eqb (variantCode variant) (variantCode DA7281) ⌝ }
 {
     let other = Variant::DA7281;
     variant.code() == other.code()

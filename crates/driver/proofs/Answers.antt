@@ -31,11 +31,12 @@ use Rattle.sessions.specs.Sessions.{noImage, blank, carrying, enabled, selectSt
 use Rattle.outcome.specs.declared.Change.the-variants.{Same}
 use Rattle.driver.specs.Operations as operation
 use Rattle.outcome.specs.Outcome.{bigEndian, changeFor}
-use Rattle.driver.specs.Operations.{Start, declines, begins, startedIn, unless, withSettings, runs, Operation, overrideChecks, numberChecks, configured}
+use Rattle.driver.specs.Operations.{Start, declines, begins, startedIn, unless, withSettings, runs, Operation, overrideChecks, numberChecks}
 use Rattle.driver.specs.Theorems.{Others, Each, Course, AnswersAs, Answers, allSteps}
 use Rattle.driver.proofs.Begun.{Fits, Holds, holds, no-image, no-record, valueOf, answered, counted, within, all-made}
 use Rattle.exchange.proofs.Latest.{bytesWanted}
 use Rattle.driver.proofs.Mismatch.{AllPlain, all-plain, frequency-plain, configure-plain, send-plain, never}
+use Rattle.driver.proofs.Starts.{configured}
 use Rattle.driver.proofs.Upload.{few}
 
 -- ---- which numbers

@@ -8,9 +8,11 @@ use lib.Dec.{eqb, eqb·zero-suc, eqb·suc-suc}
 use lib.ListN.{length, take, drop, getD, length-replicate}
 use lib.Seq.{take-all}
 use borrow.Author.Tests.{eqb-true, not-true}
+use Rattle.laws.specs.Bytes.{All}
 use Rattle.laws.specs.Lists.{at}
+use Rattle.exchange.specs.Steps.{exchangeFor}
 use Rattle.exchange.specs.declared.Step.{Step}
-use Rattle.exchange.specs.declared.Step.the-variants.{Store}
+use Rattle.exchange.specs.declared.Step.the-variants.{Write, Read, Update, Match, Chunk, Store}
 use Rattle.exchange.specs.declared.Exchange.{Exchange}
 use Rattle.exchange.specs.State.{isSession, isUnbroken, addressIn, countIn, roomIn, readCount, purposeIn, imageIn, recordIn, indexed, left, noneLeft, completed, Begun, begunIn}
 use Rattle.exchange.specs.Session.{AnswerCall, final, sent, came, brokenOff, exchangesOf}
@@ -95,12 +97,30 @@ none-past [] (suc k) h = absurd (omega arith)
 none-past (x ∷ xs) zero h = sym (eqb·zero-suc (length xs))
 none-past (x ∷ xs) (suc k) h = none-past xs k (omega arith) ∙ sym (eqb·suc-suc k (length xs))
 
+-- every exchange is the chip's
+to-chip : (xs : List Step) (address last : ℕ) (image bytes : List ℕ) → All (λ (e : Exchange). e .address ≡ address) (exchangesOf address last image xs bytes)
+to-chip [] address last image bytes = tt
+to-chip (x ∷ xs) address last image bytes = (own x, to-chip xs address _ image _)
+  where
+    own : (x : Step) → exchangeFor address last image x .address ≡ address
+    own (Write register value) = refl
+    own (Read register) = refl
+    own (Update register shift width value) = refl
+    own (Match register value) = refl
+    own (Chunk offset len) = refl
+    own (Store index) = refl
+
+all-taken : (P : Exchange → Type 0) (n : ℕ) (es : List Exchange) → All P es → All P (take n es)
+all-taken P zero es h = tt
+all-taken P (suc n) [] h = tt
+all-taken P (suc n) (e ∷ es) h = (h .0, all-taken P n es (h .1))
+
 -- as many exchanges as steps
 length-exchanges : (xs : List Step) (address last : ℕ) (image bytes : List ℕ) → length (exchangesOf address last image xs bytes) ≡ length xs
 length-exchanges [] address last image bytes = refl
 length-exchanges (x ∷ xs) address last image bytes = ap suc (length-exchanges xs address _ image _)
 
-and-both : (a b : Bool) → a && b ≡ true → (a ≡ true) × (b ≡ true)
+pub and-both : (a b : Bool) → a && b ≡ true → (a ≡ true) × (b ≡ true)
 and-both true b e = (refl, e)
 and-both false b e = absurd (true≢false (sym e))
 
@@ -164,6 +184,7 @@ module _ {s : List ℕ} {b : Begun} {xs : List Step} (h : Holds s b xs) (cs : Li
   unfolding outcomeOf
   answered result g = record {
     order = in-order;
+    chip = subst (All (λ (e : Exchange). e .address ≡ b .address)) (sym in-order) (all-taken _ (length (sent s cs)) _ (to-chip xs (b .address) 0 (b .image) (came s cs)));
     next = session .end s cs ∙ ap (λ (l : List Step). cond (brokenOff s cs) [] (drop (length (sent s cs)) l)) (h .steps);
     completes = completes;
     whole = all-sent;

@@ -6,16 +6,16 @@ use mathlib.Core.List.{List, [], _∷_, _++_}
 use lib.Dec.{ltb, eqb}
 use lib.ListN.{length}
 use borrow.Author.Tests.{eqb-true}
+use Rattle.laws.specs.Lists.{at}
 use Rattle.exchange.specs.declared.Step.{Step}
 use Rattle.exchange.specs.declared.Step.the-variants.{Match}
 use Rattle.exchange.specs.declared.Reply.{Reply}
 use Rattle.exchange.specs.declared.Reply.the-variants.{Done, Byte, Failed}
 use Rattle.exchange.specs.State.{isUnbroken, left, completed}
 use Rattle.exchange.specs.Turn.{pendingFor, resized, stateAfter, reportOf}
-use Rattle.exchange.specs.Session.{AnswerCall, fitsExchange, taken, takenAt, numberAt, replyBytes, breaks, afterCall, final, came}
+use Rattle.exchange.specs.Session.{AnswerCall, fitsExchange, taken, numberAt, replyBytes, breaks, afterCall, final, came}
 use Rattle.exchange.proofs.Cases.{Case, same, broken, went, case, idle-state}
 use Rattle.exchange.proofs.Session.{session}
-use Rattle.driver.specs.Theorems.{cameOnly}
 use Rattle.driver.proofs.Records.{idle, unfinished, finished}
 
 -- nothing comes where no step is left
@@ -34,9 +34,13 @@ came-none (c ∷ cs) st e =
     ∙ ap (λ (t : List ℕ). came t cs) (idle-state st c e) ∙ came-none cs st e
 
 -- an answer that is not taken back leaves the session
-untaken : (st : List ℕ) (c : AnswerCall) → takenAt st c ≡ false → afterCall st c ≡ st
+untaken : (st : List ℕ) (c : AnswerCall) → taken st (c .reply) (length (c .buffer)) ≡ false → afterCall st c ≡ st
 unfolding afterCall
 untaken st c h = session .refused st (c .reply) (c .buffer) (eqb-true _ _ (session .takes st (c .reply) (length (c .buffer)) ∙ ap not h)) .0
+
+-- whether one byte came, and is this
+abbrev pub cameOnly : List ℕ → ℕ → Bool
+cameOnly bytes value = eqb (length bytes) 1 && eqb (at bytes 0) value
 
 module _ (register value : ℕ) where
   abbrev Creates : List AnswerCall → Type 0
@@ -93,4 +97,4 @@ module _ (register value : ℕ) where
 
   pub creates : (cs : List AnswerCall) → Creates cs
   creates [] st e = unfinished st _ _ e
-  creates (c ∷ cs) st e = by c cs (creates cs) st e (c .reply) refl (takenAt st c) refl
+  creates (c ∷ cs) st e = by c cs (creates cs) st e (c .reply) refl (taken st (c .reply) (length (c .buffer))) refl

@@ -3,7 +3,7 @@ use Prim.Native.Nat.{ℕ, suc, _<_, _≤_}
 use mathlib.Core.Path.{_≡_, refl, sym, ap, _∙_}
 use mathlib.Core.Bool.{Bool, true, false, cond, not, _&&_}
 use mathlib.Core.List.{List, [], _∷_}
-use lib.Dec.{ltb}
+use lib.Dec.{ltb, eqb}
 use lib.IntN.{ℤ}
 use borrow.Author.Tests.{lt-ltb, le-ltb}
 use Rattle.errors.specs.declared.Error.{Error}
@@ -11,6 +11,9 @@ use Rattle.errors.specs.declared.Error.the-variants as Error
 use Rattle.errors.specs.Number.{errorNumber}
 use Rattle.config.specs.declared.ActuatorConfig.{ActuatorConfig}
 use Rattle.config.specs.declared.DeviceConfig.{DeviceConfig}
+use Rattle.config.specs.declared.OperationMode.{OperationMode}
+use Rattle.config.specs.declared.OperationMode.the-variants.{«DRO_MODE»}
+use Rattle.config.specs.Codes.{operationCode}
 use Rattle.checks.specs.Checks.{Check, firstFailing}
 use Rattle.convert.specs.Convert.{overrideByte}
 use Rattle.exchange.specs.declared.Step.{Step}
@@ -21,7 +24,7 @@ use Rattle.sessions.specs.Sessions.{blank}
 use Rattle.da728x.specs.declared.DA728x.{DA728x}
 use Rattle.da728x.specs.declared.Settings.{Settings}
 use Rattle.da728x.specs.declared.Settings.the-variants.{Given}
-use Rattle.driver.specs.Operations.{Start, declines, begins, startNumber, startedIn, unless, withSettings, negative, isDro, overriding, setOverrideValue, numberChecks}
+use Rattle.driver.specs.Operations.{Start, declines, begins, startNumber, startedIn, unless, withSettings, negative, overriding, setOverrideValue, numberChecks}
 
 -- it decides what is answered, and what is written
 pub told : (st now : List ℕ) (n : ℕ) (s t : Start) → s ≡ t → n ≡ startNumber t → now ≡ startedIn st t → (n ≡ startNumber s) × (now ≡ startedIn st s)
@@ -66,7 +69,14 @@ refused e n s h = ap (λ (k : ℕ). unless k s) (sym h) ∙ go e where
   go Error.NotAnImage = refl
   go Error.OutOfTurn = refl
 
+-- a record with these settings
+abbrev pub configured : DA728x → ActuatorConfig → DeviceConfig → DA728x
+configured r a d = record { address = r .address; variant = r .variant; settings = Given a d }
+
 -- ---- setting the override value
+
+abbrev pub isDro : OperationMode → Bool
+isDro mode = eqb (operationCode mode) (operationCode «DRO_MODE»)
 
 abbrev mode-check : DeviceConfig → List Check
 mode-check d = (not (isDro (d .«operation_mode»)), 12) ∷ []

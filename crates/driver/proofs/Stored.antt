@@ -2,13 +2,16 @@
 use Prim.Native.Nat.{ℕ, _≤_}
 use native.Mathlib.Omega.{arith}
 use mathlib.Core.Path.{_≡_, refl, sym, _∙_, ap, subst}
-use mathlib.Core.Bool.{Bool, true, false, cond, _&&_}
+use mathlib.Core.Bool.{Bool, true, false, cond, _&&_, false≢true}
 use mathlib.Core.List.{List, [], _∷_, append-nil}
 use lib.ListN.{length}
-use borrow.Author.Tests.{eq-eqb}
+use lib.Dec.{eqb}
+use borrow.Author.Tests.{eq-eqb, eqb-true}
 use Rattle.registers.specs.Table.{addressOf}
 use Rattle.config.specs.declared.ActuatorConfig.{ActuatorConfig}
 use Rattle.config.specs.declared.DeviceConfig.{DeviceConfig}
+use Rattle.config.specs.declared.Variant.{Variant}
+use Rattle.config.specs.declared.Variant.the-variants.{DA7280, DA7281, DA7282}
 use Rattle.config.specs.Codes.{variantCode}
 use Rattle.exchange.specs.declared.Step.{Step}
 use Rattle.exchange.specs.declared.Step.the-variants.{Match}
@@ -26,11 +29,12 @@ use Rattle.sessions.specs.Sessions.{carrying}
 use Rattle.outcome.specs.declared.Change.the-variants.{Same, To}
 use Rattle.driver.specs.Operations as operation
 use Rattle.outcome.specs.Outcome.{changeFor, recordBy, settling, isChipOf}
-use Rattle.driver.specs.Operations.{Start, declines, begins, startedIn, revision, newRecord, configured, changeAfter}
+use Rattle.driver.specs.Operations.{Start, declines, begins, startedIn, revision, newRecord, changeAfter}
 use Rattle.driver.specs.Theorems.{recordFinal, Stored}
 use Rattle.driver.proofs.Answers.{QuietOperation, quiet, quiet-holds, each-others, fits-new, holds-configure}
-use Rattle.driver.proofs.Begun.{Holds, holds}
+use Rattle.driver.proofs.Begun.{Holds, holds, and-both}
 use Rattle.driver.proofs.Creates.{creates}
+use Rattle.driver.proofs.Starts.{configured}
 use Rattle.driver.proofs.Records.{refused, before, for-none, settles}
 
 -- what a session begun so makes of a record
@@ -69,6 +73,26 @@ module _ (r : DA728x) (a : ActuatorConfig) (d : DeviceConfig) where
       go true = refl
       go false = refl
 
+same-variant : (v w : Variant) → eqb (variantCode v) (variantCode w) ≡ true → v ≡ w
+same-variant DA7280 DA7280 e = refl
+same-variant DA7280 DA7281 e = absurd (false≢true e)
+same-variant DA7280 DA7282 e = absurd (false≢true e)
+same-variant DA7281 DA7280 e = absurd (false≢true e)
+same-variant DA7281 DA7281 e = refl
+same-variant DA7281 DA7282 e = absurd (false≢true e)
+same-variant DA7282 DA7280 e = absurd (false≢true e)
+same-variant DA7282 DA7281 e = absurd (false≢true e)
+same-variant DA7282 DA7282 e = refl
+
+module _ (r lent : DA728x) where
+  own-to : isChipOf r lent ≡ true → (r .address ≡ lent .address) × (r .variant ≡ lent .variant)
+  own-to e =
+      let k = and-both (eqb (r .address) (lent .address)) _ e in
+      (eqb-true (r .address) (lent .address) (k .0), same-variant (r .variant) (lent .variant) (k .1))
+
+  own-from : (r .address ≡ lent .address) × (r .variant ≡ lent .variant) → isChipOf r lent ≡ true
+  own-from e = simp (eq-eqb (r .address) (lent .address) (e .0), eq-eqb (variantCode (r .variant)) (variantCode (lent .variant)) (ap variantCode (e .1)))
+
 pub stored : Stored
 stored = record {
   refused = refused;
@@ -85,6 +109,6 @@ stored = record {
       let h = holds-configure r a d st none e in
       settled cs lent _ h (omega (arith, at-least a d, ap length (append-nil (configureSteps a d))))
       ∙ ap (λ (next : DA728x). cond (completed (final (startedIn st (operation.configure r a d .start)) cs)) next lent) (own-chip r a d lent);
-  own = λ r. simp (eq-eqb (r .address) (r .address) refl, eq-eqb (variantCode (r .variant)) (variantCode (r .variant)) refl);
+  own = λ r lent. (own-to r lent, own-from r lent);
   others = each-others (λ address o q b xs e st cs c r s. let h = quiet-holds address o q b xs e st s in stays cs r _ (h .0) (h .1) c) quiet;
 }

@@ -99,12 +99,9 @@ newRecord address variant = record { address = address; variant = variant; setti
 abbrev pub new : ℕ → Variant → Operation
 new address variant = plain (begins (carrying 1 (newRecord address variant)) (Match (addressOf "CHIP_REV") (revision variant) ∷ []))
 
--- a record with these settings
-abbrev pub configured : DA728x → ActuatorConfig → DeviceConfig → DA728x
-configured r a d = record { address = r .address; variant = r .variant; settings = Given a d }
-
 abbrev pub configure : DA728x → ActuatorConfig → DeviceConfig → Operation
-configure r a d = plain (unless (configureNumber (r .variant) a d) (begins (carrying 2 (configured r a d)) (configureSteps a d)))
+configure r a d =
+    plain (unless (configureNumber (r .variant) a d) (begins (carrying 2 (record { address = r .address; variant = r .variant; settings = Given a d })) (configureSteps a d)))
 
 abbrev pub getChipRev : DA728x → Operation
 getChipRev r = asking 3 r (Read (addressOf "CHIP_REV") ∷ [])
@@ -125,12 +122,9 @@ abbrev pub negative : ℤ → Bool
 negative (pos n) = false
 negative (negsuc n) = true
 
-abbrev pub isDro : OperationMode → Bool
-isDro mode = eqb (operationCode mode) (operationCode «DRO_MODE»)
-
 -- "Its checks: 15, negative under acceleration (11), not DRO_MODE (12)"
 abbrev pub overrideChecks : DeviceConfig → ℤ → List Check
-overrideChecks d value = (d .acceleration && negative value, 11) ∷ (not (isDro (d .«operation_mode»)), 12) ∷ []
+overrideChecks d value = (d .acceleration && negative value, 11) ∷ (not (eqb (operationCode (d .«operation_mode»)) (operationCode «DRO_MODE»)), 12) ∷ []
 
 abbrev pub overriding : ℕ → DeviceConfig → ℤ → Start
 overriding address d value = unless (firstFailing (overrideChecks d value)) (begins (blank 0 address) (written "TOP_CTL2" (overrideByte value) ∷ []))

@@ -1,8 +1,9 @@
 -- What every operation sends, answers and stores: document 01, 'Exchanges'; for every session's bytes, every list of answers and every record.
--- All speak of the definitions that the contracts cite.
+-- They speak of what the contracts cite: how a start begins a session, and what an answer does to it.
 use Prim.Native.Nat.{ℕ, suc, _^_, _≤_, _<_, min}
 use mathlib.Core.Path.{_≡_}
 use mathlib.Core.Bool.{Bool, true, false, cond, not, _&&_}
+use mathlib.Core.Logic.{_↔_}
 use mathlib.Core.List.{List, [], _∷_, _++_}
 use lib.Dec.{ltb, leb, eqb}
 use lib.IntN.{ℤ}
@@ -12,6 +13,7 @@ use Rattle.config.specs.declared.DeviceConfig.{DeviceConfig}
 use Rattle.config.specs.declared.Variant.{Variant}
 use Rattle.memory.specs.declared.WaveformMemory.{WaveformMemory}
 use Rattle.memory.specs.declared.WaveformMemoryTimebase.{WaveformMemoryTimebase}
+use Rattle.laws.specs.Bytes.{All}
 use Rattle.laws.specs.Copied.{over}
 use Rattle.laws.specs.Lists.{at}
 use Rattle.registers.specs.Table.{addressOf}
@@ -24,11 +26,12 @@ use Rattle.exchange.specs.Turn.{resized, reportOf}
 use Rattle.exchange.specs.Session.{AnswerCall, numberAt, afterCall, final, sent, came, brokenOff, exchangesOf, lending, filled}
 use Rattle.checks.specs.Checks.{configureNumber}
 use Rattle.da728x.specs.declared.DA728x.{DA728x}
+use Rattle.da728x.specs.declared.Settings.the-variants.{Absent, Given}
 use Rattle.outcome.specs.declared.Change.the-variants.{Same}
 use Rattle.outcome.specs.declared.Outcome.{Outcome}
 use Rattle.outcome.specs.Outcome.{isChipOf, outcomeOf}
 use Rattle.driver.specs.Operations as operation
-use Rattle.driver.specs.Operations.{Start, declines, begins, startedIn, Operation, newRecord, revision, configured, changeAfter, recordAfter}
+use Rattle.driver.specs.Operations.{Start, declines, begins, startedIn, Operation, revision, changeAfter, recordAfter}
 
 -- ---- all eighteen operations
 
@@ -63,6 +66,8 @@ pub record Each (P : ℕ → Operation → Type 0) : Type 0 where
 pub record Course (s : List ℕ) (address : ℕ) (image : List ℕ) (xs : List Step) (result : List ℕ → ℕ) (cs : List AnswerCall) : Type 0 where
   -- demand 2's exchanges: those of the steps, in order from the first, with the bytes read substituted
   pub order : sent s cs ≡ take (length (sent s cs)) (exchangesOf address 0 image xs (came s cs))
+  -- all to the operation's own chip
+  pub chip : All (λ (e : Exchange). e .address ≡ address) (sent s cs)
   -- still to be made are the steps behind those that were; none once it is broken off
   pub next : left (final s cs) ≡ cond (brokenOff s cs) [] (drop (length (sent s cs)) xs)
   -- completed exactly where no answer broke it off and as many were made as there are steps; then they are all that is to be sent
@@ -103,11 +108,7 @@ abbrev pub recordFinal : List ℕ → List AnswerCall → DA728x → DA728x
 recordFinal st [] r = r
 recordFinal st (c ∷ cs) r = recordFinal (afterCall st c) cs (recordAfter st (c .reply) (length (c .buffer)) r)
 
--- whether one byte came, and is this
-abbrev pub cameOnly : List ℕ → ℕ → Bool
-cameOnly bytes value = eqb (length bytes) 1 && eqb (at bytes 0) value
-
--- for every record lent and every list of answers; the first three for every session's bytes (old, foreign, forged)
+-- for every record lent and every list of answers; the first four for every session's bytes (old, foreign, forged)
 pub record Stored : Type 0 where
   -- an answer that is refused (16, 17, 19) or is not the last leaves the record, every byte of it
   pub refused : (st : List ℕ) (a : Reply) (n : ℕ) (r : DA728x) → eqb (reportOf st a n .number) 0 ≡ false → changeAfter st a n r ≡ Same
@@ -119,12 +120,12 @@ pub record Stored : Type 0 where
   -- `new` makes a record exactly if the one byte that came from CHIP_REV is the variant's
   pub creates : (address : ℕ) (variant : Variant) (st : List ℕ) (cs : List AnswerCall) (r : DA728x) → isSession st ≡ true →
       let s = startedIn st (operation.new address variant .start) in
-      recordFinal s cs r ≡ cond (cameOnly (came s cs) (revision variant)) (newRecord address variant) r
+      recordFinal s cs r ≡ cond (eqb (length (came s cs)) 1 && eqb (at (came s cs) 0) (revision variant)) (record { address = address; variant = variant; settings = Absent }) r
   -- `configure` stores its settings exactly if it is completed, in a record of its own chip; a record of another chip stays
   pub configures : (r lent : DA728x) (a : ActuatorConfig) (d : DeviceConfig) (st : List ℕ) (cs : List AnswerCall) → configureNumber (r .variant) a d ≡ 0 →
       isSession st ≡ true → let s = startedIn st (operation.configure r a d .start) in
-      recordFinal s cs lent ≡ cond (completed (final s cs)) (cond (isChipOf r lent) (configured lent a d) lent) lent
-  pub own : (r : DA728x) → isChipOf r r ≡ true
+      recordFinal s cs lent ≡ cond (completed (final s cs)) (cond (isChipOf r lent) (record { address = lent .address; variant = lent .variant; settings = Given a d }) lent) lent
+  pub own : (r lent : DA728x) → (isChipOf r lent ≡ true) ↔ ((r .address ≡ lent .address) × (r .variant ≡ lent .variant))
   -- no answer to another operation changes it
   pub others : Others (λ address o. (b : Begun) (xs : List Step) → o .start ≡ begins b xs → (st : List ℕ) (cs : List AnswerCall) (c : AnswerCall) (r : DA728x) →
       isSession st ≡ true → changeAfter (final (begunIn st b xs) cs) (c .reply) (length (c .buffer)) r ≡ Same)

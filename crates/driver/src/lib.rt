@@ -10,9 +10,12 @@
 ghost use mathlib.Core.Path.{_≡_};
 ghost use mathlib.Core.Bool.{_&&_};
 ghost use mathlib.Core.List.{_∷_};
+ghost use lib.Dec.{eqb};
 ghost use lib.ListN.{length};
 ghost use Rattle.errors.specs.Number.{answerNumber};
 ghost use Rattle.registers.specs.Table.{addressOf};
+ghost use Rattle.config.specs.Codes.{operationCode};
+ghost use Rattle.config.specs.declared.OperationMode.the-variants.{«DRO_MODE»};
 ghost use Rattle.exchange.specs.declared.Step.the-variants.{Write};
 ghost use Rattle.exchange.specs.State.{begunIn};
 ghost use Rattle.exchange.specs.Turn.{stateAfter, bufferAfter, reportOf, turnReport};
@@ -202,7 +205,7 @@ fn wrong_sign(acceleration: bool, value: i8) -> bool
 }
 
 fn is_dro(mode: OperationMode) -> bool
-    ensures { λ r. ⌜ r ≡ spec.isDro mode ⌝ }
+    ensures { λ r. ⌜ r ≡ eqb (operationCode mode) (operationCode «DRO_MODE») ⌝ }
 {
     let dro = OperationMode::DRO_MODE;
     mode.code() == dro.code()

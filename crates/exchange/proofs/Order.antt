@@ -16,7 +16,7 @@ use Rattle.exchange.specs.declared.Fit.the-variants.{Unfit, Broke, Went,
 use Rattle.exchange.specs.Steps.{exchangeFor}
 use Rattle.exchange.specs.State.{isUnbroken, addressIn, countIn, imageIn, left}
 use Rattle.exchange.specs.Turn.{pendingOf, wanted, fitOf, effectOf}
-use Rattle.exchange.specs.Session.{exchangesOf, AnswerCall, replyBytes, breaks, takenAt, numberAt, afterCall, final, sent, came, brokenOff}
+use Rattle.exchange.specs.Session.{exchangesOf, taken, AnswerCall, replyBytes, breaks, numberAt, afterCall, final, sent, came, brokenOff}
 use Rattle.exchange.proofs.Effects.{made-taken, came-taken, stage-breaks}
 use Rattle.exchange.proofs.Moves.{latest}
 use Rattle.exchange.proofs.Turns.{Gone, Ended, Turned, turned}
@@ -114,7 +114,7 @@ follows (c ∷ cs) st =
     let b = c .reply in
     let n = length (c .buffer) in
     let t = afterCall st c in
-    subst (λ (k : Bool). RunFrom st (cond k (pendingOf st ∷ []) [] ++ sent t cs) (cond (takenAt st c) (replyBytes b) [] ++ came t cs) (breaks (numberAt st c) || brokenOff t cs) (final t cs))
+    subst (λ (k : Bool). RunFrom st (cond k (pendingOf st ∷ []) [] ++ sent t cs) (cond (taken st (c .reply) (length (c .buffer))) (replyBytes b) [] ++ came t cs) (breaks (numberAt st c) || brokenOff t cs) (final t cs))
     (sym (made-taken st b n))
     (subst (λ (l : List ℕ). RunFrom st (cond (effectOf (fitOf st b n) .counts) (pendingOf st ∷ []) [] ++ sent t cs) (l ++ came t cs) (breaks (numberAt st c) || brokenOff t cs) (final t cs))
     (sym (came-taken st b n))

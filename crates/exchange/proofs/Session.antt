@@ -3,6 +3,7 @@
 use mathlib.Core.Path.{ap}
 use mathlib.Core.Bool.{Bool, cond}
 use Rattle.exchange.specs.State.{madeIn}
+use Rattle.exchange.specs.Turn.{pendingFor}
 use Rattle.exchange.specs.Session.{Session}
 use Rattle.exchange.proofs.Order.{follows}
 use Rattle.exchange.proofs.Turns.{refused}
@@ -13,6 +14,7 @@ use Rattle.exchange.proofs.Ends.{whole}
 
 pub session : Session
 session = record {
+  hands = λ st x xs e. ap (pendingFor st) e;
   order = λ st cs. follows cs st .order;
   count = λ st cs. follows cs st .count;
   within = λ st cs. follows cs st .within;

@@ -12,8 +12,8 @@ use Rattle.exchange.specs.declared.Exchange.{Exchange}
 use Rattle.exchange.specs.declared.Reply.{Reply}
 use Rattle.exchange.specs.declared.Reply.the-variants.{Done, Byte, Failed}
 use Rattle.exchange.specs.Steps.{exchangeFor}
-use Rattle.exchange.specs.State.{isBegun, isUnbroken, addressIn, countIn, lastIn, imageIn, left, noneLeft, completed}
-use Rattle.exchange.specs.Turn.{pendingOf, wanted, resized, stateAfter, bufferAfter, reportOf}
+use Rattle.exchange.specs.State.{isBegun, isUnbroken, addressIn, countIn, lastIn, readCount, roomIn, imageIn, left, noneLeft, completed}
+use Rattle.exchange.specs.Turn.{pendingOf, wanted, stateAfter, bufferAfter, reportOf}
 
 -- ---- what the steps ask for
 
@@ -32,9 +32,9 @@ fitsExchange e Done = ltb 0 (e .len) && eqb (e .wanted) 0
 fitsExchange e (Byte b) = ltb 0 (e .len) && eqb (e .wanted) 1
 fitsExchange e (Failed code) = ltb 0 (e .len)
 
--- whether an answer is taken back, where n bytes are lent with it
+-- whether an answer is taken back, where n bytes are lent with it: it fits, and the buffer of a memory read has the length that it had at the start
 abbrev pub taken : List ℕ → Reply → ℕ → Bool
-taken st a n = fitsExchange (pendingOf st) a && not (resized st n)
+taken st a n = fitsExchange (pendingOf st) a && not (ltb 0 (readCount st) && not (eqb n (roomIn st)))
 
 -- the byte of an answer
 abbrev pub replyBytes : Reply → List ℕ
@@ -51,9 +51,6 @@ pub record AnswerCall : Type 0 where
   pub reply : Reply
   pub buffer : List ℕ
 
-abbrev pub takenAt : List ℕ → AnswerCall → Bool
-takenAt st c = taken st (c .reply) (length (c .buffer))
-
 abbrev pub numberAt : List ℕ → AnswerCall → ℕ
 numberAt st c = reportOf st (c .reply) (length (c .buffer)) .number
 
@@ -67,12 +64,12 @@ final st (c ∷ cs) = final (afterCall st c) cs
 -- the exchanges that were made: those pending when a fitting answer was taken back
 abbrev pub sent : List ℕ → List AnswerCall → List Exchange
 sent st [] = []
-sent st (c ∷ cs) = cond (takenAt st c) (pendingOf st ∷ []) [] ++ sent (afterCall st c) cs
+sent st (c ∷ cs) = cond (taken st (c .reply) (length (c .buffer))) (pendingOf st ∷ []) [] ++ sent (afterCall st c) cs
 
 -- the bytes that came back with them
 abbrev pub came : List ℕ → List AnswerCall → List ℕ
 came st [] = []
-came st (c ∷ cs) = cond (takenAt st c) (replyBytes (c .reply)) [] ++ came (afterCall st c) cs
+came st (c ∷ cs) = cond (taken st (c .reply) (length (c .buffer))) (replyBytes (c .reply)) [] ++ came (afterCall st c) cs
 
 -- whether 16 or 17 was told
 abbrev pub brokenOff : List ℕ → List AnswerCall → Bool
@@ -93,6 +90,8 @@ filled st buffer (a ∷ replies) = filled (stateAfter st a (length buffer)) (buf
 -- ---- the theorem
 
 pub record Session : Type 0 where
+  -- what is handed out is the exchange of the next step
+  pub hands : (st : List ℕ) (x : Step) (xs : List Step) → left st ≡ x ∷ xs → pendingOf st ≡ exchangeFor (addressIn st) (lastIn st) (imageIn st) x
   -- the exchanges made are those of the steps left, in order from the first, with the bytes read substituted
   pub order : (st : List ℕ) (cs : List AnswerCall) →
       sent st cs ≡ take (length (sent st cs)) (exchangesOf (addressIn st) (lastIn st) (imageIn st) (left st) (came st cs))

@@ -12,7 +12,7 @@ use Rattle.da728x.specs.declared.DA728x.{DA728x}
 use Rattle.da728x.specs.Record.{recordAt}
 use Rattle.outcome.specs.declared.Change.{Change}
 use Rattle.outcome.specs.declared.Change.the-variants.{Same, To}
-use Rattle.outcome.specs.Outcome.{mayChange, changeFor, changeBy}
+use Rattle.outcome.specs.Outcome.{changeFor, changeBy}
 
 pub passed : {A : Type 0} (b : Bool) (x y : A) → b ≡ true → x ≡ cond b x y
 passed b x y e = ap (λ (t : Bool). cond t x y) (sym e)
@@ -54,7 +54,11 @@ for-another (suc zero) next r h k = absurd (h refl)
 for-another (suc (suc zero)) next r h k = absurd (k refl)
 for-another (suc (suc (suc n))) next r h k = refl
 
--- where an answer may not change a record, it does not
+-- whether an answer that ended a session may change a record at all
+abbrev pub mayChange : List ℕ → Bool → Bool
+mayChange st ended = ended && (isSession st && (eqb (purposeIn st) 1 || eqb (purposeIn st) 2))
+
+-- where it may not, it does not
 pub unchanged : (st : List ℕ) (t : Report) (r : DA728x) → mayChange st (t .ended) ≡ false → Same ≡ changeBy st t r
 unfolding changeBy
 unchanged st t r e = go (t .ended) (isSession st) (eqb (t .number) 0) (purposeIn st) e where

@@ -1,6 +1,6 @@
 -- What a session gives in the end, and what an answer makes of the record lent with it: document 01, 'Exchanges'.
 use Prim.Native.Nat.{ℕ, _+_, _*_}
-use mathlib.Core.Bool.{Bool, cond, _&&_, _||_}
+use mathlib.Core.Bool.{Bool, cond, _&&_}
 use mathlib.Core.List.{List, [], _∷_}
 use lib.Dec.{eqb}
 use lib.ListN.{getD}
@@ -37,10 +37,6 @@ changeFor purpose next r = getD (Same ∷ To next ∷ settling next r ∷ []) pu
 -- "Settings are stored only after the last"
 unfoldable pub changeBy : List ℕ → Report → DA728x → Change
 changeBy st t r = cond (isSession st && (t .ended && eqb (t .number) 0)) (changeFor (purposeIn st) (recordAt (recordIn st)) r) Same
-
--- whether an answer that ended a session may change a record at all
-abbrev pub mayChange : List ℕ → Bool → Bool
-mayChange st ended = ended && (isSession st && (eqb (purposeIn st) 1 || eqb (purposeIn st) 2))
 
 abbrev pub recordBy : DA728x → Change → DA728x
 recordBy r Same = r

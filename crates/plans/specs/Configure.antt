@@ -24,15 +24,12 @@ use Rattle.plans.specs.Fields.{put, fresh, written, writtenWith, updated
 abbrev pub accelerates : DeviceConfig → Bool
 accelerates d = tracking (d .«driving_mode») && d .acceleration
 
-abbrev pub stopsRapidly : DeviceConfig → Bool
-stopsRapidly d = tracking (d .«driving_mode») && d .«rapid_stop»
-
 -- EMBEDDED_MODE clears faults when the chip idles
 abbrev pub topCfg1 : ActuatorConfig → DeviceConfig → ℕ
 topCfg1 a d =
     fresh "TOP_CFG1" (put "ACTUATOR_TYPE" (actuatorCode (a .«actuator_type»))
     ∷ put "BEMF_SENSE_EN" (codeOf (tracking (d .«driving_mode»))) ∷ put "FREQ_TRACK_EN" (codeOf (tracking (d .«driving_mode»)))
-    ∷ put "ACCELERATION_EN" (codeOf (accelerates d)) ∷ put "RAPID_STOP_EN" (codeOf (stopsRapidly d)) ∷ put "AMP_PID_EN" 0 ∷ put "EMBEDDED_MODE" 1 ∷ [])
+    ∷ put "ACCELERATION_EN" (codeOf (accelerates d)) ∷ put "RAPID_STOP_EN" (codeOf (tracking (d .«driving_mode») && d .«rapid_stop»)) ∷ put "AMP_PID_EN" 0 ∷ put "EMBEDDED_MODE" 1 ∷ [])
 
 -- TOP_CFG1, TOP_CFG2 (read and updated), TOP_CFG5
 unfoldable pub featureSteps : ActuatorConfig → DeviceConfig → List Step

@@ -7,7 +7,9 @@ ghost use Rattle.exchange.specs.State.{pushed, pushedAll};
 ghost use Rattle.exchange.specs.declared.Step.the-variants.{Write, Read, Update};
 ghost use Rattle.config.specs.declared.DrivingMode.the-variants.{«CUSTOM_WAVEFORM»};
 ghost use Rattle.config.specs.declared.Pid.the-variants.{Given};
-ghost use Rattle.plans.specs.Configure.{accelerates, stopsRapidly, topCfg1, featureSteps, limitSteps, calibrationSteps, pidSteps, frequencySteps, rapidStopSteps, phaseSteps, customSteps, drivingSteps, gpiByte, gpiSteps, givenSteps, triggerSteps, configureSteps};
+ghost use mathlib.Core.Bool.{_&&_};
+ghost use Rattle.checks.specs.Checks.{tracking};
+ghost use Rattle.plans.specs.Configure.{accelerates, topCfg1, featureSteps, limitSteps, calibrationSteps, pidSteps, frequencySteps, rapidStopSteps, phaseSteps, customSteps, drivingSteps, gpiByte, gpiSteps, givenSteps, triggerSteps, configureSteps};
 use config::ActuatorConfig;
 use config::DeviceConfig;
 use config::DrivingMode;
@@ -108,7 +110,7 @@ fn accelerates(d: DeviceConfig) -> bool
 }
 
 fn stops_rapidly(d: DeviceConfig) -> bool
-    ensures { λ r. ⌜ r ≡ stopsRapidly d ⌝ }
+    ensures { λ r. ⌜ r ≡ tracking (d .«driving_mode») && d .«rapid_stop» ⌝ }
 {
     let driving_mode = d.driving_mode;
     if checks::is_tracking(driving_mode) {

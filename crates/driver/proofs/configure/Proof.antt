@@ -6,8 +6,8 @@ use Rattle.errors.specs.Number.{answerNumber}
 use Rattle.checks.specs.Checks.{configureNumber}
 use Rattle.plans.proofs.Lengths.{at-most}
 use Rattle.plans.specs.Configure.{configureSteps}
-use Rattle.driver.specs.Operations.{unless, begins, configured}
-use Rattle.driver.proofs.Starts.{told, refused}
+use Rattle.driver.specs.Operations.{unless, begins}
+use Rattle.driver.proofs.Starts.{configured, told, refused}
 use Prim.Native.Nat.{ℕ}
 use borrow.Author.Needs.{needs}
 use Rattle.driver.proofs.configure.Statement.{statement}

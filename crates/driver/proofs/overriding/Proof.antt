@@ -5,8 +5,8 @@ use Rattle.sessions.proofs.Runs.{runs-one}
 use mir.ValLaws.{toZ-ofZ}
 use mir.Val.{ofZ, toZ}
 use mir.Syntax.{w8}
-use Rattle.driver.specs.Operations.{negative, isDro}
-use Rattle.driver.proofs.Starts.{overriding-sign, overriding-done, overriding-mode}
+use Rattle.driver.specs.Operations.{negative}
+use Rattle.driver.proofs.Starts.{isDro, overriding-sign, overriding-done, overriding-mode}
 use denote.Ref.{now}
 use mathlib.Core.Bool.{true, false, _&&_}
 use lib.IntN.{ℤ}
