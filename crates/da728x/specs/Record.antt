@@ -1,7 +1,8 @@
 -- Document 01, 'Rust forms without a counterpart': "the record in and out by value"; the layout is ours.
 -- The driver record as 37 bytes: chip address, variant, 1 for a record without settings or 2 where settings are stored, then the
 -- settings. Numbers of two bytes have the least byte first; choices are their codes. Read back, a third byte above 1 says that settings are
--- stored, and a flag is set by any byte but 0. Bytes of another length are a DA7280 at address 0 without settings.
+-- stored, and a flag is set by any byte but 0. Bytes of another length, and zeros, are a DA7280 at address 0
+-- without settings.
 --   3 actuator type, 4 nominal mV, 6 absolute mV, 8 current mA, 10 impedance mOhm, 12 inductance µH, 14 frequency Hz,
 --   16 PID words given, 17 Kp, 19 Ki, 21 operation mode, 22 driving mode, 23 27 31 three triggers, 35 acceleration, 36 rapid stop;
 --   a trigger: given, sequence number, polarity, mode

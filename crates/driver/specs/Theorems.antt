@@ -143,7 +143,8 @@ payload [] = []
 payload (e ∷ es) = cond (leb (addressOf "SNP_MEM_0") (at (e .bytes) 0)) (addressed (at (e .bytes) 0) (drop 1 (take (e .len) (e .bytes)))) [] ++ payload es
 
 pub record Transfers : Type 0 where
-  -- "Upload sends what `WaveformMemory::as_bytes` shows .. from address 84 (hexadecimal)": once completed, each byte to its own address, and no other
+  -- "Upload sends what `WaveformMemory::as_bytes` shows .. from address 84 (hexadecimal)": once completed, each byte to its own address; no other goes
+  -- into the memory
   pub shown : (r : DA728x) (m : WaveformMemory) (lockAfter : Bool) (st : List ℕ) (cs : List AnswerCall) → length (m .«data») ≡ 100 → isSession st ≡ true →
       let s = startedIn st (operation.uploadWaveformMemory r m lockAfter .start) in
       completed (final s cs) ≡ true → payload (sent s cs) ≡ addressed (addressOf "SNP_MEM_0") (take (m .len) (m .«data»))

@@ -64,7 +64,7 @@ fitOf st a n = cond (resized st n) Unfit (fitsNext (left st) a)
 
 -- ---- what an answer does
 
--- that a session has its size and can count one exchange more, as one with a step left does
+-- a session of its size that has counted less than its most steps
 abbrev pub going : List ℕ → Type 0
 going st = (length st ≡ 279) × (madeIn st < 125)
 

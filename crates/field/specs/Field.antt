@@ -1,5 +1,5 @@
 -- A field of a byte: `w` bits from bit `s` up. Document 01, "Settings to registers": "`with_` alters its own field".
--- A field ends with the byte, and a value counts as far as its field is wide.
+-- A field is cut at the end of the byte, and of a value as many low bits are used as its field has.
 use Prim.Native.Nat.{ℕ, _+_, _-_, _*_, _/_, _%_, _^_, min}
 use mathlib.Core.Bool.{Bool, true, false}
 use lib.Dec.{ltb}

@@ -25,7 +25,7 @@ abbrev pub startOf : List Part → String → ℕ
 startOf [] n = 0
 startOf (part m w ∷ ps) n = cond (eqt m n) 0 (w + startOf ps n)
 
--- how many bits a field has
+-- how many bits a field has; none where no part has the name
 abbrev pub widthOf : List Part → String → ℕ
 widthOf [] n = 0
 widthOf (part m w ∷ ps) n = cond (eqt m n) w (widthOf ps n)
