@@ -15,7 +15,6 @@ use Rattle.field.specs.Field.{codeOf}
 use Rattle.exchange.specs.declared.Exchange.{Exchange}
 use Rattle.exchange.specs.declared.Step.{Step}
 use Rattle.exchange.specs.declared.Step.the-variants.{Write, Read, Update, Match, Chunk, Store}
-use Rattle.exchange.specs.declared.Reply.{Reply}
 use Rattle.exchange.specs.declared.Reply.the-variants.{Done, Byte, Failed}
 use Rattle.exchange.specs.State.{isBegun, madeIn, countIn, purposeIn, imageIn, left, noneLeft, completed}
 use Rattle.exchange.specs.Turn.{pendingFor, pendingOf, wanted, resized, fitsNext, fitOf, effectOf, stateAfter, reportOf}

@@ -59,7 +59,7 @@ driving-kept «FREQUENCY_TRACK» = refl
 driving-kept WIDEBAND = refl
 driving-kept «CUSTOM_WAVEFORM» = refl
 
-variant-kept : (v : Variant) → variantAt (variantCode v) ≡ v
+pub variant-kept : (v : Variant) → variantAt (variantCode v) ≡ v
 variant-kept DA7280 = refl
 variant-kept DA7281 = refl
 variant-kept DA7282 = refl

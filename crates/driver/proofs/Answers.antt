@@ -1,11 +1,10 @@
 -- What every operation sends and answers, and by which numbers it is refused before its first exchange. Assumes nothing.
-use Prim.Native.Nat.{ℕ, suc, zero, _^_, _≤_, _<_, min}
+use Prim.Native.Nat.{ℕ, suc, zero, _≤_, min}
 use native.Mathlib.Omega.{arith}
-use mathlib.Core.Path.{_≡_, refl, sym, _∙_, ap, subst}
-use mathlib.Core.Bool.{Bool, true, false, cond, not, _&&_}
-use mathlib.Core.List.{List, [], _∷_, _++_, append-nil}
-use lib.Dec.{ltb, eqb}
-use lib.IntN.{ℤ}
+use mathlib.Core.Path.{_≡_, refl, sym, ap, subst}
+use mathlib.Core.Bool.{Bool, true, false, cond}
+use mathlib.Core.List.{List, [], _∷_, append-nil}
+use lib.Dec.{eqb}
 use lib.ListN.{length}
 use Rattle.config.specs.declared.ActuatorConfig.{ActuatorConfig}
 use Rattle.config.specs.declared.DeviceConfig.{DeviceConfig}
@@ -16,8 +15,8 @@ use Rattle.checks.specs.Checks.{Check, firstFailing, configureChecks, configure
 use Rattle.exchange.specs.declared.Step.{Step}
 use Rattle.exchange.specs.declared.Step.the-variants.{Write, Read}
 use Rattle.registers.specs.Table.{addressOf}
-use Rattle.exchange.specs.State.{isSession, countIn, completed, Begun, begunIn}
-use Rattle.exchange.specs.Session.{AnswerCall, final, exchangesOf}
+use Rattle.exchange.specs.State.{isSession, Begun, begunIn}
+use Rattle.exchange.specs.Session.{exchangesOf}
 use Rattle.plans.specs.Configure.{configureSteps, frequencySteps}
 use Rattle.plans.proofs.Lengths.{at-least, at-most, frequency}
 use Rattle.da728x.specs.declared.DA728x.{DA728x}
@@ -32,7 +31,7 @@ use Rattle.outcome.specs.declared.Change.the-variants.{Same}
 use Rattle.driver.specs.Operations as operation
 use Rattle.outcome.specs.Outcome.{bigEndian, changeFor}
 use Rattle.driver.specs.Operations.{Start, declines, begins, startedIn, unless, withSettings, runs, Operation, overrideChecks, numberChecks}
-use Rattle.driver.specs.Theorems.{Others, Each, Course, AnswersAs, Answers, allSteps}
+use Rattle.driver.specs.Theorems.{Others, Each, Course, Answers, allSteps}
 use Rattle.driver.proofs.Begun.{Fits, Holds, holds, no-image, no-record, valueOf, answered, counted, within, all-made}
 use Rattle.exchange.proofs.Latest.{bytesWanted}
 use Rattle.driver.proofs.Mismatch.{AllPlain, all-plain, frequency-plain, configure-plain, send-plain, never}

@@ -2,8 +2,8 @@
 use Prim.Native.Nat.{ℕ, suc, zero, _^_, _≤_, _<_, min}
 use native.Mathlib.Omega.{arith}
 use mathlib.Core.Path.{_≡_, refl, sym, _∙_, ap, subst}
-use mathlib.Core.Bool.{Bool, true, false, cond, not, _&&_, true≢false}
-use mathlib.Core.List.{List, [], _∷_, _++_, append-nil, reverse, reverseAux-eq}
+use mathlib.Core.Bool.{Bool, true, false, cond, not, _&&_, and-eq-true-iff}
+use mathlib.Core.List.{List, [], _∷_, _++_, reverse, reverseAux-eq}
 use lib.Dec.{eqb, eqb·zero-suc, eqb·suc-suc}
 use lib.ListN.{length, take, drop, getD, length-replicate}
 use lib.Seq.{take-all}
@@ -14,7 +14,7 @@ use Rattle.exchange.specs.Steps.{exchangeFor}
 use Rattle.exchange.specs.declared.Step.{Step}
 use Rattle.exchange.specs.declared.Step.the-variants.{Write, Read, Update, Match, Chunk, Store}
 use Rattle.exchange.specs.declared.Exchange.{Exchange}
-use Rattle.exchange.specs.State.{isSession, isUnbroken, addressIn, countIn, roomIn, readCount, purposeIn, imageIn, recordIn, indexed, left, noneLeft, completed, Begun, begunIn}
+use Rattle.exchange.specs.State.{isSession, isUnbroken, addressIn, countIn, roomIn, readCount, purposeIn, imageIn, recordIn, left, noneLeft, completed, Begun, begunIn}
 use Rattle.exchange.specs.Session.{AnswerCall, final, sent, came, brokenOff, exchangesOf}
 use Rattle.exchange.proofs.Latest.{bytesRead, bytesWanted}
 use Rattle.exchange.proofs.Begins.{begins as begun}
@@ -23,7 +23,6 @@ use Rattle.exchange.proofs.Keeps.{keeps}
 use Rattle.exchange.proofs.Session.{session}
 use Rattle.sessions.specs.Sessions.{noImage, blankRecord}
 use Rattle.outcome.specs.Outcome.{bigEndian, valueIn, outcomeOf}
-use Rattle.driver.specs.Operations.{Start, declines, begins}
 use Rattle.driver.specs.Theorems.{allSteps, Course}
 
 -- ---- what stands in place of an image, and of a record
@@ -59,11 +58,7 @@ pub record Holds (s : List ℕ) (b : Begun) (xs : List Step) : Type 0 where
 
 -- an open session has its size
 open-session : (s : List ℕ) → isUnbroken s ≡ true → isSession s ≡ true
-open-session s o = go (isSession s) (eqb (at s 1) 1) o
-  where
-    go : (a b : Bool) → a && b ≡ true → a ≡ true
-    go true b e = refl
-    go false b e = absurd (true≢false (sym e))
+open-session s o = and-eq-true-iff (isSession s) (eqb (at s 1) 1) .0 o .0
 
 -- the byte read last, of three
 last-read : (s : List ℕ) → isSession s ≡ true → bytesRead s ≡ 0 ∷ 0 ∷ 0 ∷ [] → at s 3 ≡ 0
@@ -120,10 +115,6 @@ length-exchanges : (xs : List Step) (address last : ℕ) (image bytes : List ℕ
 length-exchanges [] address last image bytes = refl
 length-exchanges (x ∷ xs) address last image bytes = ap suc (length-exchanges xs address _ image _)
 
-pub and-both : (a b : Bool) → a && b ≡ true → (a ≡ true) × (b ≡ true)
-and-both true b e = (refl, e)
-and-both false b e = absurd (true≢false (sym e))
-
 -- what the bytes read last say once these came
 abbrev shown : List ℕ → List ℕ
 shown bytes = take 3 (reverse bytes ++ (0 ∷ 0 ∷ 0 ∷ []))
@@ -157,7 +148,7 @@ module _ {s : List ℕ} {b : Begun} {xs : List Step} (h : Holds s b xs) (cs : Li
 
   -- so all were made where it is completed, and as many bytes came as they want
   pub all-made : completed (final s cs) ≡ true → length (sent s cs) ≡ length xs
-  all-made e = eqb-true _ _ (and-both (not (brokenOff s cs)) _ (sym completes ∙ e) .1)
+  all-made e = eqb-true _ _ (and-eq-true-iff (not (brokenOff s cs)) _ .0 (sym completes ∙ e) .1)
 
   pub all-sent : completed (final s cs) ≡ true → sent s cs ≡ exchangesOf (b .address) 0 (b .image) xs (came s cs)
   all-sent e =
@@ -166,7 +157,7 @@ module _ {s : List ℕ} {b : Begun} {xs : List Step} (h : Holds s b xs) (cs : Li
 
   pub all-came : completed (final s cs) ≡ true → length (came s cs) ≡ bytesWanted (exchangesOf (b .address) 0 (b .image) xs (came s cs))
   all-came e =
-      comes cs s (not-true (brokenOff s cs) (and-both (not (brokenOff s cs)) _ (sym completes ∙ e) .0))
+      comes cs s (not-true (brokenOff s cs) (and-eq-true-iff (not (brokenOff s cs)) _ .0 (sym completes ∙ e) .0))
       ∙ ap bytesWanted (all-sent e)
 
   -- what the session answers

@@ -1,9 +1,9 @@
 -- A session whose one step must read a value is completed exactly if the one byte that came is that value. Assumes nothing.
 use Prim.Native.Nat.{ℕ}
 use mathlib.Core.Path.{_≡_, refl, sym, _∙_, ap}
-use mathlib.Core.Bool.{Bool, true, false, cond, not, _&&_, _||_, true≢false, and-false}
+use mathlib.Core.Bool.{Bool, true, false, cond, not, _&&_, true≢false}
 use mathlib.Core.List.{List, [], _∷_, _++_}
-use lib.Dec.{ltb, eqb}
+use lib.Dec.{eqb}
 use lib.ListN.{length}
 use borrow.Author.Tests.{eqb-true}
 use Rattle.laws.specs.Lists.{at}
@@ -11,8 +11,8 @@ use Rattle.exchange.specs.declared.Step.{Step}
 use Rattle.exchange.specs.declared.Step.the-variants.{Match}
 use Rattle.exchange.specs.declared.Reply.{Reply}
 use Rattle.exchange.specs.declared.Reply.the-variants.{Done, Byte, Failed}
-use Rattle.exchange.specs.State.{isUnbroken, left, completed}
-use Rattle.exchange.specs.Turn.{pendingFor, resized, stateAfter, reportOf}
+use Rattle.exchange.specs.State.{left, completed}
+use Rattle.exchange.specs.Turn.{pendingFor, resized, reportOf}
 use Rattle.exchange.specs.Session.{AnswerCall, fitsExchange, taken, numberAt, replyBytes, breaks, afterCall, final, came}
 use Rattle.exchange.proofs.Cases.{Case, same, broken, went, case, idle-state}
 use Rattle.exchange.proofs.Session.{session}

@@ -5,6 +5,7 @@ use mathlib.Core.Bool.{Bool, true, false, cond, not, _&&_, _||_}
 use mathlib.Core.List.{List, [], _∷_}
 use lib.Dec.{eqb}
 use lib.ListN.{length, drop}
+use Rattle.laws.proofs.Tests.{choice}
 use Rattle.exchange.specs.declared.Step.{Step}
 use Rattle.exchange.specs.declared.Reply.{Reply}
 use Rattle.exchange.specs.State.{isSession, isUnbroken, left, noneLeft, completed, purposeIn, recordIn}
@@ -17,7 +18,7 @@ use Rattle.exchange.proofs.Session.{session}
 use Rattle.da728x.specs.declared.DA728x.{DA728x}
 use Rattle.da728x.specs.Record.{recordAt}
 use Rattle.outcome.specs.declared.Change.{Change}
-use Rattle.outcome.specs.declared.Change.the-variants.{Same, To}
+use Rattle.outcome.specs.declared.Change.the-variants.{Same}
 use Rattle.outcome.specs.Outcome.{changeFor, changeBy, recordBy}
 use Rattle.driver.specs.Operations.{changeAfter, recordAfter}
 use Rattle.driver.specs.Theorems.{recordFinal}
@@ -47,10 +48,6 @@ stays-before : (t : List ℕ) (r : DA728x) (s k : Bool) → changeIf t r s false
 stays-before t r true k = refl
 stays-before t r false k = refl
 
-same-either : {A : Type 0} (b : Bool) (x : A) → cond b x x ≡ x
-same-either true x = refl
-same-either false x = refl
-
 module _ (st : List ℕ) (a : Reply) (n : ℕ) (r : DA728x) where
   abbrev t : List ℕ
   t = stateAfter st a n
@@ -74,7 +71,7 @@ module _ (st : List ℕ) (a : Reply) (n : ℕ) (r : DA728x) where
   pub for-none : ((next : DA728x) → changeFor (purposeIn t) next r ≡ Same) → changeAfter st a n r ≡ Same
   for-none h =
       let k = isSession t && (reportOf st a n .ended && eqb (reportOf st a n .number) 0) in
-      change-as st a n r ∙ ap (λ (m : Change). cond k m Same) (h (recordAt (recordIn t))) ∙ same-either k Same
+      change-as st a n r ∙ ap (λ (m : Change). cond k m Same) (h (recordAt (recordIn t))) ∙ choice (λ (m : Change). m ≡ Same) k Same Same refl refl
 
 -- ---- a session without a step left
 

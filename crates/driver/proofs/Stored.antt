@@ -1,8 +1,8 @@
 -- The record changes exactly by the answer that completes `new` or `configure`, and by no other. Assumes nothing.
 use Prim.Native.Nat.{ℕ, _≤_}
 use native.Mathlib.Omega.{arith}
-use mathlib.Core.Path.{_≡_, refl, sym, _∙_, ap, subst}
-use mathlib.Core.Bool.{Bool, true, false, cond, _&&_, false≢true}
+use mathlib.Core.Path.{_≡_, refl, sym, _∙_, ap}
+use mathlib.Core.Bool.{Bool, true, false, cond, and-eq-true-iff}
 use mathlib.Core.List.{List, [], _∷_, append-nil}
 use lib.ListN.{length}
 use lib.Dec.{eqb}
@@ -11,11 +11,10 @@ use Rattle.registers.specs.Table.{addressOf}
 use Rattle.config.specs.declared.ActuatorConfig.{ActuatorConfig}
 use Rattle.config.specs.declared.DeviceConfig.{DeviceConfig}
 use Rattle.config.specs.declared.Variant.{Variant}
-use Rattle.config.specs.declared.Variant.the-variants.{DA7280, DA7281, DA7282}
-use Rattle.config.specs.Codes.{variantCode}
+use Rattle.config.specs.Codes.{variantCode, variantAt}
 use Rattle.exchange.specs.declared.Step.{Step}
 use Rattle.exchange.specs.declared.Step.the-variants.{Match}
-use Rattle.exchange.specs.State.{recordIn, completed, Begun, begunIn}
+use Rattle.exchange.specs.State.{completed, Begun, begunIn}
 use Rattle.exchange.specs.Session.{AnswerCall, afterCall, final}
 use Rattle.exchange.proofs.Cases.{idle-state, idle-number}
 use Rattle.exchange.proofs.Keeps.{keeps}
@@ -24,15 +23,15 @@ use Rattle.plans.specs.Configure.{configureSteps}
 use Rattle.da728x.specs.declared.DA728x.{DA728x}
 use Rattle.da728x.specs.declared.Settings.the-variants.{Given}
 use Rattle.da728x.specs.Record.{recordAt}
-use Rattle.da728x.proofs.Kept.{record-kept}
+use Rattle.da728x.proofs.Kept.{variant-kept, record-kept}
 use Rattle.sessions.specs.Sessions.{carrying}
 use Rattle.outcome.specs.declared.Change.the-variants.{Same, To}
 use Rattle.driver.specs.Operations as operation
 use Rattle.outcome.specs.Outcome.{changeFor, recordBy, settling, isChipOf}
-use Rattle.driver.specs.Operations.{Start, declines, begins, startedIn, revision, newRecord, changeAfter}
+use Rattle.driver.specs.Operations.{startedIn, revision, newRecord, changeAfter}
 use Rattle.driver.specs.Theorems.{recordFinal, Stored}
-use Rattle.driver.proofs.Answers.{QuietOperation, quiet, quiet-holds, each-others, fits-new, holds-configure}
-use Rattle.driver.proofs.Begun.{Holds, holds, and-both}
+use Rattle.driver.proofs.Answers.{quiet, quiet-holds, each-others, fits-new, holds-configure}
+use Rattle.driver.proofs.Begun.{Holds, holds}
 use Rattle.driver.proofs.Creates.{creates}
 use Rattle.driver.proofs.Starts.{configured}
 use Rattle.driver.proofs.Records.{refused, before, for-none, settles}
@@ -74,20 +73,12 @@ module _ (r : DA728x) (a : ActuatorConfig) (d : DeviceConfig) where
       go false = refl
 
 same-variant : (v w : Variant) → eqb (variantCode v) (variantCode w) ≡ true → v ≡ w
-same-variant DA7280 DA7280 e = refl
-same-variant DA7280 DA7281 e = absurd (false≢true e)
-same-variant DA7280 DA7282 e = absurd (false≢true e)
-same-variant DA7281 DA7280 e = absurd (false≢true e)
-same-variant DA7281 DA7281 e = refl
-same-variant DA7281 DA7282 e = absurd (false≢true e)
-same-variant DA7282 DA7280 e = absurd (false≢true e)
-same-variant DA7282 DA7281 e = absurd (false≢true e)
-same-variant DA7282 DA7282 e = refl
+same-variant v w e = sym (variant-kept v) ∙ ap variantAt (eqb-true (variantCode v) (variantCode w) e) ∙ variant-kept w
 
 module _ (r lent : DA728x) where
   own-to : isChipOf r lent ≡ true → (r .address ≡ lent .address) × (r .variant ≡ lent .variant)
   own-to e =
-      let k = and-both (eqb (r .address) (lent .address)) _ e in
+      let k = and-eq-true-iff (eqb (r .address) (lent .address)) _ .0 e in
       (eqb-true (r .address) (lent .address) (k .0), same-variant (r .variant) (lent .variant) (k .1))
 
   own-from : (r .address ≡ lent .address) × (r .variant ≡ lent .variant) → isChipOf r lent ≡ true

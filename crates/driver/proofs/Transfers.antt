@@ -3,7 +3,7 @@ use Prim.Native.Nat.{ℕ, zero, suc, _^_, _<_, min}
 use native.Mathlib.Omega.{arith}
 use mathlib.Core.Path.{_≡_, refl, _∙_, ap}
 use mathlib.Core.Bool.{Bool, true, not, _&&_}
-use mathlib.Core.List.{List, [], _∷_, append-nil}
+use mathlib.Core.List.{List, [], append-nil}
 use lib.Dec.{ltb, eqb}
 use lib.ListN.{length, take, drop, getD}
 use Rattle.exchange.specs.declared.Step.{Step}

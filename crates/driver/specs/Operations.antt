@@ -9,7 +9,6 @@ use Rattle.registers.specs.Table.{addressOf}
 use Rattle.config.specs.declared.ActuatorConfig.{ActuatorConfig}
 use Rattle.config.specs.declared.DeviceConfig.{DeviceConfig}
 use Rattle.config.specs.declared.DrivingMode.the-variants.{«CUSTOM_WAVEFORM»}
-use Rattle.config.specs.declared.OperationMode.{OperationMode}
 use Rattle.config.specs.declared.OperationMode.the-variants.{INACTIVE, «DRO_MODE»}
 use Rattle.config.specs.declared.Variant.{Variant}
 use Rattle.config.specs.declared.Variant.the-variants.{DA7280, DA7281, DA7282}

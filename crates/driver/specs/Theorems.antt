@@ -28,7 +28,6 @@ use Rattle.checks.specs.Checks.{configureNumber}
 use Rattle.da728x.specs.declared.DA728x.{DA728x}
 use Rattle.da728x.specs.declared.Settings.the-variants.{Absent, Given}
 use Rattle.outcome.specs.declared.Change.the-variants.{Same}
-use Rattle.outcome.specs.declared.Outcome.{Outcome}
 use Rattle.outcome.specs.Outcome.{isChipOf, outcomeOf}
 use Rattle.driver.specs.Operations as operation
 use Rattle.driver.specs.Operations.{Start, declines, begins, startedIn, Operation, revision, changeAfter, recordAfter}

@@ -1,6 +1,6 @@
 -- What goes over the wire: each operation's exchanges in order where these bytes are read, each as one number: chip address, how many bytes are
 -- wanted, the bytes sent (0x4A001380 sends 13 80 to 4A, 0x4A0114 sends 14 and reads a byte). What it answers; by which number it is refused.
--- Worked out by hand from registers.rs, lib.rs and document 01.
+-- Then a session that runs, what goes into a buffer, codes and TRIM4. Worked out by hand from registers.rs, lib.rs and document 01.
 use Prim.Native.Nat.{ℕ, _+_}
 use mathlib.Core.Bool.{true, false}
 use mathlib.Core.List.{List, [], _∷_, _++_, map}
@@ -63,6 +63,7 @@ configuring v settings = operation.configure (newRecord 0x4A v) (actuatorConfigA
 abbrev pub loadedTo : ℕ → WaveformMemory
 loadedTo n = record { «data» = replicate 96 7 ++ (8 ∷ 9 ∷ 0 ∷ 0 ∷ []); len = n; «num_snippets» = 1; «num_sequences» = 1 }
 
+-- the number that its start tells; 0 where it begins
 abbrev pub refusal : Operation → ℕ
 refusal o = startNumber (o .start)
 

@@ -11,7 +11,7 @@ use Rattle.exchange.specs.Turn.{Report}
 use Rattle.da728x.specs.declared.DA728x.{DA728x}
 use Rattle.da728x.specs.Record.{recordAt}
 use Rattle.outcome.specs.declared.Change.{Change}
-use Rattle.outcome.specs.declared.Change.the-variants.{Same, To}
+use Rattle.outcome.specs.declared.Change.the-variants.{Same}
 use Rattle.outcome.specs.Outcome.{changeFor, changeBy}
 
 pub passed : {A : Type 0} (b : Bool) (x y : A) → b ≡ true → x ≡ cond b x y

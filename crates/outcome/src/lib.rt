@@ -2,15 +2,13 @@
 // both. Proved: they are those of specs/Outcome.antt, whatever the session's bytes are. Left out: the operations, which are in `driver`.
 ghost use Prim.Native.Nat.{min};
 ghost use mathlib.Core.Path.{_≡_};
-ghost use mathlib.Core.Bool.{false, cond, _||_};
+ghost use mathlib.Core.Bool.{cond, _&&_, _||_};
 ghost use mathlib.Core.List.{[], _∷_};
 ghost use lib.Dec.{eqb};
 ghost use lib.ListN.{length};
-ghost use Rattle.exchange.specs.State.{completed, purposeIn, recordIn};
+ghost use Rattle.exchange.specs.State.{isSession, completed, purposeIn, recordIn};
 ghost use Rattle.exchange.specs.Turn.{turnReport};
 ghost use Rattle.da728x.specs.Record.{recordAt};
-ghost use Rattle.da728x.specs.declared.DA728x.{DA728x};
-ghost use Rattle.outcome.specs.declared.Change.the-variants.{Same};
 ghost use Rattle.outcome.specs.Outcome as spec;
 use da728x::DA728x;
 use exchange::Turn;
@@ -53,9 +51,10 @@ pub fn changed(driver: DA728x, change: Change) -> DA728x
     }
 }
 
-// Whether an answer that gave this turn may change a record; where not, it changes none, and none need be looked at.
+// Whether an answer that gave this turn may change a record; where not, none need be looked at (proofs/Changes.antt, `unchanged`).
 pub fn may_change(session: &[u8], turn: Turn) -> bool
-    ensures { λ r. ⌜ (r ≡ false → (driver : DA728x) → Same ≡ spec.changeBy (now (session .entry)) (turnReport turn) driver) ⌝ }
+    ensures { λ r. ⌜ r
+        ≡ (turn .ended && (isSession (now (session .entry)) && (eqb (purposeIn (now (session .entry))) 1 || eqb (purposeIn (now (session .entry))) 2))) ⌝ }
 {
     if turn.ended {
         if session.len() == exchange::SESSION_SIZE {

@@ -1,5 +1,6 @@
 -- A record that may change is changed as the session says; another stays. Assumes nothing.
-use mathlib.Core.Path.{ap, _∙_}
+use mathlib.Core.Path.{ap, sym, _∙_}
+use Rattle.outcome.proofs.Changes.{unchanged}
 use denote.Ref.{now}
 use Rattle.da728x.specs.declared.DA728x.{DA728x}
 use Rattle.da728x.specs.Record.{recordAt}
@@ -22,7 +23,7 @@ returns c =
 returns-2 : tie.Need-returns-2
 returns-2 c =
     let l = now (c .before .before .before .before .args .«record») in
-    ap (recordOut l) (c .before .may-change .ensures (c .if1 .left) (recordAt l))
+    ap (recordOut l) (unchanged _ _ (recordAt l) (sym (c .before .may-change .ensures) ∙ c .if1 .left))
 
 pub store-spec : {M : Type 1} → statement M
 store-spec = tie.close (tie.spec (λ c κs. search needs) (λ c κs. search needs) (λ c κs. search needs) (λ c κs. search needs) (λ c. search needs) returns returns-2)
