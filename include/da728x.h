@@ -45,6 +45,8 @@
  *   17 I2c                  the bus failed
  *   18 NotAnImage           the builders cannot make these bytes
  *   19 OutOfTurn            an answer that does not fit the pending exchange
+ *   24 BufferTooShort       the lent buffer is shorter than the item, the image or the lists that
+ *                           go into it; no byte of it is written
  */
 #ifndef DA728X_H
 #define DA728X_H
@@ -127,13 +129,13 @@ uint8_t da728x_point_amplitude(uint8_t byte);
 #define DA728X_CALL_ADD_SEQUENCE 14 /* WaveformMemoryBuilder::add_sequence(the one built): 10, 7 */
 
 /* Runs the calls, then builds the snippet, the frame or the sequence that is under construction
- * at the end of the list, and encodes it into the front of out, as much as fits; the other bytes
- * of out stay. A snippet has at most 16 bytes, a frame 3, a sequence 96. Refused calls are left
- * out silently: da728x_answers shows them.
- * Returns what encode_into answers (for a snippet its full length, also if out is shorter; for a
- * frame or a sequence the bytes copied). Or 65536 times the number of build's refusal, and out
- * stays as it was: 9 for a snippet without points, 3 if no frame is begun, 10 for a sequence
- * without frames. What was added already is not under construction any more. */
+ * at the end of the list, and encodes all of it into the front of out; the other bytes of out
+ * stay. A snippet has at most 16 bytes, a frame 3, a sequence 96. Refused calls are left out
+ * silently: da728x_answers shows them.
+ * Returns the item's length, 1 or more. Or 65536 times the number of a refusal, and all of out
+ * stays as it was: build's (9 for a snippet without points, 3 if no frame is begun, 10 for a
+ * sequence without frames), else 24 if out is shorter than the item: no part of an item is ever
+ * written. What was added already is not under construction any more. */
 uint32_t da728x_snippet(const uint8_t *calls, size_t calls_len, uint8_t *out, size_t out_len);
 uint32_t da728x_frame(const uint8_t *calls, size_t calls_len, uint8_t *out, size_t out_len);
 uint32_t da728x_sequence(const uint8_t *calls, size_t calls_len, uint8_t *out, size_t out_len);
@@ -155,19 +157,20 @@ size_t da728x_answers(const uint8_t *calls, size_t calls_len,
 
 /* Runs the calls and makes the image of the snippets and sequences that they added, unless a
  * call is refused. Use this one: a list with a refused call gives no image.
- * Returns 0, and the hundred bytes are copied into the front of image, as many as fit; the other
- * bytes of image stay. 0 does not say that the image fitted: lend DA728X_IMAGE bytes. Or a
- * refusal, and image stays as it was:
+ * Returns 0, and all hundred bytes are in the front of image; its other bytes stay. Or a refusal,
+ * and image stays as it was:
  *   number + 256 * place   the first call that was refused, and its place in the list, from 1
  *                          (any place above 16777215 is given as 16777215)
  *   number                 no call was refused, but build refuses: 9 without snippets, else 10
- *                          without sequences, else 8 above 100 bytes */
+ *                          without sequences, else 8 above 100 bytes; else 24 if image is
+ *                          shorter than DA728X_IMAGE */
 uint32_t da728x_assemble_strict(const uint8_t *calls, size_t calls_len,
                                 uint8_t *image, size_t image_len);
 
 /* As da728x_assemble_strict, but a refused call is left out silently: the image is that of what
- * the accepted calls added. Returns 0, although calls may have been refused; or the number of
- * build's refusal (9, then 10, then 8), and image stays as it was. */
+ * the accepted calls added. Returns 0, although calls may have been refused; or the number of a
+ * refusal (build's 9, then 10, then 8; then 24 if image is shorter than DA728X_IMAGE), and image
+ * stays as it was. */
 uint8_t da728x_assemble(const uint8_t *calls, size_t calls_len,
                         uint8_t *image, size_t image_len);
 
@@ -192,8 +195,9 @@ uint64_t da728x_read_frame(const uint8_t *image, size_t image_len,
                            size_t sequence, size_t frame);
 
 /* All points and frames in one call. Returns what da728x_read_counts returns, and writes these
- * DA728X_LISTS bytes into the front of lists, as many as fit; the other bytes of lists stay. If
- * it is refused, all of lists stays.
+ * DA728X_LISTS bytes into the front of lists; the other bytes of lists stay. If it is refused,
+ * all of lists stays: with 65536 * 18 for what is no image, else with 65536 * 24 if lists is
+ * shorter than DA728X_LISTS.
  *     0..95   the points, a byte each: those of snippet 0, then those of snippet 1, ..
  *    96..110  for each snippet the index behind its last point: snippet 0 has the points at 0 to
  *             before lists[96], snippet i those at lists[95 + i] to before lists[96 + i]

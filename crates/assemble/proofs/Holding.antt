@@ -10,8 +10,8 @@ use borrow.Author.Tests.{lt-ltb, le-ltb, le-leb, lt-leb, ltb-true, ltb-false}
 use lib.Dec.{ltb, leb}
 use lib.ListN.{length, set, take, replicate, getD, length-set, length-map, length-take}
 use lib.Seq.{take-suc-set}
-use Rattle.laws.specs.Copied.{copied}
-use Rattle.errors.specs.Told.{Handed, Built, accepted, refused}
+use Rattle.laws.specs.Whole.{whole, wholeOut}
+use Rattle.errors.specs.Told.{Told, gives, refuses, toldBy, toldNumber, Handed, Built, accepted, refused}
 use Rattle.snippet.specs.declared.Snippet.{Snippet}
 use Rattle.snippet.specs.declared.SnippetBuilder.{SnippetBuilder}
 use Rattle.snippet.specs.Snippet.{snippetBytes}
@@ -26,7 +26,6 @@ use Rattle.assemble.specs.Kept.{kept, Pushed, PushedUnless, addedNumber,
 use Rattle.assemble.proofs.Keeping.{count}
 use Rattle.pattern.proofs.Items.{withBuiltSnippet, withBuiltSequence}
 use Rattle.assemble.specs.Holding.{Keeps, KeepsSnippets, KeepsSequences, KeepsMemory, StepsSnippets, StepsSequences}
-use Rattle.assemble.specs.Lists.{imageOut}
 
 -- ---- an array whose first n items are kept
 
@@ -154,14 +153,17 @@ module _ (m : WaveformMemoryBuilder) (l k : List ℕ) (w : KeepsMemory m l k) wh
       let b = number-is 16 sequenceBytes (m .sequences) (m .«num_sequences») k (w .1) in
       record { snippetsLong = p; sequencesLong = q; snippetsFew = omega (arith, w .0 .room); sequencesFew = omega (arith, w .1 .room) }
 
-  pub image-built : (buffer buffer′ : List ℕ) (n : ℕ) → pool.ImageLaid l k buffer n buffer′ → (n ≡ builtMemory m .number) × (buffer′ ≡ imageOut (builtMemory m) buffer)
+  pub image-built : (buffer buffer′ : List ℕ) (n : ℕ) → pool.ImageLaid l k buffer n buffer′
+      → let item = toldBy (builtMemory m .number) (builtMemory m .item .«data») in (n ≡ toldNumber (whole buffer item)) × (buffer′ ≡ wholeOut buffer item)
   unfolding builtMemory
   image-built buffer buffer′ n r =
       let a = counted 15 snippetBytes (m .snippets) (m .«num_snippets») l (w .0) in
       let b = counted 16 sequenceBytes (m .sequences) (m .«num_sequences») k (w .1) in
       let p = r (snippetItems m) (sequenceItems m) (omega (arith, w .0 .room)) (omega (arith, w .1 .room)) (w .0 .same) (w .1 .same) in
-      (p .0, p .1 ∙ ap (λ (j : ℕ). cond (ltb 0 j) buffer (copied buffer (imageBytes (snippetItems m) (sequenceItems m)))) (p .0) ∙ go (ltb 0 (imageNumber (snippetItems m) (sequenceItems m))))
+      let item = same (ltb 0 (imageNumber (snippetItems m) (sequenceItems m))) in
+      (p .0 ∙ ap (λ (t : Told (List ℕ)). toldNumber (whole buffer t)) item, p .1 ∙ ap (wholeOut buffer) item)
     where
-      go : (t : Bool) → cond t buffer (copied buffer (imageBytes (snippetItems m) (sequenceItems m))) ≡ cond t buffer (copied buffer (cond t noMemory (memoryOf (snippetItems m) (sequenceItems m)) .«data»))
-      go true = refl
-      go false = refl
+      same : (t : Bool) → cond {A = Told (List ℕ)} t (refuses (imageNumber (snippetItems m) (sequenceItems m))) (gives (imageBytes (snippetItems m) (sequenceItems m)))
+          ≡ cond t (refuses (imageNumber (snippetItems m) (sequenceItems m))) (gives (cond t noMemory (memoryOf (snippetItems m) (sequenceItems m)) .«data»))
+      same true = refl
+      same false = refl

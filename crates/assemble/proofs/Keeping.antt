@@ -10,9 +10,13 @@ use lib.ListN.{length, take, drop, getD, set, replicate, length-append, length-m
 use lib.Seq.{set-append-seam, take-at, drop-at, take-append-add, take-all, drop-drop}
 use borrow.Author.Tests.{lt-ltb, le-ltb}
 use borrow.Rule.Slice.PartMut.{midOf}
+use Rattle.errors.specs.Told.{Told, gives, toldBy, toldNumber}
 use Rattle.laws.specs.Copied.{copied, over}
+use Rattle.laws.specs.Whole.{whole, wholeOut, lengthOf}
+use Rattle.laws.proofs.Whole.{length-number}
 use Rattle.laws.specs.Lists.{joined}
 use Rattle.memory.specs.Image.{endPointers, imageSize, imageBytes}
+use Rattle.memory.specs.Memory.{imageNumber}
 use Rattle.memory.proofs.Images.{joined-length}
 use Rattle.assemble.specs.Kept.{kept, sumOf, ends, Pushed, ImageLaid}
 use Rattle.assemble.proofs.Lists.{sumOf-lengths, ends-pointers, ends-append, ends-length, joined-append, copied-more, over-more}
@@ -203,13 +207,18 @@ laid-image ss qs ls ks xs ys out e f g h i =
 -- what is answered, by the number of snippets n and of sequences k
 module _ (l j buffer : List ℕ) (n k : ℕ) (f : n ≡ getD l 0 0) (g : k ≡ getD j 0 0) where
   pub no-snippets : n < 1 → ImageLaid l j buffer 9 buffer
-  no-snippets h ss qs a b e i = let c = count 15 ss l e in (simp (lt-ltb (length ss) 1 (omega arith)), refl)
+  no-snippets h ss qs a b e i =
+      let c = count 15 ss l e in
+      let t = lt-ltb (length ss) 1 (omega arith) in
+      (simp t, simp t)
 
   pub no-sequences : 1 ≤ n → k < 1 → ImageLaid l j buffer 10 buffer
   no-sequences h o ss qs a b e i =
       let c = count 15 ss l e in
       let d = count 16 qs j i in
-      (simp (le-ltb (length ss) 1 (omega arith), lt-ltb (length qs) 1 (omega arith)), refl)
+      let t = le-ltb (length ss) 1 (omega arith) in
+      let u = lt-ltb (length qs) 1 (omega arith) in
+      (simp (t, u), simp (t, u))
 
   module _ (h : 1 ≤ n) (o : 1 ≤ k) (u v : ℕ) (p : u ≡ sumOf (midOf 1 (1 + n - 1) l)) (q : v ≡ sumOf (midOf 1 (1 + k - 1) j)) where
     pub too-large : 98 < n + k + u + v → ImageLaid l j buffer 8 buffer
@@ -219,19 +228,26 @@ module _ (l j buffer : List ℕ) (n k : ℕ) (f : n ≡ getD l 0 0) (g : k ≡ g
         let r = sum-is 15 ss l e n f u p in
         let t = sum-is 16 qs j i k g v q in
         let y = joined-length ss qs in
-        (simp (le-ltb (length ss) 1 (omega arith), le-ltb (length qs) 1 (omega arith), lt-ltb 100 (imageSize ss qs) (omega arith)), refl)
+        let s = le-ltb (length ss) 1 (omega arith) in
+        let z = le-ltb (length qs) 1 (omega arith) in
+        let x = lt-ltb 100 (imageSize ss qs) (omega arith) in
+        (simp (s, z, x), simp (s, z, x))
 
-    pub built : n + k + u + v ≤ 98 → (out buffer′ : List ℕ)
+    pub built : n + k + u + v ≤ 98 → (out buffer′ : List ℕ) (number : ℕ)
         → out ≡ length (midOf 1 (1 + n - 1) l) ∷ length (midOf 1 (1 + k - 1) j) ∷ (ends (1 + length (midOf 1 (1 + n - 1) l) + length (midOf 1 (1 + k - 1) j)) (midOf 1 (1 + n - 1) l ++ midOf 1 (1 + k - 1) j)
         ++ midOf 16 (16 + u - 16) l ++ midOf 17 (17 + v - 17) j
         ++ zeros (98 - (length (midOf 1 (1 + n - 1) l) + length (midOf 1 (1 + k - 1) j) + length (midOf 16 (16 + u - 16) l) + length (midOf 17 (17 + v - 17) j))))
-        → buffer′ ≡ copied buffer out → ImageLaid l j buffer 0 buffer′
-    built w out buffer′ z x ss qs a b e i =
+        → number ≡ toldNumber (lengthOf (whole buffer (gives out))) → buffer′ ≡ wholeOut buffer (gives out) → ImageLaid l j buffer number buffer′
+    built w out buffer′ number z m x ss qs a b e i =
         let c = count 15 ss l e in
         let d = count 16 qs j i in
         let r = sum-is 15 ss l e n f u p in
         let t = sum-is 16 qs j i k g v q in
-        let y = joined-length ss qs in (
-          simp (le-ltb (length ss) 1 (omega arith), le-ltb (length qs) 1 (omega arith), le-ltb 100 (imageSize ss qs) (omega arith)),
-          x ∙ ap (copied buffer) (laid-image ss qs _ _ _ _ out (lens 15 ss l e n f) (lens 16 qs j i k g) (bytes 15 ss l e a u r (omega arith)) (bytes 16 qs j i b v t (omega arith)) z),
+        let y = joined-length ss qs in
+        let none : imageNumber ss qs ≡ 0 = simp (le-ltb (length ss) 1 (omega arith), le-ltb (length qs) 1 (omega arith), le-ltb 100 (imageSize ss qs) (omega arith)) in
+        let laid : out ≡ imageBytes ss qs =
+        laid-image ss qs _ _ _ _ out (lens 15 ss l e n f) (lens 16 qs j i k g) (bytes 15 ss l e a u r (omega arith)) (bytes 16 qs j i b v t (omega arith)) z in
+        let item : gives out ≡ toldBy (imageNumber ss qs) (imageBytes ss qs) = λ i. toldBy (sym none i) (laid i) in (
+          m ∙ length-number (whole buffer (gives out)) ∙ ap (λ (t : Told (List ℕ)). toldNumber (whole buffer t)) item,
+          x ∙ ap (wholeOut buffer) item,
         )

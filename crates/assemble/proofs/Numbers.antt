@@ -4,11 +4,11 @@ use mathlib.Core.List.{List, [], _∷_}
 use Prim.Native.Nat.{ℕ, _≤_}
 use native.Mathlib.Omega.{arith}
 use Rattle.laws.specs.Bytes.{All}
-use Rattle.errors.specs.Told.{Told, gives, refuses}
+use Rattle.errors.specs.Told.{Told, gives, refuses, toldNumber}
 use Rattle.frame.specs.declared.FrameBuilder.{FrameBuilder}
 use Rattle.calls.specs.Said.{Call}
 use Rattle.calls.specs.Said as Call
-use Rattle.calls.specs.Calls.{callsIn, begunNumber}
+use Rattle.calls.specs.Calls.{callsIn}
 use Rattle.pattern.specs.Calls.{answersTo, snippetFrom, FrameCall, begunBy, sequenceFrom, addSnippet, addSequence, memoryFrom}
 use Rattle.pattern.proofs.Items.{frameRan, answerOn}
 use Rattle.assemble.specs.Lists.{Groups, noGroups, grouped, answersOf}
@@ -16,7 +16,7 @@ use Rattle.assemble.proofs.Assembly.{Three, three}
 use Rattle.assemble.proofs.Steps.{snippet-answers, frame-answers, sequence-answers, memory-answers}
 
 -- a frame's own refusal is 3
-begun-number : (t : Told FrameBuilder) → Three t → begunNumber t ≤ 14
+begun-number : (t : Told FrameBuilder) → Three t → toldNumber t ≤ 14
 begun-number (gives f) h = omega arith
 begun-number (refuses n) h = omega arith
 

@@ -5,7 +5,7 @@ use mathlib.Core.List.{List, [], _∷_, _++_}
 use Prim.Native.Nat.{ℕ, _+_, _<_}
 use native.Mathlib.Omega.{arith}
 use borrow.Author.Tests.{lt-ltb}
-use Rattle.errors.specs.Told.{Told, gives, refuses}
+use Rattle.errors.specs.Told.{Told, gives, refuses, toldNumber}
 use Rattle.snippet.specs.declared.SnippetBuilder.{SnippetBuilder}
 use Rattle.snippet.specs.Snippet.{newSnippet, builtSnippet}
 use Rattle.frame.specs.declared.FrameBuilder.{FrameBuilder}
@@ -16,7 +16,6 @@ use Rattle.calls.specs.Said as Call
 use Rattle.calls.specs.declared.UnderWay.{UnderWay}
 use Rattle.calls.specs.declared.UnderWay.the-variants as UnderWay
 use Rattle.calls.specs.declared.Builders.{Builders}
-use Rattle.calls.specs.Calls.{begunNumber}
 use Rattle.memory.specs.Memory.{newMemory}
 use Rattle.pattern.specs.Calls.{SnippetCall, snippetStep, snippetFrom, FrameCall, gain, frameStep, Begin, begunBy, FrameCalls, sequenceStep, sequenceFrom, MemoryCall, addSnippet, addSequence, memoryStep, memoryFrom}
 use Rattle.pattern.proofs.Items.{frameRan, answerOn, withMadeFrame, withBuiltSnippet, withBuiltSequence}
@@ -77,9 +76,9 @@ none-begun g n e =
       adding = ap (λ (t : Told FrameBuilder). withMadeFrame (sequenceFrom (g .sequence)) (g .frame .calls) t .number) e ∙ k;
     }
 
-refused-new : (g : Groups) (b : Begin) → 0 < begunNumber (begunBy b) → NotBegun (grouped g (Call.Builder (Call.BeginFrame b)) .builder)
+refused-new : (g : Groups) (b : Begin) → 0 < toldNumber (begunBy b) → NotBegun (grouped g (Call.Builder (Call.BeginFrame b)) .builder)
 refused-new g b h = go (begunBy b) refl h where
-  go : (t : Told FrameBuilder) → begunBy b ≡ t → 0 < begunNumber t → NotBegun (grouped g (Call.Builder (Call.BeginFrame b)) .builder)
+  go : (t : Told FrameBuilder) → begunBy b ≡ t → 0 < toldNumber t → NotBegun (grouped g (Call.Builder (Call.BeginFrame b)) .builder)
   go (gives f) e k = absurd (omega arith)
   go (refuses m) e k = none-begun (grouped g (Call.Builder (Call.BeginFrame b)) .builder) m e
 

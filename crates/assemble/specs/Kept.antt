@@ -5,7 +5,9 @@ use mathlib.Core.Bool.{Bool, true, false, cond}
 use mathlib.Core.List.{List, [], _∷_, _++_, map}
 use lib.Dec.{ltb}
 use lib.ListN.{length, getD, replicate}
+use Rattle.errors.specs.Told.{toldBy, toldNumber}
 use Rattle.laws.specs.Copied.{copied}
+use Rattle.laws.specs.Whole.{whole, wholeOut}
 use Rattle.laws.specs.Lists.{joined}
 use Rattle.memory.specs.Image.{imageBytes}
 use Rattle.memory.specs.Memory.{imageNumber}
@@ -65,8 +67,8 @@ pub record KeptBoth (l k : List ℕ) : Type 0 where
   pub snippetsFew : getD l 0 0 ≤ 15
   pub sequencesFew : getD k 0 0 ≤ 16
 
--- the number and the buffer after the image of snippets and sequences that are kept was built
+-- the answer and the buffer after the image of snippets and sequences that are kept was built
 abbrev pub ImageLaid : List ℕ → List ℕ → List ℕ → ℕ → List ℕ → Type 0
 ImageLaid l k buffer n buffer′ =
     (ss qs : List (List ℕ)) → length ss ≤ 15 → length qs ≤ 16 → l ≡ kept 15 ss → k ≡ kept 16 qs
-    → (n ≡ imageNumber ss qs) × (buffer′ ≡ cond (ltb 0 n) buffer (copied buffer (imageBytes ss qs)))
+    → let item = toldBy (imageNumber ss qs) (imageBytes ss qs) in (n ≡ toldNumber (whole buffer item)) × (buffer′ ≡ wholeOut buffer item)

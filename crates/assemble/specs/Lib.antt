@@ -1,7 +1,9 @@
--- The definitions that the contracts of `assemble` cite (Lists; privately Flat, Holding, Kept), and the claims Strict, UsedUp, Example.
+-- The definitions that the contracts of `assemble` and `capi` cite (Lists, Items; privately Flat, Holding, Kept), and the claims Assembled,
+-- Strict, UsedUp, Example.
 pub mod Example
 pub mod Flat
 pub mod Holding
+pub mod Items
 pub mod Kept
 pub mod Lists
 pub mod Strict

@@ -4,13 +4,12 @@ use Prim.Native.Nat.{ℕ, suc, _+_, _*_, min}
 use mathlib.Core.Bool.{false, cond}
 use mathlib.Core.List.{List, [], _∷_, _++_}
 use lib.Dec.{ltb}
-use Rattle.laws.specs.Copied.{copied}
-use Rattle.errors.specs.Told.{onTold, Handed, handed, Built}
+use Rattle.errors.specs.Told.{onTold, toldNumber, Handed, handed, Built}
 use Rattle.calls.specs.Said.{Call}
 use Rattle.calls.specs.Said as Call
 use Rattle.calls.specs.declared.UnderWay.the-variants as UnderWay
 use Rattle.calls.specs.declared.Builders.{Builders}
-use Rattle.calls.specs.Calls.{callsIn, builders, begunNumber}
+use Rattle.calls.specs.Calls.{callsIn, builders}
 use Rattle.memory.specs.declared.WaveformMemory.{WaveformMemory}
 use Rattle.memory.specs.declared.WaveformMemoryBuilder.{WaveformMemoryBuilder}
 use Rattle.pattern.specs.Calls.{ran, answersTo, SnippetCall, snippetStep, snippetFrom, frameStep, new, begunBy, FrameCalls, frameCalled, sequenceStep, sequenceFrom, MemoryCall, addSnippet, addSequence, memoryStep, memoryFrom, builtFrom}
@@ -38,7 +37,7 @@ noGroups = groups [] noFrame [] []
 abbrev pub numberIn : Groups → Call → ℕ
 numberIn g (Call.Builder Call.SnippetNew) = 0
 numberIn g (Call.Builder (Call.OnSnippet k)) = snippetStep (snippetFrom (g .snippet)) k .number
-numberIn g (Call.Builder (Call.BeginFrame b)) = begunNumber (begunBy b)
+numberIn g (Call.Builder (Call.BeginFrame b)) = toldNumber (begunBy b)
 numberIn g (Call.Builder (Call.OnFrame k)) = frameCalled (g .frame) k
 numberIn g (Call.Builder Call.SequenceNew) = 0
 numberIn g (Call.Builder Call.AddFrame) = sequenceStep (sequenceFrom (g .sequence)) (g .frame) .number
@@ -85,12 +84,9 @@ buildersIn g =
 abbrev pub buildersOf : List ℕ → Builders
 buildersOf bytes = buildersIn (groupsOf bytes)
 
--- what building the memory answers after the calls; the image goes to the front of a buffer where one was built
+-- what building the memory answers after the calls
 abbrev pub builtOf : List ℕ → Built WaveformMemory WaveformMemoryBuilder
 builtOf bytes = builtFrom false (groupsOf bytes .memory)
-
-abbrev pub imageOut : Built WaveformMemory WaveformMemoryBuilder → List ℕ → List ℕ
-imageOut r buffer = cond (ltb 0 (r .number)) buffer (copied buffer (r .item .«data»))
 
 -- ---- a list of calls that stops at the first refusal
 
@@ -102,14 +98,7 @@ lastPlace = 16777215
 abbrev pub withPlace : ℕ → ℕ → ℕ
 withPlace number before = number + 256 * min (before + 1) lastPlace
 
--- the first answer that is a refusal, 0 where there is none; so many answers came before these
+-- the first answer that is a refusal, with its place, or 0 where there is none; so many answers came before these
 abbrev pub firstRefused : ℕ → List ℕ → ℕ
 firstRefused before [] = 0
 firstRefused before (n ∷ ns) = cond (ltb 0 n) (withPlace n before) (firstRefused (suc before) ns)
-
--- the first refusal among the calls, else what building answers
-abbrev pub strictly : List ℕ → ℕ
-strictly bytes = cond (ltb 0 (firstRefused 0 (answersOf bytes))) (firstRefused 0 (answersOf bytes)) (builtOf bytes .number)
-
-abbrev pub strictOut : List ℕ → List ℕ → List ℕ
-strictOut bytes buffer = cond (ltb 0 (strictly bytes)) buffer (copied buffer (builtOf bytes .item .«data»))

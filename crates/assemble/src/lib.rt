@@ -1,9 +1,10 @@
 // Lists of builder calls (added; no Rust file): the form in which whole patterns cross the boundary.
 // Document 01, 'The hundred bytes': each call gets what the last handed back; a refused call adds nothing.
 // Proved: every function answers what specs/Lists.antt says of the calls, told apart by the builders that they go to, for any bytes and
-// any buffers; these are the lists of calls that demand 3 speaks of. specs/Strict.antt: what the strict form answers; specs/UsedUp.antt: what
-// a call finds. The memory's items are kept in bytes (src/pool.rt; specs/Kept.antt) and not in its builder, which is large: specs/Flat.antt
-// is a run with that builder, Holding.antt what the bytes keep of it. Left out: the acceleration flag, which changes nothing.
+// any buffers; these are the lists of calls that demand 3 speaks of. specs/Strict.antt: what the two forms that make an image answer;
+// specs/UsedUp.antt: what a call finds. The memory's items are kept in bytes (src/pool.rt; specs/Kept.antt) and not in its builder, which is
+// large: specs/Flat.antt is a run with that builder, Holding.antt what the bytes keep of it. Left out: the acceleration flag, which changes
+// nothing.
 mod pool;
 
 ghost use mathlib.Core.Path.{_≡_};
@@ -12,12 +13,15 @@ ghost use Prim.Native.Nat.{min, _+_, _≤_, _<_};
 ghost use lib.Dec.{ltb};
 ghost use lib.ListN.{length, replicate, set};
 ghost use Rattle.laws.specs.Copied.{copied};
+ghost use Rattle.laws.specs.Whole.{wholeOut};
 ghost use Rattle.errors.specs.Number.{answerNumber};
 ghost use Rattle.errors.specs.Told.{handed, built};
 ghost use Rattle.memory.specs.Memory.{withSnippet, withSequence};
 ghost use Rattle.calls.specs.Calls.{callsIn, callOf};
 ghost use Rattle.pattern.specs.Calls.{memoryFrom, withBuilt};
-ghost use Rattle.assemble.specs.Lists.{groupsOf, answersOf, buildersOf, builtOf, imageOut, lastPlace, withPlace, firstRefused, strictly, strictOut};
+ghost use Rattle.assemble.specs.Lists.{groupsOf, answersOf, buildersOf, lastPlace, withPlace, firstRefused};
+ghost use Rattle.assemble.specs.Items.{imageItem, strictItem};
+ghost use Rattle.assemble.specs.Strict.{leniently, strictly};
 ghost use Rattle.assemble.specs.Flat.{lessSnippet, lessSequence};
 ghost use Rattle.assemble.specs.Kept.{roomFor, PushedUnless, addedNumber};
 ghost use Rattle.assemble.specs.Holding.{KeepsMemory, StepsSnippets, StepsSequences, StepsMemory};
@@ -69,11 +73,11 @@ pub fn builders(calls: &[u8]) -> Builders
     r.builders
 }
 
-// Builds the image of what the accepted calls added, whatever other calls were refused; it goes to the front of `image`, as much as
-// fits. Answers 0, or the number of the build's refusal, and then `image` stays.
+// Builds the image of what the accepted calls added, whatever other calls were refused; it goes whole to the front of `image`. Answers 0,
+// or the number of the build's refusal, or, where there is none, of BufferTooShort; a refusal leaves `image`.
 pub fn assemble(calls: &[u8], image: &mut [u8]) -> u8
-    ensures answer { λ r. ⌜ r ≡ builtOf (now (calls .entry)) .number ⌝ }
-    ensures image { λ _. ⌜ now (image .exit) ≡ imageOut (builtOf (now (calls .entry))) (now (image .entry)) ⌝ }
+    ensures answer { λ r. ⌜ r ≡ leniently (now (image .entry)) (now (calls .entry)) ⌝ }
+    ensures image { λ _. ⌜ now (image .exit) ≡ wholeOut (now (image .entry)) (imageItem (now (calls .entry))) ⌝ }
 {
     let mut none = [0u8; 0];
     let mut snippets = [0u8; SNIPPETS_KEPT];
@@ -83,10 +87,10 @@ pub fn assemble(calls: &[u8], image: &mut [u8]) -> u8
 }
 
 // Builds the image only if no call is refused. Answers 0, or the number of the first refusal with 256 times the place of its call, counted
-// from 1 (the build's own comes with place 0), and then `image` stays.
+// from 1 (the build's own and BufferTooShort come with place 0); a refusal leaves `image`.
 pub fn assemble_strict(calls: &[u8], image: &mut [u8]) -> u32
-    ensures answer { λ r. ⌜ r ≡ strictly (now (calls .entry)) ⌝ }
-    ensures image { λ _. ⌜ now (image .exit) ≡ strictOut (now (calls .entry)) (now (image .entry)) ⌝ }
+    ensures answer { λ r. ⌜ r ≡ strictly (now (image .entry)) (now (calls .entry)) ⌝ }
+    ensures image { λ _. ⌜ now (image .exit) ≡ wholeOut (now (image .entry)) (strictItem (now (calls .entry))) ⌝ }
 {
     let mut none = [0u8; 0];
     let mut snippets = [0u8; SNIPPETS_KEPT];

@@ -3,11 +3,10 @@
 // image of more is refused. Document 01, 'The hundred bytes'.
 // Proved: `push` puts an item behind the others, `image` tests and lays out what the builder's `build` does.
 ghost use mathlib.Core.Path.{_≡_};
-ghost use mathlib.Core.List.{_∷_, _++_};
 ghost use Prim.Native.Nat.{_+_, _-_, _≤_, _<_};
 ghost use lib.Dec.{ltb};
-ghost use lib.ListN.{length, take, drop, getD, replicate};
-ghost use Rattle.laws.specs.Copied.{copied, over};
+ghost use lib.ListN.{length, getD};
+ghost use Rattle.laws.specs.Copied.{over};
 ghost use Rattle.assemble.specs.Kept.{sumOf, ends, roomFor, Pushed, Fits, imageFrom, KeptBoth, ImageLaid};
 
 // Where the bytes begin, behind the number and the lengths of at most 15 snippets or 16 sequences.
@@ -35,7 +34,7 @@ pub(crate) fn push(list: &mut [u8], most: usize, bytes: &[u8]) -> bool
     true
 }
 
-// Tests no snippets, no sequences, then the size; the image of what is kept goes to the front of the buffer.
+// Tests no snippets, no sequences, then the size; the image of what is kept goes whole to the front of the buffer.
 pub(crate) fn image(snippets: &[u8], sequences: &[u8], buffer: &mut [u8]) -> u8
     requires { ⌜ KeptBoth (now snippets) (now sequences) ⌝ }
     ensures { λ r. ⌜ ImageLaid (now (snippets .entry)) (now (sequences .entry)) (now (buffer .entry)) r (now (buffer .exit)) ⌝ }
@@ -59,8 +58,7 @@ pub(crate) fn image(snippets: &[u8], sequences: &[u8], buffer: &mut [u8]) -> u8
         &sequences[1..1 + q],
         &sequences[SEQUENCE_BYTES..SEQUENCE_BYTES + b],
     );
-    laws::copy_into(buffer, &out);
-    0
+    laws::copy_whole(buffer, &out).number()
 }
 
 // The lengths and the bytes of snippets and sequences as an image, in which they fit.

@@ -5,7 +5,7 @@ use mathlib.Core.Bool.{cond}
 use mathlib.Core.List.{List, [], _∷_}
 use lib.Dec.{ltb}
 use lib.ListN.{length, getD}
-use Rattle.errors.specs.Told.{Told, gives, refuses, onTold, Handed, handed, accepted, refused}
+use Rattle.errors.specs.Told.{Told, gives, refuses, onTold, toldNumber, Handed, handed, accepted, refused}
 use Rattle.snippet.specs.declared.SnippetBuilder.{SnippetBuilder}
 use Rattle.snippet.specs.Snippet.{newSnippet}
 use Rattle.frame.specs.declared.FrameBuilder.{FrameBuilder}
@@ -78,9 +78,6 @@ frameBegun (UnderWay.Begun f) = gives f
 abbrev pub underWay : Told FrameBuilder → UnderWay
 underWay t = onTold t UnderWay.Begun (λ n. UnderWay.NotBegun)
 
-abbrev pub begunNumber : Told FrameBuilder → ℕ
-begunNumber t = onTold t (λ f. 0) (λ n. n)
-
 -- a frame that was accepted is used up
 abbrev pub uses : Builders → Handed SequenceBuilder → Handed Builders
 uses b s = handed (s .number) (builders (b .snippet) (cond (ltb 0 (s .number)) (b .frame) UnderWay.NotBegun) (s .builder))
@@ -90,7 +87,7 @@ abbrev pub called : Builders → BuilderCall → Handed Builders
 called b Call.SnippetNew = accepted (builders newSnippet (b .frame) (b .sequence))
 called b (Call.OnSnippet k) =
     handed (snippetStep (b .snippet) k .number) (builders (snippetStep (b .snippet) k .builder) (b .frame) (b .sequence))
-called b (Call.BeginFrame k) = handed (begunNumber (begunBy k)) (builders (b .snippet) (underWay (begunBy k)) (b .sequence))
+called b (Call.BeginFrame k) = handed (toldNumber (begunBy k)) (builders (b .snippet) (underWay (begunBy k)) (b .sequence))
 called b (Call.OnFrame k) =
     onTold (frameBegun (b .frame))
     (λ f. handed (frameStep f k .number) (builders (b .snippet) (UnderWay.Begun (frameStep f k .builder)) (b .sequence)))

@@ -7,11 +7,11 @@ ghost use mathlib.Core.Path.{_≡_};
 ghost use Prim.Native.Nat.{_+_, _*_};
 ghost use lib.ListN.{drop};
 ghost use Rattle.errors.specs.Number.{answerNumber};
-ghost use Rattle.errors.specs.Told.{handed, accepted, refused};
+ghost use Rattle.errors.specs.Told.{toldNumber, handed, accepted, refused};
 ghost use Rattle.frame.specs.Builder.{newTold};
 ghost use Rattle.pattern.specs.Calls.{frameStep};
 ghost use Rattle.calls.specs.Said as Call;
-ghost use Rattle.calls.specs.Calls.{chosen, firstRecord, callOf, called, calledBy, builders, started, underWay, begunNumber, uses, fieldOf};
+ghost use Rattle.calls.specs.Calls.{chosen, firstRecord, callOf, called, calledBy, builders, started, underWay, uses, fieldOf};
 use errors::Answer;
 use errors::Error;
 use frame::FrameBuilder;
@@ -222,7 +222,7 @@ impl Builders {
 
     fn begin(self, r: NewFrame) -> Stepped
         ensures { λ x. ⌜ handed (x .number) (x .builders)
-            ≡ handed (begunNumber (newTold r)) (builders (self .snippet) (underWay (newTold r)) (self .sequence)) ⌝ }
+            ≡ handed (toldNumber (newTold r)) (builders (self .snippet) (underWay (newTold r)) (self .sequence)) ⌝ }
     {
         match r {
             NewFrame::Builder(f) => self.with_frame(0, UnderWay::Begun(f)),

@@ -2,7 +2,7 @@
 use mathlib.Core.Path.{_≡_, refl}
 use mathlib.Core.Bool.{Bool, true, false, cond}
 use mathlib.Core.List.{List, _++_}
-use Prim.Native.Nat.{ℕ, _+_, _≤_, _<_, min}
+use Prim.Native.Nat.{ℕ, _+_, _≤_, _<_}
 use native.Mathlib.Nat.{min-le-left, min-le-right}
 use native.Mathlib.Omega.{arith}
 use borrow.Author.Tests.{ltb-true, ltb-false}
@@ -25,10 +25,11 @@ use Rattle.calls.specs.declared.UnderWay.the-variants as UnderWay
 use Rattle.pattern.proofs.Snippets.{snippet-holds}
 use Rattle.pattern.proofs.Sequences.{sequence-holds}
 use Rattle.assemble.specs.Lists.{groupsOf, buildersOf}
-use Rattle.assemble.proofs.Strict.{strict}
+use Rattle.assemble.specs.Items.{snippetItem, frameItem, sequenceItem}
+use Rattle.assemble.proofs.Strict.{assembled, strict}
+use Rattle.laws.proofs.Whole.{whole-or-nothing}
 use Rattle.readings.proofs.Telling.{readings-told}
-use Rattle.capi.specs.Items.{fullLength, copiedLength}
-use Rattle.capi.proofs.Words.{itemFrom, frameUnderWay}
+use Rattle.capi.proofs.Words.{itemFrom, frameUnderWay, Few, item-room}
 use Rattle.capi.specs.Telling.{Tells, Telling}
 
 tells : {A : Type 0} (bits : ℕ) (answer : A → Told ℕ) → ((x : A) → Room bits (answer x)) → Tells bits answer
@@ -46,19 +47,13 @@ point-room r t a = go (ltb t 1) (ltb 8 t) (ltb 15 a) refl refl refl where
   go false false true e f g = omega arith
   go false false false e f g = byte r (ltb-false 8 t f) (ltb-false 15 a g)
 
--- an item of few bytes
+-- an item that was built of few bytes
 module _ {I B : Type 0} (bytes : I → List ℕ) (r : Built I B) (few : length (bytes (r .item)) ≤ 96) where
-  full-room : Room 16 (fullLength (itemFrom bytes r))
-  full-room = go (ltb 0 (r .number)) refl where
-    go : (t : Bool) → ltb 0 (r .number) ≡ t → Room 16 (fullLength (cond t (refuses (r .number)) (gives (bytes (r .item)))))
+  few-built : Few (itemFrom bytes r)
+  few-built = go (ltb 0 (r .number)) refl where
+    go : (t : Bool) → ltb 0 (r .number) ≡ t → Few (cond t (refuses (r .number)) (gives (bytes (r .item))))
     go true e = ltb-true 0 (r .number) e
-    go false e = let h : length (bytes (r .item)) < 65536 = omega arith in h
-
-  copied-room : (n : ℕ) → Room 16 (copiedLength n (itemFrom bytes r))
-  copied-room n = go (ltb 0 (r .number)) refl where
-    go : (t : Bool) → ltb 0 (r .number) ≡ t → Room 16 (copiedLength n (cond t (refuses (r .number)) (gives (bytes (r .item)))))
-    go true e = ltb-true 0 (r .number) e
-    go false e = let h : min (length (bytes (r .item))) n < 65536 = omega (arith, min-le-left (length (bytes (r .item))) n) in h
+    go false e = few
 
 snippet-few : (b : SnippetBuilder) → length (b .points) ≡ 16 → length (snippetBytes (builtSnippet b .item)) ≤ 96
 snippet-few b h = go (ltb (b .len) 1) where
@@ -75,27 +70,29 @@ sequence-few b h = go (ltb (b .len) 1) where
   go true = omega arith
   go false = omega (arith, length-take (b .len) (b .«data»), min-le-right (b .len) (length (b .«data»)), h)
 
-frame-room : (n : ℕ) (u : UnderWay) → Room 16 (copiedLength n (frameUnderWay u))
-frame-room n UnderWay.NotBegun = omega arith
-frame-room n (UnderWay.Begun f) =
+frame-few : (u : UnderWay) → Few (frameUnderWay u)
+frame-few UnderWay.NotBegun = omega arith
+frame-few (UnderWay.Begun f) =
     let l : List ℕ = bytesOf f ++ replicate 3 0 in
     let e = length-take (length (bytesOf f)) (take 3 l) in
     let d = length-take 3 l in
-    let h : min (length (frameBytes (builtFrame f))) n < 65536 =
-    omega (arith, e, d, min-le-left (length (frameBytes (builtFrame f))) n, min-le-right (length (bytesOf f)) (length (take 3 l)), min-le-left 3 (length l)) in
-    h
+    omega (arith, e, d, min-le-right (length (bytesOf f)) (length (take 3 l)), min-le-left 3 (length l))
 
 pub telling : Telling
 telling =
     record {
       points = tells 8 _ (λ x. point-room (x .0) (x .1) (x .2));
-      snippets = tells 16 _ (λ calls. full-room snippetBytes (builtSnippet (buildersOf calls .snippet)) (snippet-few (buildersOf calls .snippet) (snippet-holds (groupsOf calls .snippet) .shows .long)));
-      frames = tells 16 _ (λ x. frame-room (x .0) (buildersOf (x .1) .frame));
+      snippets =
+          tells 16 _ (λ x. item-room (x .0) (snippetItem (x .1)) (few-built snippetBytes (builtSnippet (buildersOf (x .1) .snippet)) (snippet-few (buildersOf (x .1) .snippet) (snippet-holds (groupsOf (x .1) .snippet) .shows .long))));
+      frames = tells 16 _ (λ x. item-room (x .0) (frameItem (x .1)) (frame-few (buildersOf (x .1) .frame)));
       sequences =
-          tells 16 _ (λ x. copied-room sequenceBytes (builtSequence (buildersOf (x .1) .sequence)) (sequence-few (buildersOf (x .1) .sequence) (sequence-holds (groupsOf (x .1) .sequence) .long)) (x .0));
+          tells 16 _ (λ x. item-room (x .0) (sequenceItem (x .1)) (few-built sequenceBytes (builtSequence (buildersOf (x .1) .sequence)) (sequence-few (buildersOf (x .1) .sequence) (sequence-holds (groupsOf (x .1) .sequence) .long))));
       counts = tells 16 _ (λ x. readings-told .counts (x .0) (x .1));
+      lists = tells 16 _ (λ x. readings-told .lists (x .1 .0) (x .1 .1) (x .0));
       imagePoints = λ i j. tells 16 _ (λ x. readings-told .point (x .0) (x .1) i j);
       imageFrames = λ i j. tells 56 _ (λ x. readings-told .frame (x .0) (x .1) i j);
       images = readings-told;
+      assembled = assembled;
       strict = strict;
+      whole = whole-or-nothing;
     }

@@ -1,11 +1,16 @@
--- An item where the build was refused with n, and where it was not.
+-- An item where the build was refused with n, and where it was not; how it is answered.
 -- Assumes nothing.
-use mathlib.Core.Path.{_≡_}
+use mathlib.Core.Path.{_≡_, ap, _∙_}
+use mathlib.Core.Bool.{Bool, true, false, cond}
 use mathlib.Core.List.{List}
 use Prim.Native.Nat.{ℕ, _<_, _≤_, min}
+use native.Mathlib.Omega.{arith}
+use lib.Dec.{ltb}
 use lib.ListN.{length}
 use borrow.Author.Tests.{lt-ltb, le-ltb}
 use Rattle.laws.specs.Copied.{copied}
+use Rattle.laws.specs.Whole.{whole, wholeOut, lengthOf}
+use Rattle.errors.specs.Packed.{packed, Room}
 use Rattle.errors.specs.Told.{Told, gives, refuses, onTold, toldBy, Built}
 use Rattle.frame.specs.Frame.{frameBytes, builtFrame}
 use Rattle.calls.specs.declared.UnderWay.{UnderWay}
@@ -24,6 +29,26 @@ module _ {I B : Type 0} (bytes : I → List ℕ) (r : Built I B) (n : ℕ) (e : 
 
   pub built-item : n ≤ 0 → gives (bytes (r .item)) ≡ itemFrom bytes r
   built-item h = simp (← e, le-ltb _ _ h)
+
+-- an item of few bytes, whose length has room in a number, whatever the buffer
+abbrev pub Few : Told (List ℕ) → Type 0
+Few t = onTold t (λ bytes. length bytes ≤ 96) (λ n. 1 ≤ n)
+
+pub item-room : (out : List ℕ) (t : Told (List ℕ)) → Few t → Room 16 (lengthOf (whole out t))
+item-room out (refuses n) h = h
+item-room out (gives bytes) h = go (ltb (length out) (length bytes)) where
+  go : (t : Bool) → Room 16 (lengthOf (cond t (refuses 24) (gives bytes)))
+  go true = omega arith
+  go false = let k : length bytes < 65536 = omega arith in k
+
+-- an item by what it is: how it was refused, and how it was encoded
+module _ (out : List ℕ) {item : Told (List ℕ)} where
+  pub refused-as : {n : ℕ} → refuses n ≡ item → (packed 16 (refuses n) ≡ packed 16 (lengthOf (whole out item))) × (out ≡ wholeOut out item)
+  refused-as e = (ap (λ (t : Told (List ℕ)). packed 16 (lengthOf (whole out t))) e, ap (wholeOut out) e)
+
+  pub encoded-as : {n : ℕ} {told : Told ℕ} {after bytes : List ℕ} → n ≡ packed 16 told → (told ≡ lengthOf (whole out (gives bytes))) × (after ≡ wholeOut out (gives bytes))
+      → gives bytes ≡ item → (n ≡ packed 16 (lengthOf (whole out item))) × (after ≡ wholeOut out item)
+  encoded-as e w k = (e ∙ ap (packed 16) (w .0 ∙ ap (λ (t : Told (List ℕ)). lengthOf (whole out t)) k), w .1 ∙ ap (wholeOut out) k)
 
 -- a list that was copied, by what it is
 pub copied-as : (n : ℕ) (after out bytes l : List ℕ) → bytes ≡ l → (n ≡ min (length bytes) (length out)) × (after ≡ copied out bytes)

@@ -1,3 +1,2 @@
--- The definitions that the contracts of `capi` cite, and the claim that its packed answers are told apart.
-pub mod Items
+-- The claim that the answers of `capi` do not mislead.
 pub mod Telling

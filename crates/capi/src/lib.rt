@@ -2,25 +2,28 @@
 // a counterpart': "The harness in Rust calls functions exported for C on numbers and byte slices". They reach snippet.rs, frame.rs,
 // sequence.rs, registers.rs and, by `assemble`, what memory.rs builds; those of lib.rs are in `capi_driver`.
 // Proved: every one is total, on any bytes and any lengths, and its contract equates the answer and every lent byte with a definition
-// (specs/, and those of the crates it calls). Left out: the functions without an export of their own, which docs/DIFFERENCES.md lists.
+// (in specs/ of the crates it calls); specs/Telling.antt: no answer misleads. Left out: the functions without an export of their own, which docs/DIFFERENCES.md lists.
 ghost use mathlib.Core.Path.{_≡_};
-ghost use mathlib.Core.Bool.{true, false, cond};
 ghost use lib.Dec.{ltb};
 ghost use Prim.Native.Nat.{min};
 ghost use lib.ListN.{length};
-ghost use Rattle.errors.specs.Packed.{packed};
+ghost use Rattle.errors.specs.Number.{encodedTold};
+ghost use Rattle.errors.specs.Packed.{packed, Room};
 ghost use Rattle.snippet.specs.Point.{point, pointTold, rampIn, timebasesIn, amplitudeIn};
 ghost use Rattle.laws.specs.Copied.{copied};
+ghost use Rattle.laws.specs.Whole.{whole, wholeOut, lengthOf};
 ghost use Rattle.calls.specs.Calls.{callsIn};
-ghost use Rattle.assemble.specs.Lists.{answersOf, buildersOf, builtOf, imageOut, strictly, strictOut};
+ghost use Rattle.assemble.specs.Lists.{answersOf, buildersOf};
+ghost use Rattle.assemble.specs.Items.{snippetItem, frameItem, sequenceItem, imageItem, strictItem};
+ghost use Rattle.assemble.specs.Strict.{leniently, strictly};
 ghost use Rattle.content.specs.ReadImage.{readImage};
 ghost use Rattle.readings.specs.Readings.{countsAnswer, pointAnswer, frameAnswer};
-ghost use Rattle.readings.specs.Lists.{listsOut};
+ghost use Rattle.readings.specs.Lists.{listsItem, listsAnswer};
 ghost use Rattle.field.specs.Field.{codeOf};
 ghost use Rattle.field.specs.Layout.{readings, replacements};
 ghost use Rattle.registers.specs.Table.{interrupts, actuator, control, trigger, readOnly, addresses};
-ghost use Rattle.capi.specs.Items.{snippetItem, frameItem, sequenceItem, fullLength, copiedLength, itemOut};
 use calls::UnderWay;
+use errors::Encoded;
 use errors::Error;
 use snippet::PointAnswer;
 use snippet::PwlPoint;
@@ -71,11 +74,22 @@ pub extern "C" fn da728x_point_amplitude(byte: u8) -> u8
     PwlPoint::from_byte(byte).amplitude()
 }
 
-// Builds the snippet and encodes it into the front of `out`; answers its full length.
+// What encoding an item answers as one number.
+fn length_word(r: Encoded) -> u32
+    requires { ⌜ Room 16 (encodedTold r) ⌝ }
+    ensures { λ n. ⌜ n ≡ packed 16 (encodedTold r) ⌝ }
+{
+    match r {
+        Encoded::Whole(n) => n as u32,
+        Encoded::Refused(e) => (e.number() as u32) * REFUSED,
+    }
+}
+
+// Builds the snippet and encodes it into the front of `out`; answers its length, or the refusal, and then `out` stays.
 #[no_mangle]
 pub extern "C" fn da728x_snippet(calls: &[u8], out: &mut [u8]) -> u32
-    ensures answer { λ r. ⌜ r ≡ packed 16 (fullLength (snippetItem (now (calls .entry)))) ⌝ }
-    ensures out { λ _. ⌜ now (out .exit) ≡ itemOut (snippetItem (now (calls .entry))) (now (out .entry)) ⌝ }
+    ensures answer { λ r. ⌜ r ≡ packed 16 (lengthOf (whole (now (out .entry)) (snippetItem (now (calls .entry))))) ⌝ }
+    ensures out { λ _. ⌜ now (out .exit) ≡ wholeOut (now (out .entry)) (snippetItem (now (calls .entry))) ⌝ }
 {
     let b = assemble::builders(calls);
     let s = b.snippet;
@@ -86,28 +100,28 @@ pub extern "C" fn da728x_snippet(calls: &[u8], out: &mut [u8]) -> u32
         return (n as u32) * REFUSED;
     }
     let item = r.snippet;
-    item.encode_into(out) as u32
+    length_word(item.encode_into(out))
 }
 
-// Builds the frame and encodes it into the front of `out`; answers the bytes copied.
+// Builds the frame and encodes it into the front of `out`; answers its length, or the refusal, and then `out` stays.
 #[no_mangle]
 pub extern "C" fn da728x_frame(calls: &[u8], out: &mut [u8]) -> u32
-    ensures answer { λ r. ⌜ r ≡ packed 16 (copiedLength (length (now (out .entry))) (frameItem (now (calls .entry)))) ⌝ }
-    ensures out { λ _. ⌜ now (out .exit) ≡ itemOut (frameItem (now (calls .entry))) (now (out .entry)) ⌝ }
+    ensures answer { λ r. ⌜ r ≡ packed 16 (lengthOf (whole (now (out .entry)) (frameItem (now (calls .entry))))) ⌝ }
+    ensures out { λ _. ⌜ now (out .exit) ≡ wholeOut (now (out .entry)) (frameItem (now (calls .entry))) ⌝ }
 {
     let b = assemble::builders(calls);
     let f = b.frame;
     match f {
         UnderWay::NotBegun => (Error::InvalidSnippetId.number() as u32) * REFUSED,
-        UnderWay::Begun(x) => x.build().encode_into(out) as u32,
+        UnderWay::Begun(x) => length_word(x.build().encode_into(out)),
     }
 }
 
-// Builds the sequence and encodes it into the front of `out`; answers the bytes copied.
+// Builds the sequence and encodes it into the front of `out`; answers its length, or the refusal, and then `out` stays.
 #[no_mangle]
 pub extern "C" fn da728x_sequence(calls: &[u8], out: &mut [u8]) -> u32
-    ensures answer { λ r. ⌜ r ≡ packed 16 (copiedLength (length (now (out .entry))) (sequenceItem (now (calls .entry)))) ⌝ }
-    ensures out { λ _. ⌜ now (out .exit) ≡ itemOut (sequenceItem (now (calls .entry))) (now (out .entry)) ⌝ }
+    ensures answer { λ r. ⌜ r ≡ packed 16 (lengthOf (whole (now (out .entry)) (sequenceItem (now (calls .entry))))) ⌝ }
+    ensures out { λ _. ⌜ now (out .exit) ≡ wholeOut (now (out .entry)) (sequenceItem (now (calls .entry))) ⌝ }
 {
     let b = assemble::builders(calls);
     let q = b.sequence;
@@ -118,7 +132,7 @@ pub extern "C" fn da728x_sequence(calls: &[u8], out: &mut [u8]) -> u32
         return (n as u32) * REFUSED;
     }
     let item = r.sequence;
-    item.encode_into(out) as u32
+    length_word(item.encode_into(out))
 }
 
 // How many bytes the sequence under construction has.
@@ -143,8 +157,8 @@ pub extern "C" fn da728x_answers(calls: &[u8], answers: &mut [u8]) -> usize
 // Builds the image of what the accepted calls added.
 #[no_mangle]
 pub extern "C" fn da728x_assemble(calls: &[u8], image: &mut [u8]) -> u8
-    ensures answer { λ r. ⌜ r ≡ builtOf (now (calls .entry)) .number ⌝ }
-    ensures image { λ _. ⌜ now (image .exit) ≡ imageOut (builtOf (now (calls .entry))) (now (image .entry)) ⌝ }
+    ensures answer { λ r. ⌜ r ≡ leniently (now (image .entry)) (now (calls .entry)) ⌝ }
+    ensures image { λ _. ⌜ now (image .exit) ≡ wholeOut (now (image .entry)) (imageItem (now (calls .entry))) ⌝ }
 {
     assemble::assemble(calls, image)
 }
@@ -152,8 +166,8 @@ pub extern "C" fn da728x_assemble(calls: &[u8], image: &mut [u8]) -> u8
 // Builds the image if no call is refused.
 #[no_mangle]
 pub extern "C" fn da728x_assemble_strict(calls: &[u8], image: &mut [u8]) -> u32
-    ensures answer { λ r. ⌜ r ≡ strictly (now (calls .entry)) ⌝ }
-    ensures image { λ _. ⌜ now (image .exit) ≡ strictOut (now (calls .entry)) (now (image .entry)) ⌝ }
+    ensures answer { λ r. ⌜ r ≡ strictly (now (image .entry)) (now (calls .entry)) ⌝ }
+    ensures image { λ _. ⌜ now (image .exit) ≡ wholeOut (now (image .entry)) (strictItem (now (calls .entry))) ⌝ }
 {
     assemble::assemble_strict(calls, image)
 }
@@ -185,8 +199,8 @@ pub extern "C" fn da728x_read_frame(image: &[u8], i: usize, j: usize) -> u64
 // All lists of an image.
 #[no_mangle]
 pub extern "C" fn da728x_read_lists(image: &[u8], lists: &mut [u8]) -> u32
-    ensures answer { λ r. ⌜ r ≡ packed 16 (countsAnswer (readImage (now (image .entry)))) ⌝ }
-    ensures lists { λ _. ⌜ now (lists .exit) ≡ listsOut (readImage (now (image .entry))) (now (lists .entry)) ⌝ }
+    ensures answer { λ r. ⌜ r ≡ packed 16 (listsAnswer (now (lists .entry)) (readImage (now (image .entry)))) ⌝ }
+    ensures lists { λ _. ⌜ now (lists .exit) ≡ wholeOut (now (lists .entry)) (listsItem (readImage (now (image .entry)))) ⌝ }
 {
     readings::lists(image, lists)
 }

@@ -3,11 +3,12 @@ use Prim.Native.Nat.{ℕ, _-_, _≤_}
 use native.Mathlib.Omega.{arith}
 use mathlib.Core.Path.{_≡_, refl, sym, ap, _∙_}
 use mathlib.Core.Bool.{Bool, cond}
-use mathlib.Core.List.{List, [], _++_, append-nil}
-use lib.ListN.{length, take, drop, replicate, drop-of-length-le}
+use mathlib.Core.List.{List, _++_}
+use lib.ListN.{length, drop, replicate}
 use lib.Seq.{take-all}
 use borrow.Author.Tests.{eq-eqb, ne-eqb}
 use Rattle.laws.specs.Copied.{copied}
+use Rattle.laws.proofs.Copies.{copied-all}
 use Rattle.exchange.proofs.Laid.{drop-replicate}
 use Rattle.da728x.specs.declared.DA728x.{DA728x}
 use Rattle.da728x.specs.Record.{recordBytes}
@@ -15,17 +16,10 @@ use Rattle.da728x.proofs.Kept.{record-length}
 use Rattle.outcome.specs.declared.Change.the-variants.{To}
 use Rattle.capi_driver.specs.Words.{recordOut}
 
--- bytes as long as the buffer are all of it
-all-copied : (l bytes : List ℕ) → length bytes ≡ length l → copied l bytes ≡ bytes
-all-copied l bytes e =
-    ap (λ (x : List ℕ). x ++ drop (length bytes) l) (take-all (length l) bytes (omega (arith, e)))
-    ∙ ap (λ (x : List ℕ). bytes ++ x) (drop-of-length-le l {i = length bytes} (omega (arith, e)))
-    ∙ append-nil bytes
-
 pub written : (l now : List ℕ) (r : DA728x) {bytes : List ℕ} → length l ≡ 37 → now ≡ copied l bytes → bytes ≡ recordBytes r → now ≡ recordOut l (To r)
 written l now r {bytes} e h k =
     let f : length bytes ≡ length l = ap length k ∙ record-length r ∙ sym e in
-    h ∙ all-copied l bytes f ∙ k ∙ ap (λ (b : Bool). cond b (recordBytes r) l) (sym (eq-eqb (length l) 37 e))
+    h ∙ copied-all l bytes f ∙ k ∙ ap (λ (b : Bool). cond b (recordBytes r) l) (sym (eq-eqb (length l) 37 e))
 
 pub unwritten : (l : List ℕ) (r : DA728x) → (length l ≡ 37 → ⊥) → l ≡ recordOut l (To r)
 unwritten l r h = ap (λ (b : Bool). cond b (recordBytes r) l) (sym (ne-eqb (length l) 37 h))

@@ -1,5 +1,6 @@
 -- What an operation comes to, case by case, as the proofs of the functions need it. Assumes nothing.
-use Prim.Native.Nat.{ℕ, suc, _<_, _≤_}
+use Prim.Native.Nat.{ℕ, zero, suc, _<_, _≤_}
+use native.Mathlib.Omega.{arith}
 use mathlib.Core.Path.{_≡_, refl, sym, ap, _∙_}
 use mathlib.Core.Bool.{Bool, true, false, cond, not, _&&_}
 use mathlib.Core.List.{List, [], _∷_}
@@ -7,8 +8,8 @@ use lib.Dec.{ltb, eqb}
 use lib.IntN.{ℤ}
 use borrow.Author.Tests.{lt-ltb, le-ltb}
 use Rattle.errors.specs.declared.Error.{Error}
-use Rattle.errors.specs.declared.Error.the-variants as Error
 use Rattle.errors.specs.Number.{errorNumber}
+use Rattle.errors.proofs.Numbers.{has-number}
 use Rattle.config.specs.declared.ActuatorConfig.{ActuatorConfig}
 use Rattle.config.specs.declared.DeviceConfig.{DeviceConfig}
 use Rattle.config.specs.declared.OperationMode.{OperationMode}
@@ -47,27 +48,10 @@ passes b n cs s e = ap (λ (x : Bool). unless (cond x n (firstFailing cs)) s) e
 
 -- every error has a number
 pub refused : (e : Error) (n : ℕ) (s : Start) → errorNumber e ≡ n → unless n s ≡ declines (errorNumber e)
-refused e n s h = ap (λ (k : ℕ). unless k s) (sym h) ∙ go e where
-  go : (x : Error) → unless (errorNumber x) s ≡ declines (errorNumber x)
-  go Error.InvalidTimebase = refl
-  go Error.InvalidAmplitude = refl
-  go Error.InvalidSnippetId = refl
-  go Error.InvalidLoopCount = refl
-  go Error.InvalidFrequency = refl
-  go Error.TooManySnippets = refl
-  go Error.TooManySequences = refl
-  go Error.WaveformMemoryFull = refl
-  go Error.EmptySnippet = refl
-  go Error.EmptySequence = refl
-  go Error.InvalidValue = refl
-  go Error.WrongMode = refl
-  go Error.MissingTriggerConfigInEtwmMode = refl
-  go Error.NotSupported = refl
-  go Error.NotConfigured = refl
-  go Error.VariantMismatch = refl
-  go (Error.I2c code) = refl
-  go Error.NotAnImage = refl
-  go Error.OutOfTurn = refl
+refused e n s h = ap (λ (k : ℕ). unless k s) (sym h) ∙ go (errorNumber e) (has-number e) where
+  go : (k : ℕ) → 1 ≤ k → unless k s ≡ declines k
+  go zero o = absurd (omega arith)
+  go (suc k) o = refl
 
 -- a record with these settings
 abbrev pub configured : DA728x → ActuatorConfig → DeviceConfig → DA728x

@@ -1,9 +1,12 @@
--- The numbers of the refusals: document 01, 'Who can cause which answer'.
+-- The numbers of the refusals: document 01, 'Who can cause which answer', and document 02, "join 01's list".
 use Prim.Native.Nat.{ℕ}
+use Rattle.errors.specs.Told.{Told, gives, refuses}
 use Rattle.errors.specs.declared.Error.{Error}
 use Rattle.errors.specs.declared.Error.the-variants as Error
 use Rattle.errors.specs.declared.Answer.{Answer}
 use Rattle.errors.specs.declared.Answer.the-variants as Answer
+use Rattle.errors.specs.declared.Encoded.{Encoded}
+use Rattle.errors.specs.declared.Encoded.the-variants as Encoded
 
 -- its number, and "17 I2c, with the bus's own failure code (one byte) handed through"; any other has code 0
 abbrev pub numberAndCode : Error → ℕ × ℕ
@@ -30,8 +33,9 @@ numberAndCode Error.VariantMismatch = (16, 0)
 numberAndCode (Error.I2c code) = (17, code)
 -- whoever hands in an image to read
 numberAndCode Error.NotAnImage = (18, 0)
--- the calling program
+-- the calling program; document 02: "A buffer shorter than the item is refused with 24"
 numberAndCode Error.OutOfTurn = (19, 0)
+numberAndCode Error.BufferTooShort = (24, 0)
 
 abbrev pub errorNumber : Error → ℕ
 errorNumber e = numberAndCode e .0
@@ -44,3 +48,8 @@ answerNumber (Answer.Refused e) = errorNumber e
 abbrev pub busCode : Answer → ℕ
 busCode Answer.Done = 0
 busCode (Answer.Refused e) = numberAndCode e .1
+
+-- the length of an item that was copied, or the refusal
+abbrev pub encodedTold : Encoded → Told ℕ
+encodedTold (Encoded.Whole n) = gives n
+encodedTold (Encoded.Refused e) = refuses (errorNumber e)

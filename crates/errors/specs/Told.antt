@@ -1,10 +1,10 @@
--- What a call that can refuse comes to, in document 01's numbers: the form in which its contract says the answer. "When an answer is an
+-- What a call that can refuse comes to, in the numbers of document 01 and 02: the form in which its contract says the answer. "When an answer is an
 -- enum, a definition gives this paper's number and values for each of its cases" ('Which form goes where').
 use Prim.Native.Nat.{ℕ}
 use mathlib.Core.Bool.{cond}
 use lib.Dec.{ltb}
 
--- a value, or the number of the refusal, 1 to 19
+-- a value, or the number of the refusal
 pub data Told (A : Type 0) : Type 0 where
   gives : A → Told A
   refuses : ℕ → Told A
@@ -14,7 +14,11 @@ abbrev pub onTold {ℓ} : {A : Type 0} {B : Type ℓ} → Told A → (A → B) �
 onTold (gives a) value refusal = value a
 onTold (refuses n) value refusal = refusal n
 
--- a value beside the number of its call
+-- the number alone, 0 for a value
+abbrev pub toldNumber : {A : Type 0} → Told A → ℕ
+toldNumber t = onTold t (λ a. 0) (λ n. n)
+
+-- the value where the number is 0, else the refusal
 abbrev pub toldBy : {A : Type 0} → ℕ → A → Told A
 toldBy n a = cond (ltb 0 n) (refuses n) (gives a)
 

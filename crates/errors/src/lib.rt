@@ -1,9 +1,10 @@
-// The refusals (errors.rs), each with document 01's number ('Who can cause which answer').
-// The Rust's names; `Gpio` is left out, since no ported operation drives a pin; `NotAnImage` and `OutOfTurn` are added.
+// The refusals (errors.rs), each with document 01's number ('Who can cause which answer') or document 02's.
+// The Rust's names; `Gpio` is left out, since no ported operation drives a pin; `NotAnImage`, `OutOfTurn` and `BufferTooShort` are added.
 // `I2c` carries the bus's own failure code. Proved: `number` is document 01's list, `bus_code` that code (specs/Number.antt). Left out:
 // the texts for printing.
 ghost use mathlib.Core.Path.{_≡_};
-ghost use Rattle.errors.specs.Number.{numberAndCode, errorNumber, answerNumber, busCode};
+ghost use Rattle.errors.specs.Number.{numberAndCode, errorNumber, answerNumber, busCode, encodedTold};
+ghost use Rattle.errors.specs.Told.{toldNumber};
 
 pub enum Error {
     I2c(u8),
@@ -25,11 +26,18 @@ pub enum Error {
     EmptySequence,
     NotAnImage,
     OutOfTurn,
+    BufferTooShort,
 }
 
 // What a builder's call answers beside the builder.
 pub enum Answer {
     Done,
+    Refused(Error),
+}
+
+// What copying a whole item into a lent buffer answers: the item's length.
+pub enum Encoded {
+    Whole(usize),
     Refused(Error),
 }
 
@@ -58,6 +66,7 @@ impl Error {
             Error::VariantMismatch => 0,
             Error::NotAnImage => 0,
             Error::OutOfTurn => 0,
+            Error::BufferTooShort => 0,
         }
     }
 
@@ -84,6 +93,7 @@ impl Error {
             Error::I2c(_) => 17,
             Error::NotAnImage => 18,
             Error::OutOfTurn => 19,
+            Error::BufferTooShort => 24,
         }
     }
 }
@@ -106,6 +116,18 @@ impl Answer {
         match self {
             Answer::Done => 0,
             Answer::Refused(e) => e.number(),
+        }
+    }
+}
+
+impl Encoded {
+    // The refusal's number, or 0.
+    pub fn number(self) -> u8
+        ensures { λ r. ⌜ r ≡ toldNumber (encodedTold self) ⌝ }
+    {
+        match self {
+            Encoded::Whole(_) => 0,
+            Encoded::Refused(e) => e.number(),
         }
     }
 }

@@ -8,17 +8,18 @@
 mod bits;
 
 ghost use mathlib.Core.Path.{_≡_};
-ghost use Prim.Native.Nat.{min, _%_, _+_, _^_, _≤_, _<_};
+ghost use Prim.Native.Nat.{_%_, _+_, _^_, _≤_, _<_};
 ghost use lib.ListN.{length, drop};
-ghost use Rattle.laws.specs.Copied.{copied};
-ghost use Rattle.errors.specs.Number.{answerNumber};
-ghost use Rattle.errors.specs.Told.{handed};
+ghost use Rattle.laws.specs.Whole.{whole, wholeOut, lengthOf};
+ghost use Rattle.errors.specs.Number.{answerNumber, encodedTold};
+ghost use Rattle.errors.specs.Told.{gives, handed};
 ghost use Rattle.frame.specs.Builder.{frameWith, plainFrame, silentFrame, newFrame, newTold};
 ghost use Rattle.frame.specs.Builder.{withGain, withTimebase, withLoopCount, withFrequency};
 ghost use Rattle.frame.specs.Read.{gainAt, timebaseAt, fieldsIn, oneByte, twoBytes, threeBytes, secondAt, firstFrame, readTold};
 ghost use Rattle.frame.specs.Frame.{gainCode, timebaseCode, onLoop, onFrequency, frameBytes, builtFrame};
 ghost use Rattle.frame.specs.Word.{frameWord};
 use errors::Answer;
+use errors::Encoded;
 use errors::Error;
 
 pub enum Gain {
@@ -143,14 +144,14 @@ impl Frame {
         self.bytes
     }
 
-    // Copies as much as fits, and answers the bytes copied.
-    pub fn encode_into(self, buffer: &mut [u8]) -> usize
-        ensures { λ r. ⌜ r ≡ min (length (frameBytes self)) (length (now (buffer .entry))) ⌝ }
-        ensures { λ _. ⌜ now (buffer .exit) ≡ copied (now (buffer .entry)) (frameBytes self) ⌝ }
+    // Copies all bytes and answers how many, or copies none and answers BufferTooShort.
+    pub fn encode_into(self, buffer: &mut [u8]) -> Encoded
+        ensures { λ r. ⌜ encodedTold r ≡ lengthOf (whole (now (buffer .entry)) (gives (frameBytes self))) ⌝ }
+        ensures { λ _. ⌜ now (buffer .exit) ≡ wholeOut (now (buffer .entry)) (gives (frameBytes self)) ⌝ }
     {
         let bytes = self.bytes;
         let n = self.byte_len();
-        laws::copy_into(buffer, &bytes[..n])
+        laws::copy_whole(buffer, &bytes[..n])
     }
 }
 

@@ -26,6 +26,14 @@ paste-copied d xs k e = ap (λ (j : ℕ). take k xs ++ drop j d) (zero-add k) �
       ap (λ (j : ℕ). take j xs ++ drop j d) f
       ∙ ap (λ (l : List ℕ). take (length d) xs ++ l) (drop-of-length-le d (le-refl (length d)) ∙ sym (drop-of-length-le d g))
 
+-- what fits is copied whole, and all of a buffer that is as long
+pub copied-fits : (d xs : List ℕ) → length xs ≤ length d → copied d xs ≡ xs ++ drop (length xs) d
+copied-fits d xs h = ap (λ (l : List ℕ). l ++ drop (length xs) d) (take-all (length d) xs h)
+
+pub copied-all : (d xs : List ℕ) → length xs ≡ length d → copied d xs ≡ xs
+copied-all d xs e =
+    copied-fits d xs (omega (arith, e)) ∙ ap (λ (l : List ℕ). xs ++ l) (drop-of-length-le d {i = length xs} (omega (arith, e))) ∙ append-nil xs
+
 -- what fits from an index on, copied there, is laid over the list
 pub copied-over : (d xs : List ℕ) (at : ℕ) → at + length xs ≤ length d → take at d ++ copied (drop at d) xs ≡ over d at xs
 copied-over d xs at h =

@@ -1,5 +1,5 @@
--- What a lent buffer holds after bytes were copied into it: document 01, 'Points, frames, sequences', "copies as much as fits and leaves
--- the buffer's other bytes".
+-- What a buffer holds after as many bytes as fit were copied into it: the answers to a list of calls, the register listings and the bytes of
+-- an exchange, and what a function keeps for itself. An item goes into a lent buffer whole or not at all: Whole.antt.
 use Prim.Native.Nat.{ℕ, _+_}
 use mathlib.Core.List.{List, _++_}
 use lib.ListN.{length, take, drop}

@@ -1,11 +1,16 @@
-// Copying bytes into a lent buffer, which every `encode_into` of waveform/*.rs and every exported function does through `copy_into`,
-// and (in proofs/) the laws that several crates cite: tests computed over all small numbers, lists that show a part of an array.
-// Document 01, 'Points, frames, sequences': "copies as much as fits and leaves the buffer's other bytes".
-// Proved: `copy_into` leaves what specs/Copied.antt says, for any buffer and any bytes, and answers how many were copied.
+// Copying bytes into a lent buffer: `copy_whole` for items, images and listings (every `encode_into` of waveform/*.rs), `copy_into` where
+// as much is copied as fits; and (in proofs/) the laws that several crates cite: tests computed over all small numbers, lists that show a
+// part of an array. Document 02, CR 5: "copy the whole item and answer its length, or copy nothing".
+// Proved: they leave and answer what specs/Whole.antt and specs/Copied.antt say, for any buffer and any bytes; `WholeOrNothing`.
 ghost use mathlib.Core.Path.{_≡_};
 ghost use Prim.Native.Nat.{min, _<_};
 ghost use lib.ListN.{length};
+ghost use Rattle.errors.specs.Told.{gives};
+ghost use Rattle.errors.specs.Number.{encodedTold};
 ghost use Rattle.laws.specs.Copied.{copied, placed};
+ghost use Rattle.laws.specs.Whole.{whole, wholeOut, lengthOf};
+use errors::Encoded;
+use errors::Error;
 
 // The smaller of two lengths.
 fn least(a: usize, b: usize) -> usize
@@ -26,6 +31,17 @@ pub fn copy_into(buffer: &mut [u8], bytes: &[u8]) -> usize
         i += 1;
     }
     n
+}
+
+// Copies all bytes, or none where the buffer is shorter.
+pub fn copy_whole(buffer: &mut [u8], bytes: &[u8]) -> Encoded
+    ensures { λ r. ⌜ encodedTold r ≡ lengthOf (whole (now (buffer .entry)) (gives (now (bytes .entry)))) ⌝ }
+    ensures { λ _. ⌜ now (buffer .exit) ≡ wholeOut (now (buffer .entry)) (gives (now (bytes .entry))) ⌝ }
+{
+    if buffer.len() < bytes.len() {
+        return Encoded::Refused(Error::BufferTooShort);
+    }
+    Encoded::Whole(copy_into(buffer, bytes))
 }
 
 // Copies as much of the bytes as fits from an index on.

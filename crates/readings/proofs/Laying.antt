@@ -15,9 +15,8 @@ use Rattle.frame.specs.Word.{frameWord}
 use Rattle.reader.specs.Reading.{padded}
 use Rattle.readings.specs.Lists.{wordBytes, wordsBytes}
 use Rattle.laws.specs.Copied.{placed}
+use Rattle.laws.proofs.Copies.{copied-all}
 use Rattle.laws.specs.Lists.{lowBytes}
-
--- ---- bytes copied into a part that is put back
 
 -- ---- one part behind the other
 
@@ -87,10 +86,11 @@ words-all fs i n h g k = take-all i fs (omega arith) ∙ sym (take-all n fs (ome
 
 -- ---- the four parts
 
-pub laid : (l a b c d m₁ m₂ m₃ m₄ : List ℕ) → length a ≡ 96 → length b ≡ 15 → length c ≡ 576
-    → m₁ ≡ placed l 0 a → m₂ ≡ placed m₁ 96 b → m₃ ≡ placed m₂ 111 c → m₄ ≡ placed m₃ 687 d → m₄ ≡ copied l (a ++ b ++ c ++ d)
-laid l a b c d m₁ m₂ m₃ m₄ na nb nc e₁ e₂ e₃ e₄ =
+pub laid : (l a b c d m₁ m₂ m₃ m₄ : List ℕ) → length l ≡ 703 → length a ≡ 96 → length b ≡ 15 → length c ≡ 576 → length d ≡ 16
+    → m₁ ≡ placed l 0 a → m₂ ≡ placed m₁ 96 b → m₃ ≡ placed m₂ 111 c → m₄ ≡ placed m₃ 687 d → m₄ ≡ a ++ b ++ c ++ d
+laid l a b c d m₁ m₂ m₃ m₄ nl na nb nc nd e₁ e₂ e₃ e₄ =
     let k = length-append a b in
     let p₂ = e₂ ∙ placed-behind m₁ l a b 96 e₁ (sym na) in
     let p₃ = e₃ ∙ placed-behind m₂ l (a ++ b) c 111 p₂ (omega arith) in
-    e₄ ∙ placed-behind m₃ l (a ++ b ++ c) d 687 p₃ (omega (arith, length-append (a ++ b) c))
+    let n = length-append (a ++ b) c in
+    e₄ ∙ placed-behind m₃ l (a ++ b ++ c) d 687 p₃ (omega arith) ∙ copied-all l (a ++ b ++ c ++ d) (omega (arith, length-append (a ++ b ++ c) d))

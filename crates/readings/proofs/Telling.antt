@@ -1,16 +1,20 @@
 -- Images that are answered alike are read alike: what is answered gives back the lists, and those the image.
 -- Assumes nothing.
 use mathlib.Core.Path.{_≡_, refl, sym, ap, _∙_, subst}
-use mathlib.Core.List.{List, [], _∷_, _++_, map, append-nil}
+use mathlib.Core.Bool.{Bool, true, false, cond}
+use mathlib.Core.List.{List, [], _∷_, _++_, map}
 use mathlib.Core.Option.{Option, none, some}
 use Prim.Native.Nat.{ℕ, zero, suc, _+_, _-_, _*_, _^_, _≤_, _<_}
 use native.Mathlib.Omega.{arith}
-use lib.ListN.{length, take, drop, replicate, getElem?, length-append, length-map, length-replicate, drop-of-length-le}
-use lib.Seq.{take-all, take-at, drop-at}
+use borrow.Author.Tests.{lt-ltb, le-ltb}
+use lib.Dec.{ltb}
+use lib.ListN.{length, take, drop, replicate, getElem?, length-append, length-map, length-replicate}
+use lib.Seq.{take-at, drop-at}
 use Rattle.laws.proofs.Lists.{all-append, all-map}
 use Rattle.laws.specs.Bytes.{All, Bytes}
-use Rattle.laws.specs.Copied.{copied}
+use Rattle.laws.specs.Whole.{wholeOut}
 use Rattle.laws.specs.Lists.{joined}
+use Rattle.errors.specs.Told.{Told, gives, refuses, onTold}
 use Rattle.errors.specs.Packed.{packed, Room}
 use Rattle.errors.proofs.Packed.{packed-apart}
 use Rattle.frame.specs.declared.FrameBuilder.{FrameBuilder}
@@ -32,7 +36,7 @@ use Rattle.reader.proofs.Cuts.{lastOf}
 use Rattle.reader.proofs.Flats.{flatOf, shows}
 use Rattle.readings.specs.Readings.{countsAnswer, pointAnswer, frameAnswer, byteCode}
 use Rattle.readings.proofs.Codes.{pointCode, frameCode}
-use Rattle.readings.specs.Lists.{wordsBytes, listsOf, listsOut}
+use Rattle.readings.specs.Lists.{wordsBytes, listsOf, listsItem, listsAnswer}
 use Rattle.readings.specs.Telling.{Alike, ReadingsTold}
 use Rattle.readings.proofs.Laying.{words-length}
 use Rattle.readings.proofs.Words.{word-small, word-told, words-told}
@@ -193,12 +197,6 @@ same-readings l k hl hk = go (readImage l) (readImage k) refl refl where
 
 -- ---- all lists at once
 
-copied-whole : (out b : List ℕ) → length b ≡ length out → copied out b ≡ b
-copied-whole out b n =
-    ap (λ (l : List ℕ). l ++ drop (length b) out) (take-all (length out) b (omega arith))
-    ∙ ap (λ (l : List ℕ). b ++ l) (drop-of-length-le out {i = length b} (omega arith))
-    ∙ append-nil b
-
 -- lists whose fronts are equally long
 same-parts : {A : Type 0} (a b x y : List A) (n : ℕ) → length a ≡ n → length b ≡ n → a ++ x ≡ b ++ y → (a ≡ b) × (x ≡ y)
 same-parts a b x y n p q e = (sym (take-at a x n p) ∙ ap (take n) e ∙ take-at b y n q, sym (drop-at a x n p) ∙ ap (drop n) e ∙ drop-at b y n q)
@@ -290,23 +288,57 @@ lists-told l k c d a b n e =
     (laid-told 0 15 xs ys (length-map (c .snippets) pointBytes ∙ m .0 ∙ sym (length-map (d .snippets) pointBytes)) (r .0) (r .1))
     (laid-told silentFrame 16 (c .sequences) (d .sequences) (m .1) (ap (padded 96 silentFrame) same) (p .1))
 
-lists-length : (l out : List ℕ) (c : Content) → Held l c → length out ≡ 703 → length (listsOf c) ≡ length out
+lists-length : (l : List ℕ) (c : Content) → Held l c → length (listsOf c) ≡ 703
 unfolding listsOf
-lists-length l out c a h = lengths l c a .all ∙ sym h
+lists-length l c a = lengths l c a .all
 
-same-lists : (l k out : List ℕ) → Bytes l → Bytes k → length out ≡ 703 → Alike 16 countsAnswer l k
-    → listsOut (readImage l) out ≡ listsOut (readImage k) out → readImage l ≡ readImage k
+-- an image's lists in a buffer
+module _ (l : List ℕ) (out : List ℕ) (c : Content) (a : Held l c) where
+  listed : 703 ≤ length out → (listsAnswer out (some c) ≡ countsAnswer (some c)) × (wholeOut out (listsItem (some c)) ≡ listsOf c ++ drop 703 out)
+  listed h =
+      let n = lists-length l c a in
+      let t = le-ltb (length out) (length (listsOf c)) (omega (arith, n, h)) in
+      (simp t, simp t (ap (λ (k : ℕ). listsOf c ++ drop k out) n))
+
+  short : length out < 703 → (listsAnswer out (some c) ≡ refuses 24) × (wholeOut out (listsItem (some c)) ≡ out)
+  short h = let t = lt-ltb (length out) (length (listsOf c)) (omega (arith, lists-length l c a, h)) in (simp t, simp t)
+
+lists-fit : (l : List ℕ) → Bytes l → (out : List ℕ) → Room 16 (listsAnswer out (readImage l))
+lists-fit l h out = go (readImage l) (counts-fit l h) where
+  two : (bytes : List ℕ) (c : Told ℕ) → Room 16 c → (t : Bool) → Room 16 (onTold (cond {A = Told (List ℕ)} t (refuses 24) (gives bytes)) (λ b. c) refuses)
+  two bytes c r true = omega arith
+  two bytes c r false = r
+
+  go : (o : Option Content) → Room 16 (countsAnswer o) → Room 16 (listsAnswer out o)
+  go none r = r
+  go (some c) r = two (listsOf c) (countsAnswer (some c)) r (ltb (length out) (length (listsOf c)))
+
+same-lists : (l k out : List ℕ) → Bytes l → Bytes k → 703 ≤ length out → Alike 16 (listsAnswer out) l k
+    → wholeOut out (listsItem (readImage l)) ≡ wholeOut out (listsItem (readImage k)) → readImage l ≡ readImage k
 same-lists l k out hl hk full = go (readImage l) (readImage k) refl refl where
-  go : (o p : Option Content) → readImage l ≡ o → readImage k ≡ p → packed 16 (countsAnswer o) ≡ packed 16 (countsAnswer p) → listsOut o out ≡ listsOut p out
+  go : (o p : Option Content) → readImage l ≡ o → readImage k ≡ p → packed 16 (listsAnswer out o) ≡ packed 16 (listsAnswer out p) → wholeOut out (listsItem o) ≡ wholeOut out (listsItem p)
       → readImage l ≡ readImage k
   go none none e f n u = e ∙ sym f
-  go none (some d) e f n u = not-refused k d (held k d hk f) n
-  go (some c) none e f n u = not-refused l c (held l c hl e) (sym n)
+  go none (some d) e f n u = let b = held k d hk f in not-refused k d b (n ∙ ap (packed 16) (listed k out d b full .0))
+  go (some c) none e f n u = let a = held l c hl e in not-refused l c a (sym n ∙ ap (packed 16) (listed l out c a full .0))
   go (some c) (some d) e f n u =
       let a = held l c hl e in
       let b = held k d hk f in
-      lists-told l k c d a b n
-      (sym (copied-whole out (listsOf c) (lists-length l out c a full)) ∙ u ∙ copied-whole out (listsOf d) (lists-length k out d b full))
+      let x = listed l out c a full in
+      let y = listed k out d b full in
+      lists-told l k c d a b (sym (ap (packed 16) (x .0)) ∙ n ∙ ap (packed 16) (y .0))
+      (same-parts (listsOf c) (listsOf d) (drop 703 out) (drop 703 out) 703 (lists-length l c a) (lists-length k d b) (sym (x .1) ∙ u ∙ y .1) .0)
 
 pub readings-told : ReadingsTold
-readings-told = record { counts = counts-fit; point = point-fit; frame = frame-fit; readings = same-readings; lists = same-lists }
+readings-told =
+    record {
+      counts = counts-fit;
+      point = point-fit;
+      frame = frame-fit;
+      lists = lists-fit;
+      readings = same-readings;
+      listings = same-lists;
+      listed = λ l h out c e. listed l out c (held l c h e);
+      short = λ l h out c e. short l out c (held l c h e);
+      unread = λ out. (refl, refl);
+    }

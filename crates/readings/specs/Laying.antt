@@ -1,8 +1,7 @@
 -- The bytes of all lists, laid part by part as the code does it; only private contracts cite this.
 use Prim.Native.Nat.{ℕ}
 use mathlib.Core.List.{List, _++_}
-use lib.ListN.{take, drop}
-use Rattle.laws.specs.Copied.{copied}
+use lib.ListN.{take}
 use Rattle.reader.specs.declared.Points.{Points}
 use Rattle.reader.specs.declared.Frames.{Frames}
 use Rattle.reader.specs.Reading.{padded}

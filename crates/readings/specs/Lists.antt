@@ -3,14 +3,16 @@
 use Prim.Native.Nat.{ℕ}
 use mathlib.Core.List.{List, _++_, map}
 use mathlib.Core.Option.{Option}
-use Rattle.laws.specs.Copied.{copied}
+use Rattle.laws.specs.Whole.{whole}
 use Rattle.laws.specs.Lists.{joined, lowBytes}
+use Rattle.errors.specs.Told.{Told, gives, refuses, onTold}
 use Rattle.frame.specs.declared.FrameBuilder.{FrameBuilder}
 use Rattle.frame.specs.Word.{frameWord}
 use Rattle.memory.specs.Image.{endPointers}
 use Rattle.content.specs.Content.{Content, pointBytes}
 use Rattle.content.specs.ReadImage.{onOption}
 use Rattle.reader.specs.Reading.{padded}
+use Rattle.readings.specs.Readings.{countsAnswer}
 
 -- a frame in six bytes
 unfoldable pub wordBytes : FrameBuilder → List ℕ
@@ -26,6 +28,10 @@ listsOf c =
     padded 96 0 (joined (map pointBytes (c .snippets))) ++ padded 15 0 (endPointers 0 (map pointBytes (c .snippets)))
     ++ padded 576 0 (wordsBytes (joined (c .sequences))) ++ padded 16 0 (endPointers 0 (c .sequences))
 
--- the lent buffer after it: as it was, where the bytes are no image
-abbrev pub listsOut : Option Content → List ℕ → List ℕ
-listsOut o out = onOption o out (λ c. copied out (listsOf c))
+-- all lists of what was read, or NotAnImage
+abbrev pub listsItem : Option Content → Told (List ℕ)
+listsItem o = onOption o (refuses 18) (λ c. gives (listsOf c))
+
+-- what is answered where this buffer is lent: the counts, if it has room for the lists, else the refusal
+abbrev pub listsAnswer : List ℕ → Option Content → Told ℕ
+listsAnswer buffer o = onTold (whole buffer (listsItem o)) (λ bytes. countsAnswer o) refuses

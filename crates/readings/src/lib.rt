@@ -6,7 +6,7 @@
 ghost use mathlib.Core.Path.{_≡_};
 ghost use Prim.Native.Nat.{_≤_, _<_, _^_};
 ghost use lib.ListN.{length, take, getD, getElem?};
-ghost use Rattle.laws.specs.Copied.{copied, placed};
+ghost use Rattle.laws.specs.Whole.{wholeOut};
 ghost use Rattle.laws.specs.Lists.{lowBytes};
 ghost use Rattle.errors.specs.Packed.{packed};
 ghost use Rattle.content.specs.ReadImage.{onOption, readImage, readFrames};
@@ -15,7 +15,7 @@ ghost use Rattle.reader.specs.Items.{frameAtTold};
 ghost use Rattle.reader.specs.Reading.{padded};
 ghost use Rattle.readings.specs.InPlace.{present, itemFits, lastIn, indexTold, itemsFit, beforeItem, itemAt, NthFrame, FrameOf};
 ghost use Rattle.readings.specs.Readings.{countsAnswer, byteCode, Small, pointAnswer, frameAnswer};
-ghost use Rattle.readings.specs.Lists.{wordsBytes, listsOut};
+ghost use Rattle.readings.specs.Lists.{wordsBytes, listsItem, listsAnswer};
 ghost use Rattle.readings.specs.Laying.{laidBytes};
 use errors::Answer;
 use frame::FrameBuilder;
@@ -27,7 +27,9 @@ use reader::items::FrameAt;
 // How many bytes all lists of an image are.
 pub const LISTS_SIZE: usize = 703;
 
-// The refusal 18 above the 16 bits of counts or of a point.
+// What a refusal's number is multiplied by beside the 16 bits of counts or of a point.
+const REFUSED: u32 = 65536;
+
 const NO_IMAGE: u32 = 18 << 16;
 
 // The refusal 18 above the 56 bits of a frame.
@@ -93,11 +95,11 @@ pub fn frame(image: &[u8], i: usize, j: usize) -> u64
     NO_IMAGE_WORD
 }
 
-// All lists of an image at once: the points' bytes and the ends of the snippets, six bytes for each frame and the ends of the sequences, as
-// many of these LISTS_SIZE bytes as fit. Answers as `counts` does; what is no image leaves the buffer alone.
+// All lists of an image at once: the points' bytes and the ends of the snippets, six bytes for each frame and the ends of the sequences,
+// LISTS_SIZE bytes in all. Answers as `counts` does, or 24 * 65536 where they have no room; a refusal leaves the buffer.
 pub fn lists(image: &[u8], out: &mut [u8]) -> u32
-    ensures answer { λ r. ⌜ r ≡ packed 16 (countsAnswer (readImage (now (image .entry)))) ⌝ }
-    ensures buffer { λ _. ⌜ now (out .exit) ≡ listsOut (readImage (now (image .entry))) (now (out .entry)) ⌝ }
+    ensures answer { λ r. ⌜ r ≡ packed 16 (listsAnswer (now (out .entry)) (readImage (now (image .entry)))) ⌝ }
+    ensures buffer { λ _. ⌜ now (out .exit) ≡ wholeOut (now (out .entry)) (listsItem (readImage (now (image .entry)))) ⌝ }
 {
     let r = reader::read(image);
     let answer = r.answer;
@@ -105,7 +107,11 @@ pub fn lists(image: &[u8], out: &mut [u8]) -> u32
         Answer::Done => {
             let snippets = r.snippets;
             let sequences = r.sequences;
-            lay(snippets, sequences, out);
+            let bytes = lay(snippets, sequences);
+            let number = laws::copy_whole(out, &bytes).number();
+            if 0 < number {
+                return (number as u32) * REFUSED;
+            }
             snippets.count as u32 * 256 + sequences.count as u32
         }
         Answer::Refused(_) => NO_IMAGE,
@@ -114,17 +120,19 @@ pub fn lists(image: &[u8], out: &mut [u8]) -> u32
 
 // ---- all lists in bytes
 
-fn lay(snippets: Points, sequences: Frames, out: &mut [u8])
-    ensures { λ _. ⌜ now (out .exit) ≡ copied (now (out .entry)) (laidBytes snippets sequences) ⌝ }
+fn lay(snippets: Points, sequences: Frames) -> [u8; LISTS_SIZE]
+    ensures { λ r. ⌜ r ≡ laidBytes snippets sequences ⌝ }
 {
+    let mut out = [0u8; LISTS_SIZE];
     let points = snippets.items;
     let point_ends = snippets.ends;
     let words = frame_bytes(sequences);
     let frame_ends = sequences.ends;
-    laws::copy_at(out, 0, &points);
-    laws::copy_at(out, POINT_ENDS, &point_ends);
-    laws::copy_at(out, FRAMES, &words);
-    laws::copy_at(out, FRAME_ENDS, &frame_ends);
+    laws::copy_at(&mut out, 0, &points);
+    laws::copy_at(&mut out, POINT_ENDS, &point_ends);
+    laws::copy_at(&mut out, FRAMES, &words);
+    laws::copy_at(&mut out, FRAME_ENDS, &frame_ends);
+    out
 }
 
 // The frames in use, six bytes each, then zeros.

@@ -4,13 +4,13 @@
 // builder back as it came in. `as_bytes` gives the array, of which the first `byte_len` are the sequence's; no function here
 // takes a closure. Left out: `Default` and what the Rust derives.
 ghost use mathlib.Core.Path.{_≡_};
-ghost use Prim.Native.Nat.{min};
 ghost use lib.ListN.{length};
-ghost use Rattle.laws.specs.Copied.{copied};
-ghost use Rattle.errors.specs.Number.{answerNumber};
-ghost use Rattle.errors.specs.Told.{handed, built};
+ghost use Rattle.laws.specs.Whole.{whole, wholeOut, lengthOf};
+ghost use Rattle.errors.specs.Number.{answerNumber, encodedTold};
+ghost use Rattle.errors.specs.Told.{gives, handed, built};
 ghost use Rattle.sequence.specs.Sequence.{sequenceBytes, newSequence, withFrame, builtSequence};
 use errors::Answer;
+use errors::Encoded;
 use errors::Error;
 use frame::Frame;
 
@@ -56,14 +56,14 @@ impl Sequence {
         self.data
     }
 
-    // Copies as much as fits, and answers the bytes copied.
-    pub fn encode_into(self, buffer: &mut [u8]) -> usize
-        ensures { λ r. ⌜ r ≡ min (length (sequenceBytes self)) (length (now (buffer .entry))) ⌝ }
-        ensures { λ _. ⌜ now (buffer .exit) ≡ copied (now (buffer .entry)) (sequenceBytes self) ⌝ }
+    // Copies all bytes and answers how many, or copies none and answers BufferTooShort.
+    pub fn encode_into(self, buffer: &mut [u8]) -> Encoded
+        ensures { λ r. ⌜ encodedTold r ≡ lengthOf (whole (now (buffer .entry)) (gives (sequenceBytes self))) ⌝ }
+        ensures { λ _. ⌜ now (buffer .exit) ≡ wholeOut (now (buffer .entry)) (gives (sequenceBytes self)) ⌝ }
     {
         let bytes = self.data;
         let n = self.byte_len();
-        laws::copy_into(buffer, &bytes[..n])
+        laws::copy_whole(buffer, &bytes[..n])
     }
 }
 

@@ -7,12 +7,13 @@ ghost use mathlib.Core.Path.{_≡_};
 ghost use mathlib.Core.Bool.{true, false};
 ghost use mathlib.Core.List.{map};
 ghost use lib.ListN.{length};
-ghost use Rattle.laws.specs.Copied.{copied};
-ghost use Rattle.errors.specs.Number.{answerNumber};
-ghost use Rattle.errors.specs.Told.{handed, built};
+ghost use Rattle.laws.specs.Whole.{whole, wholeOut, lengthOf};
+ghost use Rattle.errors.specs.Number.{answerNumber, encodedTold};
+ghost use Rattle.errors.specs.Told.{gives, handed, built};
 ghost use Rattle.snippet.specs.Point.{point, pointTold, rampIn, timebasesIn, amplitudeIn};
 ghost use Rattle.snippet.specs.Snippet.{pointOf, pwlByte, snippetBytes, newSnippet, noSnippet, withPoint, withMade, builtSnippet};
 use errors::Answer;
+use errors::Encoded;
 use errors::Error;
 
 pub const MAX_POINTS_PER_SNIPPET: usize = 16;
@@ -139,15 +140,14 @@ impl Snippet {
         out
     }
 
-    // Copies as much as fits, and answers the full length even when fewer were copied.
-    pub fn encode_into(self, buffer: &mut [u8]) -> usize
-        ensures { λ r. ⌜ r ≡ length (snippetBytes self) ⌝ }
-        ensures { λ _. ⌜ now (buffer .exit) ≡ copied (now (buffer .entry)) (snippetBytes self) ⌝ }
+    // Copies all bytes and answers how many, or copies none and answers BufferTooShort.
+    pub fn encode_into(self, buffer: &mut [u8]) -> Encoded
+        ensures { λ r. ⌜ encodedTold r ≡ lengthOf (whole (now (buffer .entry)) (gives (snippetBytes self))) ⌝ }
+        ensures { λ _. ⌜ now (buffer .exit) ≡ wholeOut (now (buffer .entry)) (gives (snippetBytes self)) ⌝ }
     {
         let bytes = self.bytes();
         let n = self.byte_len();
-        laws::copy_into(buffer, &bytes[..n]);
-        n
+        laws::copy_whole(buffer, &bytes[..n])
     }
 }
 

@@ -72,8 +72,7 @@ fn built(memory: WaveformMemoryBuilder, image: &mut [u8]) -> u64 {
         Answer::Done => {
             let made = b.memory;
             let bytes = made.as_bytes();
-            laws::copy_into(image, &bytes);
-            0
+            laws::copy_whole(image, &bytes).number() as u64
         }
         Answer::Refused(e) => e.number() as u64,
     }

@@ -15,6 +15,7 @@ pub mod records;
 pub mod registers;
 pub mod settings;
 pub mod trim;
+pub mod whole;
 
 use std::fs;
 use std::path::Path;

@@ -7,6 +7,7 @@ use harness::oracle::{Builders, number};
 use harness::patterns::{KINDS, mended, sizes, small};
 use harness::random::Random;
 use harness::raw::ffi::{da728x_assemble, da728x_assemble_strict};
+use harness::whole::Judged;
 use harness::{compared, encoded};
 use yambelugo::{Call, IMAGE};
 
@@ -235,12 +236,13 @@ fn far_places() {
     assert_eq!(yambelugo::answers(&list, &mut []), LAST + 2);
 }
 
-/// Every length of buffer, with two markers, byte for byte; also for refused images.
+/// Every length of buffer, with two markers, byte for byte; also for refused images. One that is too short for its image is refused
+/// last, and stays.
 #[test]
 fn buffers_of_every_length() {
     const LONGEST: usize = 110;
     let mut random = Random::new(64);
-    let (mut cases, mut refused) = (0, 0);
+    let (mut judged, mut refused, mut made) = (Judged::default(), 0, 0);
     for at in 0..300 {
         let calls = if at % 2 == 0 { small(&mut random) } else { sizes(&mut random) };
         let calls = if at % 4 < 2 { mended(&calls) } else { calls };
@@ -249,9 +251,10 @@ fn buffers_of_every_length() {
         let (answers, built) = published(&records);
         let strict = strictly(&answers, built);
         refused += usize::from(strict.is_err());
-        let word = strict.err().map_or(0, |(number, place)| u32::from(number) + 256 * place);
-        let number = built.err().unwrap_or(0).into();
-        for (wanted, word, strictly) in [(built.ok(), number, false), (strict.ok(), word, true)] {
+        for strictly in [false, true] {
+            let place = if strictly { strict.err().map_or(0, |it| it.1) } else { 0 };
+            let item = if strictly { strict.map_err(|it| it.0) } else { built };
+            made += usize::from(item.is_ok());
             for (marker, length) in (0..=LONGEST).flat_map(|it| [(0x00, it), (0xFF, it)]) {
                 let mut lent = vec![marker; GUARD + length + GUARD];
                 let (at, len, image) = (list.as_ptr(), list.len(), lent[GUARD..].as_mut_ptr());
@@ -263,19 +266,18 @@ fn buffers_of_every_length() {
                     }
                 };
                 let mut expected = vec![marker; GUARD + length + GUARD];
-                if let Some(image) = wanted {
-                    let copied = length.min(IMAGE);
-                    expected[GUARD..GUARD + copied].copy_from_slice(&image[..copied]);
-                }
+                let image = item.as_ref().map(|it| it.as_slice()).map_err(|it| *it);
+                let told = judged.wanted_bytes(image, &mut expected[GUARD..GUARD + length]);
+                let word = u32::from(told.err().unwrap_or(0)) + 256 * place;
                 assert_eq!(answer, word, "{records:?}, strictly {strictly}");
                 assert_eq!(lent, expected, "{records:?}, a buffer of {length} bytes");
-                cases += 1;
             }
         }
     }
     println!("images into buffers: {refused} of 300 refused");
     assert!(refused > 50 && refused < 250);
-    compared("images into buffers", cases, 2 * 300 * 2 * 111);
+    let too_short = made * 2 * IMAGE;
+    judged.assert_met("images into buffers", 2 * 300 * 2 * 111 - too_short, too_short);
 }
 
 /// The published Rust alone.

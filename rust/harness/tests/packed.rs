@@ -7,6 +7,7 @@ use harness::oracle::{Builders, NOT_BEGUN, number};
 use harness::patterns::{KINDS, mended};
 use harness::random::Random;
 use harness::raw::{LISTS, ffi};
+use harness::whole::TOO_SHORT;
 use std::collections::BTreeMap;
 use yambelugo::{Call, IMAGE};
 
@@ -41,20 +42,28 @@ fn built(calls: &[Option<Call>], list: &[u8], numbers: &mut Numbers) {
     let answers = builders.run(calls);
     let (at, len) = (list.as_ptr(), list.len());
     let mut out = [0; 100];
-    let mut encode = |build: ffi::Build| {
+    let mut encode = |build: ffi::Build, room: usize| {
         // SAFETY: each pointer and length is a slice; they do not overlap.
-        unsafe { build(at, len, out.as_mut_ptr(), out.len()) }
+        unsafe { build(at, len, out[..room].as_mut_ptr(), room) }
     };
-    let refused = |error| 65536 * u64::from(number(&error));
-    let wanted = builders.snippet.build().map(|it| it.byte_len() as u64).map_err(refused);
-    numbers.told("snippet", encode(ffi::da728x_snippet), wanted);
-    let wanted = match builders.frame {
-        Some(frame) => frame.build().map(|it| it.byte_len() as u64).map_err(refused),
-        None => Err(65536 * u64::from(NOT_BEGUN)),
+    let snippet = builders.snippet.build().map(|it| it.byte_len()).map_err(|it| number(&it));
+    let frame = match builders.frame {
+        Some(frame) => frame.build().map(|it| it.byte_len()).map_err(|it| number(&it)),
+        None => Err(NOT_BEGUN),
     };
-    numbers.told("frame", encode(ffi::da728x_frame), wanted);
-    let wanted = builders.sequence.build().map(|it| it.byte_len() as u64).map_err(refused);
-    numbers.told("sequence", encode(ffi::da728x_sequence), wanted);
+    let sequence = builders.sequence.build().map(|it| it.byte_len()).map_err(|it| number(&it));
+    for (name, build, item) in [
+        ("snippet", ffi::da728x_snippet as ffi::Build, snippet),
+        ("frame", ffi::da728x_frame, frame),
+        ("sequence", ffi::da728x_sequence, sequence),
+    ] {
+        // A buffer that is too short is told apart from the lengths too.
+        let length = item.unwrap_or(1);
+        for room in [100, length, length - 1] {
+            let fits = item.and_then(|it| if room < it { Err(TOO_SHORT) } else { Ok(it as u64) });
+            numbers.told(name, encode(build, room), fits.map_err(|it| 65536 * u64::from(it)));
+        }
+    }
 
     let built = builders.memory.build().map(|memory| hundred(&memory));
     let built = built.map_err(|error| u64::from(number(&error)));
@@ -62,10 +71,13 @@ fn built(calls: &[Option<Call>], list: &[u8], numbers: &mut Numbers) {
         Some(place) => Err(u64::from(answers[place]) + 256 * (place as u64 + 1)),
         None => built.map(|_| 0),
     };
-    numbers.told("assemble_strict", encode(ffi::da728x_assemble_strict), strict);
+    numbers.told("assemble_strict", encode(ffi::da728x_assemble_strict, 100), strict);
+    let strict = strict.and(Err(TOO_SHORT.into()));
+    numbers.told("assemble_strict", encode(ffi::da728x_assemble_strict, 99), strict);
     // SAFETY: each pointer and length is a slice; they do not overlap.
-    let told = unsafe { ffi::da728x_assemble(at, len, out.as_mut_ptr(), out.len()) };
-    numbers.told("assemble", told, built.map(|_| 0));
+    let mut assemble = |room| unsafe { ffi::da728x_assemble(at, len, out.as_mut_ptr(), room) };
+    numbers.told("assemble", assemble(100), built.map(|_| 0));
+    numbers.told("assemble", assemble(99), built.and(Err(TOO_SHORT.into())));
     if let Ok(image) = built {
         read(&image, numbers);
         read(&image[..99], numbers);
@@ -89,6 +101,8 @@ fn read(image: &[u8], numbers: &mut Numbers) {
         numbers.told("read_counts", ffi::da728x_read_counts(at, len), counts);
         let told = ffi::da728x_read_lists(at, len, out.as_mut_ptr(), LISTS);
         numbers.told("read_lists", told, counts);
+        let told = ffi::da728x_read_lists(at, len, out.as_mut_ptr(), LISTS - 1);
+        numbers.told("read_lists", told, counts.and(Err(u64::from(TOO_SHORT) << 16)));
     }
     for (i, j) in [(0, 0), (0, 1), (0, 20), (1, 0), (2, 1), (15, 0)] {
         // That there is no such item is told apart from the items too.
@@ -136,13 +150,13 @@ fn values_and_refusals_are_told_apart() {
     read(&[0; IMAGE], &mut numbers);
     numbers.assert_met(&[
         ("point", 256, 2),
-        ("snippet", 16, 1),
-        ("frame", 3, 1),
-        ("sequence", 80, 1),
+        ("snippet", 16, 2),
+        ("frame", 3, 2),
+        ("sequence", 80, 2),
         ("assemble_strict", 1, 100),
-        ("assemble", 1, 3),
+        ("assemble", 1, 4),
         ("read_counts", 100, 1),
-        ("read_lists", 100, 1),
+        ("read_lists", 100, 2),
         ("read_point", 256, 2),
         ("read_frame", 1_000, 2),
     ]);

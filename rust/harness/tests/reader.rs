@@ -7,6 +7,7 @@ use harness::lists::MARKER;
 use harness::patterns::KINDS;
 use harness::random::Random;
 use harness::raw::{LISTS, ffi};
+use harness::whole::TOO_SHORT;
 use yambelugo::{Error, IMAGE, PwlPoint};
 
 const BUILT: usize = 150_000;
@@ -39,21 +40,25 @@ struct Met {
 /// Bytes around lent ones, to see that they stay.
 const GUARD: usize = 8;
 
-/// Compares the word and every byte that `da728x_read_lists` leaves, with room for so many.
-fn compare_lists(image: &[u8], wanted: Option<&Lists>, room: usize) {
+/// Compares the word and every byte that `da728x_read_lists` leaves, with room for so many; whether the lists were refused for it.
+fn compare_lists(image: &[u8], wanted: Option<&Lists>, room: usize) -> bool {
     const LENT: usize = GUARD + LISTS + 4 + GUARD;
     let (mut lent, mut expected) = ([MARKER; LENT], [MARKER; LENT]);
     assert!(room <= LISTS + 4);
     let (at, to) = (image.as_ptr(), lent[GUARD..].as_mut_ptr());
     // SAFETY: each pointer is to so many bytes that are borrowed; they do not overlap.
     let word = unsafe { ffi::da728x_read_lists(at, image.len(), to, room) };
-    let wanted = wanted.map(|lists| {
-        let copied = room.min(LISTS);
-        expected[GUARD..GUARD + copied].copy_from_slice(&lists.laid()[..copied]);
-        256 * lists.snippets.len() + lists.sequences.len()
-    });
-    assert_eq!(word as usize, wanted.unwrap_or(18 << 16), "{image:02X?}");
+    let wanted = match wanted {
+        None => 18 << 16,
+        Some(_) if room < LISTS => usize::from(TOO_SHORT) << 16,
+        Some(lists) => {
+            expected[GUARD..GUARD + LISTS].copy_from_slice(&lists.laid());
+            256 * lists.snippets.len() + lists.sequences.len()
+        }
+    };
+    assert_eq!(word as usize, wanted, "{image:02X?}");
     assert!(lent == expected, "{image:02X?}, {room} bytes: {lent:?}");
+    wanted == usize::from(TOO_SHORT) << 16
 }
 
 impl Met {
@@ -73,7 +78,7 @@ impl Met {
         let told = yambelugo::read_counts(image);
         assert_eq!(told, counts.ok_or(Error::NotAnImage), "{image:02X?}");
         self.listed += 1;
-        compare_lists(image, wanted.as_ref(), LISTS);
+        assert!(!compare_lists(image, wanted.as_ref(), LISTS));
 
         let Some(lists) = &wanted else {
             if random.below(16) == 0 {
@@ -315,7 +320,7 @@ fn every_length() {
 #[test]
 fn rooms_for_lists() {
     let mut random = Random::new(80);
-    let (mut cases, mut accepted) = (0, 0);
+    let (mut cases, mut accepted, mut too_short) = (0, 0, 0);
     for at in 0..40 {
         let (mut image, _) = built(&mut random);
         if at % 4 == 0 {
@@ -324,11 +329,12 @@ fn rooms_for_lists() {
         let lists = plain(&image);
         accepted += usize::from(lists.is_some());
         for room in 0..=LISTS + 4 {
-            compare_lists(&image, lists.as_ref(), room);
+            too_short += usize::from(compare_lists(&image, lists.as_ref(), room));
             cases += 1;
         }
     }
     assert!((20..40).contains(&accepted));
+    compared("rooms too short for lists", too_short, accepted * LISTS);
     compared("rooms for lists", cases, 40 * (LISTS + 5));
 }
 

@@ -123,9 +123,8 @@ impl Call {
     }
 }
 
-/// Runs the calls, builds the snippet under construction and copies its bytes into the front of
-/// `out`, as many as fit; the full length of the snippet. Refused calls are left out silently:
-/// [`answers`] shows them.
+/// Runs the calls, builds the snippet under construction and copies all its bytes, 1 to 16, into the
+/// front of `out`; how many they are. Refused calls are left out silently: [`answers`] shows them.
 ///
 /// ```
 /// # use yambelugo::{Call, Error};
@@ -133,17 +132,23 @@ impl Call {
 /// let mut out = [0; 16];
 /// let length = yambelugo::snippet(calls.as_flattened(), &mut out)?;
 /// assert_eq!(out[..length], [0xAA, 0x00]);
+///
+/// // Twelve points go into nine bytes not at all.
+/// let (calls, mut out) = ([Call::Ramp(3, 10); 12].map(Call::encode), [0x5A; 9]);
+/// let refused = yambelugo::snippet(calls.as_flattened(), &mut out);
+/// assert_eq!((refused, out), (Err(Error::BufferTooShort), [0x5A; 9]));
 /// # Ok::<(), Error>(())
 /// ```
 ///
 /// # Errors
-/// `EmptySnippet` if the snippet has no points; `out` stays then.
+/// `EmptySnippet` if the snippet has no points, else `BufferTooShort` if `out` is shorter than it;
+/// `out` stays then.
 pub fn snippet(calls: &[u8], out: &mut [u8]) -> Result<usize, Error> {
     built(ffi::da728x_snippet, calls, out)
 }
 
-/// Runs the calls, builds the frame under construction and copies its bytes into the front of `out`,
-/// as many as fit; the bytes copied. Refused calls are left out silently.
+/// Runs the calls, builds the frame under construction and copies all its bytes, 1 to 3, into the
+/// front of `out`; how many they are. Refused calls are left out silently.
 ///
 /// ```
 /// # use yambelugo::{Call, Error, Gain, Timebase};
@@ -160,17 +165,20 @@ pub fn snippet(calls: &[u8], out: &mut [u8]) -> Result<usize, Error> {
 ///
 /// let refused = yambelugo::frame(&Call::FrameNew(16).encode(), &mut out);
 /// assert_eq!(refused, Err(Error::InvalidSnippetId));
+/// let short = yambelugo::frame(calls.map(Call::encode).as_flattened(), &mut out[..2]);
+/// assert_eq!(short, Err(Error::BufferTooShort));
 /// # Ok::<(), Error>(())
 /// ```
 ///
 /// # Errors
-/// `InvalidSnippetId` if no frame is begun; `out` stays then.
+/// `InvalidSnippetId` if no frame is begun, else `BufferTooShort` if `out` is shorter than the frame;
+/// `out` stays then.
 pub fn frame(calls: &[u8], out: &mut [u8]) -> Result<usize, Error> {
     built(ffi::da728x_frame, calls, out)
 }
 
-/// Runs the calls, builds the sequence under construction and copies its bytes into the front of
-/// `out`, as many as fit; the bytes copied. Refused calls are left out silently.
+/// Runs the calls, builds the sequence under construction and copies all its bytes, 1 to 96, into the
+/// front of `out`; how many they are. Refused calls are left out silently.
 ///
 /// ```
 /// # use yambelugo::{Call, Error};
@@ -185,11 +193,14 @@ pub fn frame(calls: &[u8], out: &mut [u8]) -> Result<usize, Error> {
 /// let length = yambelugo::sequence(calls.map(Call::encode).as_flattened(), &mut out)?;
 /// assert_eq!(out[..length], [0x01, 0x01, 0x90]);
 /// assert_eq!(yambelugo::sequence(&[], &mut out), Err(Error::EmptySequence));
+/// let short = yambelugo::sequence(calls.map(Call::encode).as_flattened(), &mut out[..2]);
+/// assert_eq!(short, Err(Error::BufferTooShort));
 /// # Ok::<(), Error>(())
 /// ```
 ///
 /// # Errors
-/// `EmptySequence` if the sequence has no frames; `out` stays then.
+/// `EmptySequence` if the sequence has no frames, else `BufferTooShort` if `out` is shorter than it;
+/// `out` stays then.
 pub fn sequence(calls: &[u8], out: &mut [u8]) -> Result<usize, Error> {
     built(ffi::da728x_sequence, calls, out)
 }

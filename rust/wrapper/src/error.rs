@@ -54,6 +54,8 @@ pub enum Error {
     NotAnImage,
     /// 19: an answer does not fit, none is pending, or the read buffer's length has changed.
     OutOfTurn,
+    /// 24: the buffer is shorter than the item; no byte of it was written.
+    BufferTooShort,
 }
 
 impl Error {
@@ -84,6 +86,7 @@ impl Error {
             Error::I2c(_) => 17,
             Error::NotAnImage => 18,
             Error::OutOfTurn => 19,
+            Error::BufferTooShort => 24,
         }
     }
 
@@ -115,6 +118,7 @@ impl Error {
             17 => Error::I2c(code),
             18 => Error::NotAnImage,
             19 => Error::OutOfTurn,
+            24 => Error::BufferTooShort,
             _ => return None,
         })
     }
@@ -142,6 +146,7 @@ impl fmt::Display for Error {
             Error::I2c(code) => return write!(f, "the bus failed with code {code}"),
             Error::NotAnImage => "the bytes are no image",
             Error::OutOfTurn => "the answer does not fit the pending exchange",
+            Error::BufferTooShort => "the buffer is shorter than the item",
         })
     }
 }
@@ -172,7 +177,7 @@ mod tests {
         for number in 0..=255 {
             match Error::from_number(number, 7) {
                 Some(error) => assert_eq!(error.number(), number),
-                None => assert!(number == 0 || number > 19),
+                None => assert!(matches!(number, 0 | 20..=23 | 25..)),
             }
         }
     }

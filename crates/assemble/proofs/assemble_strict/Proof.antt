@@ -10,7 +10,9 @@ use Rattle.assemble.proofs.assemble_strict.Statement.{statement}
 use Rattle.assemble.proofs.assemble_strict.Tie as tie
 
 returns : tie.Need-returns
-returns c = strict-refused (now (c .before .before .before .before .before .before .before .before .before .before .args .calls)) _ (c .before .before .before .before .run .ensures .1 .1 .0) (c .if1 .taken) (now (c .before .before .before .before .before .before .before .before .before .before .args .image))
+returns c =
+    let a = c .before .before .before .before .before .before .before .before .before .before .args in
+    strict-refused (now (a .calls)) _ (c .before .before .before .before .run .ensures .1 .1 .0) (now (a .image)) (c .if1 .taken)
 
 image-requires : tie.Need-image-requires
 image-requires c κs =
@@ -19,8 +21,9 @@ image-requires c κs =
 returns-2 : tie.Need-returns-2
 returns-2 c =
     let r = c .before .before .before .before .before .before .before .before .before .before .run .ensures in
-    strict-built (now (c .before .before .before .before .before .before .before .before .before .before .before .before .before .before .before .before .args .calls)) _ (r .1 .1 .0) (c .before .before .before .before .before .before .if1 .left) (now (c .before .before .before .before .before .before .before .before .before .before .before .before .before .before .before .before .args .image)) _ _
-    (image-built _ _ _ (r .1 .1 .1 .1) (now (c .before .before .before .before .before .before .before .before .before .before .before .before .before .before .before .before .args .image)) _ _ (c .before .before .image .ensures))
+    let a = c .before .before .before .before .before .before .before .before .before .before .before .before .before .before .before .before .args in
+    strict-built (now (a .calls)) _ (r .1 .1 .0) (now (a .image)) (c .before .before .before .before .before .before .if1 .left) _ _
+    (image-built _ _ _ (r .1 .1 .1 .1) (now (a .image)) _ _ (c .before .before .image .ensures))
 
 pub assemble-strict-spec : {M : Type 1} → statement M
 assemble-strict-spec =

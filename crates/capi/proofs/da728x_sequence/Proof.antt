@@ -1,21 +1,21 @@
 -- By the builders that the calls leave, the sequence that they build, and what encoding answers. Assumes nothing.
 use borrow.Author.Needs.{needs}
-use mathlib.Core.Path.{_≡_, ap, _∙_}
-use mathlib.Core.List.{List}
+use mathlib.Core.Path.{_≡_, ap, sym, _∙_, subst}
 use Prim.Native.Nat.{ℕ}
 use native.Mathlib.Omega.{arith}
 use denote.Ref.{now}
+use native.Mathlib.Nat.{min-le-right}
+use Prim.Native.Nat.{_≤_}
 use lib.ListN.{length, length-take}
 use Rattle.errors.specs.Number.{answerNumber}
-use Rattle.errors.specs.Told.{Told, Built, built}
+use Rattle.errors.specs.Told.{Told, gives, Built, built}
 use Rattle.sequence.specs.declared.BuiltSequence.{BuiltSequence}
 use Rattle.sequence.specs.declared.Sequence.{Sequence}
 use Rattle.sequence.specs.declared.SequenceBuilder.{SequenceBuilder}
-use Rattle.errors.specs.Packed.{packed}
+use Rattle.errors.specs.Packed.{Room}
 use Rattle.calls.specs.declared.Builders.{Builders}
 use Rattle.sequence.specs.Sequence.{sequenceBytes, builtSequence}
-use Rattle.capi.specs.Items.{copiedLength, itemOut}
-use Rattle.capi.proofs.Words.{itemFrom, refused-item, built-item}
+use Rattle.capi.proofs.Words.{itemFrom, refused-item, built-item, item-room, refused-as, encoded-as}
 use Rattle.capi.proofs.da728x_sequence.Statement.{statement}
 use Rattle.capi.proofs.da728x_sequence.Tie as tie
 
@@ -24,22 +24,24 @@ told r = built (answerNumber (r .answer)) (r .sequence) (r .builder)
 
 returns : tie.Need-returns
 returns c =
-    let w = c .before .before .build .ensures ∙ ap (λ (x : Builders). builtSequence (x .sequence)) (c .before .before .before .before .builders .ensures) in
-    let item = refused-item sequenceBytes (told (c .before .before .build .result)) _ (c .before .number .ensures) (c .if1 .taken) ∙ ap (itemFrom sequenceBytes) w in
-    (ap (λ (t : Told (List ℕ)). packed 16 (copiedLength (length (now (c .before .before .before .before .before .before .before .args .out))) t)) item, ap (λ (t : Told (List ℕ)). itemOut t (now (c .before .before .before .before .before .before .before .args .out))) item)
+    let r = c .before .before .build in
+    let w = r .ensures ∙ ap (λ (x : Builders). builtSequence (x .sequence)) (c .before .before .before .before .builders .ensures) in
+    refused-as (now (c .before .before .before .before .before .before .before .args .out))
+    (refused-item sequenceBytes (told (r .result)) _ (c .before .number .ensures) (c .if1 .taken) ∙ ap (itemFrom sequenceBytes) w)
 
-cast-result-2 : tie.Need-cast-result-2
-cast-result-2 c =
+requires : tie.Need-length-word-requires
+requires c κs =
     let s = c .before .before .before .before .before .before .before .build .result .sequence in
     let h : length (s .«data») ≡ 96 = search needs in
-    omega (arith, c .before .before .encode-into .ensures .0, length-take (s .len) (s .«data»))
+    let few : length (sequenceBytes s) ≤ 96 = omega (arith, length-take (s .len) (s .«data»), min-le-right (s .len) (length (s .«data»)), h) in
+    subst (Room 16) (sym (c .before .before .encode-into .ensures .0)) (item-room (now (c .before .before .before .before .before .before .before .before .before .before .before .before .args .out)) (gives (sequenceBytes s)) few)
 
 returns-2 : tie.Need-returns-2
 returns-2 c =
-    let w = c .before .before .before .before .before .before .before .build .ensures ∙ ap (λ (x : Builders). builtSequence (x .sequence)) (c .before .before .before .before .before .before .before .before .before .builders .ensures) in
-    let item = built-item sequenceBytes (told (c .before .before .before .before .before .before .before .build .result)) _ (c .before .before .before .before .before .before .number .ensures) (c .before .before .before .before .before .if1 .left) ∙ ap (itemFrom sequenceBytes) w in
-    let n = c .before .before .encode-into .ensures in
-    (n .0 ∙ ap (λ (t : Told (List ℕ)). packed 16 (copiedLength (length (now (c .before .before .before .before .before .before .before .before .before .before .before .before .args .out))) t)) item, n .1 ∙ ap (λ (t : Told (List ℕ)). itemOut t (now (c .before .before .before .before .before .before .before .before .before .before .before .before .args .out))) item)
+    let r = c .before .before .before .before .before .before .before .before .build in
+    let w = r .ensures ∙ ap (λ (x : Builders). builtSequence (x .sequence)) (c .before .before .before .before .before .before .before .before .before .before .builders .ensures) in
+    encoded-as (now (c .before .before .before .before .before .before .before .before .before .before .before .before .before .args .out)) (c .length-word .ensures) (c .before .before .before .encode-into .ensures)
+    (built-item sequenceBytes (told (r .result)) _ (c .before .before .before .before .before .before .before .number .ensures) (c .before .before .before .before .before .before .if1 .left) ∙ ap (itemFrom sequenceBytes) w)
 
 pub da728x-sequence-spec : {M : Type 1} → statement M
 da728x-sequence-spec =
@@ -52,6 +54,6 @@ da728x-sequence-spec =
     (λ c. search needs)
     returns
     (λ c κs. search needs)
-    cast-result-2
+    requires
     (λ c. search needs)
     returns-2)

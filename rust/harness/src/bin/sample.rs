@@ -3,7 +3,7 @@
 //!
 //! No expected value is of the proved library. Answers, bytes and exchanges are the published
 //! Rust's; the numbers of refusals, the layout of records and what lies outside the comparison are
-//! document 01's; what an image holds is told by the plain reader, and the Rust has to make the same
+//! document 01's and 02's; what an image holds is told by the plain reader, and the Rust has to make the same
 //! image of that.
 
 use da728x::waveform::PwlPoint;
@@ -20,6 +20,7 @@ use harness::raw::{LISTS, result_word};
 use harness::registers::{ADDRESSES, Field, GROUPS};
 use harness::settings::{MEMORY_TIMEBASES, Settings, VARIANTS, near};
 use harness::text;
+use harness::whole::{Judged, TOO_SHORT};
 use std::fmt::Write;
 use yambelugo::{Call, OperationMode, Reply, Variant};
 
@@ -225,12 +226,19 @@ fn item(kind: u8, random: &mut Random) -> Vec<Vec<u8>> {
         0x07 => builders.sequence.build().map(|it| it.encode_into(out)).map_err(refused),
         _ => Ok(builders.sequence.current_len()),
     };
-    let longest = if kind == 0x08 { 0 } else { encode(&mut [0; 100]).unwrap_or(2) };
+    let whole = encode(&mut [0; 100]);
     let mut out = match kind {
         0x08 => vec![],
-        _ => lent(random.pick(&[longest, longest, longest + 2, longest - 1, 0])),
+        _ => {
+            let longest = whole.unwrap_or(2);
+            lent(random.pick(&[longest, longest, longest + 2, longest - 1, 0]))
+        }
     };
-    let word = match encode(&mut out) {
+    let told = match kind {
+        0x08 => whole,
+        _ => Judged::default().wanted(whole, &mut out, encode),
+    };
+    let word = match told {
         Ok(length) => length as u64,
         Err(number) => 65536 * u64::from(number),
     };
@@ -321,8 +329,8 @@ fn assembled(random: &mut Random) -> Vec<Vec<u8>> {
     let calls = pattern(random);
     let list = list(&calls, random);
     let (_, built) = image_of(&calls);
-    let image = lent_image(built.ok(), random);
-    vec![vec![], list, vec![built.err().unwrap_or(0)], image]
+    let (told, image) = lent_image(built, random);
+    vec![vec![], list, vec![told], image]
 }
 
 /// Half of the lists are without a refused call, most of the others with one.
@@ -338,23 +346,21 @@ fn strictly(random: &mut Random) -> Vec<Vec<u8>> {
     }
     let list = list(&calls, random);
     let (answered, built) = image_of(&calls);
-    let word = match answered.iter().position(|answer| *answer != 0) {
-        Some(at) => answered[at] as usize + 256 * (at + 1),
-        None => built.err().unwrap_or(0).into(),
-    };
-    let image = lent_image(built.ok().filter(|_| word == 0), random);
-    vec![vec![], list, bytes_of(word as u64), image]
+    let refused = answered.iter().position(|answer| *answer != 0);
+    let (told, image) = lent_image(refused.map_or(built, |at| Err(answered[at])), random);
+    let place = refused.map_or(0, |at| at + 1);
+    vec![vec![], list, bytes_of(u64::from(told) + 256 * place as u64), image]
 }
 
-/// The bytes lent for an image, if it is made.
-fn lent_image(image: Option<[u8; 100]>, random: &mut Random) -> Vec<u8> {
-    let Some(image) = image else {
-        return lent(random.pick(&[0, 4]));
+/// The number told where bytes are lent for an image, or for its refusal, and those bytes.
+fn lent_image(image: Result<[u8; 100], u8>, random: &mut Random) -> (u8, Vec<u8>) {
+    let room = match image {
+        Ok(_) => random.pick(&[100, 100, 100, 101, 99, 20, 0]),
+        Err(_) => random.pick(&[0, 4]),
     };
-    let mut out = lent(random.pick(&[100, 100, 100, 101, 99, 20, 0]));
-    let copied = out.len().min(100);
-    out[..copied].copy_from_slice(&image[..copied]);
-    out
+    let mut out = lent(room);
+    let image = image.as_ref().map(|it| it.as_slice()).map_err(|it| *it);
+    (Judged::default().wanted_bytes(image, &mut out).err().unwrap_or(0), out)
 }
 
 /// An image that the Rust builds; what was added is what is read in it.
@@ -434,13 +440,16 @@ fn listed(at: usize, random: &mut Random) -> Vec<Vec<u8>> {
     let image = nearly(at, random);
     let lists = held(&image);
     let mut out = lent(random.pick(&[LISTS, LISTS, LISTS, LISTS + 1, LISTS - 1, 110, 0]));
-    if let Some(lists) = &lists {
-        let copied = out.len().min(LISTS);
-        out[..copied].copy_from_slice(&lists.laid()[..copied]);
-    } else {
-        out.truncate(4);
+    let word = match &lists {
+        Some(_) if out.len() < LISTS => bytes_of(u64::from(TOO_SHORT) << 16),
+        _ => counts(&lists),
+    };
+    match &lists {
+        Some(lists) if out.len() >= LISTS => out[..LISTS].copy_from_slice(&lists.laid()),
+        Some(_) => {}
+        None => out.truncate(4),
     }
-    vec![vec![], image, counts(&lists), out]
+    vec![vec![], image, word, out]
 }
 
 /// The word of every item in so many bytes, with that of no item behind each list and behind all.

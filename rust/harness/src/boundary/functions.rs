@@ -1,13 +1,13 @@
 //! The exported functions, with what the header lists for each.
 
 /// Counts where there is nothing to tell: no such point or frame, a session that has ended, one that is not completed.
-pub const NOTHING: u64 = 20;
+pub const NOTHING: u64 = 31;
 
-/// Added to a refusal of `build`, where those of calls are told too.
-pub const OF_BUILD: u64 = 13;
+/// Added to a refusal of `build` or of the buffer, where those of calls are told too.
+pub const OF_BUILD: u64 = 32;
 
-/// Columns of a tally: done, the refusals 1 to 19, nothing to tell, `build`'s 8, 9 and 10.
-pub const OUTCOMES: usize = 24;
+/// Columns of a tally: done, the refusals 1 to 30, nothing to tell, and the refusals again for `build` and the buffer.
+pub const OUTCOMES: usize = 64;
 
 macro_rules! functions {
     ($($name:ident: $($number:expr),*;)*) => {
@@ -26,17 +26,18 @@ functions! {
     da728x_point_is_ramp: 0;
     da728x_point_timebases: 0;
     da728x_point_amplitude: 0;
-    da728x_snippet: 0, 9;
-    da728x_frame: 0, 3;
-    da728x_sequence: 0, 10;
+    da728x_snippet: 0, 9, 24;
+    da728x_frame: 0, 3, 24;
+    da728x_sequence: 0, 10, 24;
     da728x_current_len: 0;
     da728x_answers: 0;
-    da728x_assemble_strict: 0, 1, 2, 3, 4, 5, 6, 7, 8, 9, 10, 14, OF_BUILD + 8, OF_BUILD + 9, OF_BUILD + 10;
-    da728x_assemble: 0, 8, 9, 10;
+    da728x_assemble_strict: 0, 1, 2, 3, 4, 5, 6, 7, 8, 9, 10, 14, OF_BUILD + 8, OF_BUILD + 9, OF_BUILD + 10,
+        OF_BUILD + 24;
+    da728x_assemble: 0, 8, 9, 10, 24;
     da728x_read_counts: 0, 18;
     da728x_read_point: 0, 18, NOTHING;
     da728x_read_frame: 0, 18, NOTHING;
-    da728x_read_lists: 0, 18;
+    da728x_read_lists: 0, 18, 24;
     da728x_register_addresses: 0;
     da728x_read_interrupts: 0;
     da728x_read_actuator: 0;

@@ -109,15 +109,27 @@ impl Patterns {
             // SAFETY: each pointer and length is a slice; the mutable one overlaps no other.
             u64::from(unsafe { build(list.0, list.1, out.0, out.1) })
         });
+        // The same item with room for all of it.
+        let mut whole = [0; 96];
+        // SAFETY: each pointer and length is a slice; they do not overlap.
+        let item =
+            unsafe { build(calls.as_ptr(), calls.len(), whole.as_mut_ptr(), whole.len()) } as usize;
+        let most = match function {
+            da728x_snippet => 16,
+            da728x_frame => 3,
+            _ => 96,
+        };
         let (number, written) = (told >> 16, told as usize & 0xFFFF);
-        match (function, number) {
-            (_, 1..) => assert_eq!(written, 0, "{}", function.name()),
-            (da728x_snippet, _) => assert!((1..=16).contains(&written)),
-            (da728x_frame, _) => {
-                assert!(written <= out.len() && (out.len().min(1)..=3).contains(&written))
+        let name = function.name();
+        match number {
+            0 => {
+                assert!((1..=most).contains(&written) && written == item, "{name}");
+                assert_eq!(hands.slice(1).1[..written], whole[..written], "{name}");
             }
-            _ => assert!(written <= out.len() && (out.len().min(1)..=96).contains(&written)),
+            24 => assert!(out.len() < item && item <= most && written == 0, "{name}"),
+            _ => assert_eq!(told, item as u64, "{name}"),
         }
+        assert!(number == 24 || item > most || item <= out.len(), "{name} takes a part");
         hands.assert_rest_stays(function, 1, written);
         hands.tally.count(function, number);
     }
@@ -140,7 +152,7 @@ impl Patterns {
             // SAFETY: each pointer and length is a slice; the mutable one overlaps no other.
             unsafe { ffi::da728x_assemble_strict(list.0, list.1, image, len).into() }
         });
-        self.assembled(da728x_assemble_strict, told == 0, choices, hands);
+        self.assembled(da728x_assemble_strict, told, choices, hands);
         let answered = answers(&calls, choices, hands);
         let (number, place) = (told % 256, told as usize / 256);
         match answered.iter().position(|answer| *answer != 0) {
@@ -162,18 +174,23 @@ impl Patterns {
             // SAFETY: each pointer and length is a slice; the mutable one overlaps no other.
             unsafe { ffi::da728x_assemble(list.0, list.1, image, len).into() }
         });
-        self.assembled(da728x_assemble, told == 0, choices, hands);
+        self.assembled(da728x_assemble, told, choices, hands);
         hands.tally.count(da728x_assemble, told);
     }
 
     /// Looks at what is left of the image, and keeps one that was made.
-    fn assembled(&mut self, by: Function, made: bool, choices: &mut Choices, hands: &mut Hands) {
-        hands.assert_rest_stays(by, 1, if made { IMAGE } else { 0 });
+    fn assembled(&mut self, by: Function, told: u64, choices: &mut Choices, hands: &mut Hands) {
+        hands.assert_rest_stays(by, 1, if told == 0 { IMAGE } else { 0 });
         let (_, image) = hands.slice(1);
-        if made && image.len() == IMAGE {
-            assert!((1..=15).contains(&image[0]) && (1..=16).contains(&image[1]));
-            let at = choices.below(self.images.len());
-            self.images[at].copy_from_slice(image);
+        match told {
+            0 => {
+                assert!(image.len() >= IMAGE, "a part of an image");
+                assert!((1..=15).contains(&image[0]) && (1..=16).contains(&image[1]));
+                let at = choices.below(self.images.len());
+                self.images[at].copy_from_slice(&image[..IMAGE]);
+            }
+            24 => assert!(image.len() < IMAGE, "an image has room"),
+            _ => {}
         }
     }
 
@@ -242,9 +259,13 @@ impl Patterns {
         let (before, after) = hands.slice(1);
         let (mut wanted, mut word) = (before.to_vec(), 18 * 65536);
         if let Some(lists) = plain(&image) {
-            let copied = LISTS.min(wanted.len());
-            wanted[..copied].copy_from_slice(&lists.laid()[..copied]);
-            word = 256 * lists.snippets.len() + lists.sequences.len();
+            match wanted.get_mut(..LISTS) {
+                Some(front) => {
+                    front.copy_from_slice(&lists.laid());
+                    word = 256 * lists.snippets.len() + lists.sequences.len();
+                }
+                None => word = 24 * 65536,
+            }
         }
         assert_eq!(told, word as u64, "{image:02X?}");
         assert!(wanted == after, "not the lists of {image:02X?}");
