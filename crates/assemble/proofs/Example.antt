@@ -24,7 +24,8 @@ example =
       nineKept = refl;
       justRoom = refl;
       moreRoom = refl;
-      noRoom = (refl, refl, refl);
-      noneTold = refl;
-      imageTold = (refl, refl, refl, refl);
+      noItems = (refl, refl, refl);
+      imageShort = (refl, refl);
+      imageRoom = (refl, refl);
+      noImage = (refl, refl);
     }

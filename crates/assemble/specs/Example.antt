@@ -65,7 +65,10 @@ pub record Example : Type 0 where
   pub nineKept : wholeOut (lent 9) (snippetItem twelve) ≡ lent 9
   pub justRoom : lengthOf (whole (lent 12) (snippetItem twelve)) ≡ gives 12
   pub moreRoom : wholeOut (lent 3) (snippetItem (call 2 3 10 ++ call 3 1 0)) ≡ 170 ∷ 0 ∷ 238 ∷ []
-  -- where nothing is built, that is told and not the room; an image has room in a hundred bytes
-  pub noRoom : (snippetItem [] ≡ refuses 9) × (frameItem [] ≡ refuses 3) × (sequenceItem [] ≡ refuses 10)
-  pub noneTold : lengthOf (whole [] (snippetItem [])) ≡ refuses 9
-  pub imageTold : (leniently (lent 99) oneOfEach ≡ 24) × (leniently (lent 99) [] ≡ 9) × (strictly (lent 99) oneOfEach ≡ 24) × (strictly (lent 100) oneOfEach ≡ 0)
+  -- what is not built is told first: no points, no frame begun, no frames
+  pub noItems : (lengthOf (whole [] (snippetItem [])) ≡ refuses 9) × (lengthOf (whole [] (frameItem [])) ≡ refuses 3)
+      × (lengthOf (whole [] (sequenceItem [])) ≡ refuses 10)
+  -- an image has room in a hundred bytes
+  pub imageShort : (leniently (lent 99) oneOfEach ≡ 24) × (strictly (lent 99) oneOfEach ≡ 24)
+  pub imageRoom : (leniently (lent 100) oneOfEach ≡ 0) × (strictly (lent 100) oneOfEach ≡ 0)
+  pub noImage : (leniently [] [] ≡ 9) × (strictly [] [] ≡ 9)

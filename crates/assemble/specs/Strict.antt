@@ -1,5 +1,5 @@
--- What the two forms that make an image answer where a buffer is lent for it, and what they leave there: `Assembled` leaves refused calls out,
--- `Strict` tells the first of them. Both are told without their own definitions.
+-- What the two forms that make an image answer where a buffer is lent for it, and what they leave there, by what the calls answer and what
+-- building comes to. One leaves refused calls out (`Assembled`), the other tells the first of them (`Strict`).
 use Prim.Native.Nat.{ℕ, _+_, _*_, _<_, _≤_}
 use mathlib.Core.Path.{_≡_}
 use mathlib.Core.Bool.{false}

@@ -94,5 +94,5 @@ telling =
       images = readings-told;
       assembled = assembled;
       strict = strict;
-      whole = whole-or-nothing;
+      wholeOrNothing = whole-or-nothing;
     }

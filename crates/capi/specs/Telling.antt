@@ -1,5 +1,5 @@
--- No packed answer misleads: of every exported function of this crate whose answer is a value or a refusal in one number, the number gives
--- back which of the two it is, and the value or the refusal. Demand 1, "refuses by one of the listed numbers"; and no part of an item is handed out.
+-- No answer misleads: of every exported function of this crate whose answer is a value or a refusal in one number, the number gives back which
+-- of the two it is, and the value or the refusal (demand 1, "refuses by one of the listed numbers"); and no part of an item is handed out.
 use Prim.Native.Nat.{ℕ}
 use mathlib.Core.Path.{_≡_}
 use mathlib.Core.Bool.{Bool}
@@ -38,4 +38,4 @@ pub record Telling : Type 0 where
   pub assembled : (buffer calls : List ℕ) → Assembled buffer calls
   pub strict : (buffer calls : List ℕ) → Strict buffer calls
   -- every function that hands out an item, an image or all lists of an image
-  pub whole : (buffer : List ℕ) (item : Told (List ℕ)) → WholeOrNothing buffer item
+  pub wholeOrNothing : (buffer : List ℕ) (item : Told (List ℕ)) → WholeOrNothing buffer item

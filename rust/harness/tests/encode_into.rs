@@ -23,7 +23,7 @@ fn compare(
 ) {
     for marker in [0x00, 0xFF] {
         for length in 0..=LONGEST {
-            let mut lend = |encode: &mut dyn FnMut(&mut [u8]) -> Answer| {
+            let lend = |encode: &mut dyn FnMut(&mut [u8]) -> Answer| {
                 let mut bytes = [marker; GUARD + LONGEST + GUARD];
                 let answer = encode(&mut bytes[GUARD..GUARD + length]);
                 (answer, bytes)
