@@ -6,7 +6,7 @@
  *     cc -Iinclude examples/c/pattern.c -Ltarget/staticlib -lcapi -lcapi_driver
  *
  * The archives need memcpy and memset only. They allocate nothing and keep no data, so calls
- * that lend different bytes may run at the same time. Stack, as measured: 5 KB in
+ * that lend different bytes may run at the same time. Stack, as measured: 6 KB in
  * da728x_read_lists, 2 KB in the functions that run builder calls, 1 KB in the others.
  *
  * Words of the chip, by which everything below is named:
@@ -135,7 +135,8 @@ uint8_t da728x_point_amplitude(uint8_t byte);
  * Returns the item's length, 1 or more. Or 65536 times the number of a refusal, and all of out
  * stays as it was: build's (9 for a snippet without points, 3 if no frame is begun, 10 for a
  * sequence without frames), else 24 if out is shorter than the item: no part of an item is ever
- * written. What was added already is not under construction any more. */
+ * written. Test for 65536 or more before you use it as a length. What was added already is not
+ * under construction any more. */
 uint32_t da728x_snippet(const uint8_t *calls, size_t calls_len, uint8_t *out, size_t out_len);
 uint32_t da728x_frame(const uint8_t *calls, size_t calls_len, uint8_t *out, size_t out_len);
 uint32_t da728x_sequence(const uint8_t *calls, size_t calls_len, uint8_t *out, size_t out_len);
@@ -162,8 +163,8 @@ size_t da728x_answers(const uint8_t *calls, size_t calls_len,
  *   number + 256 * place   the first call that was refused, and its place in the list, from 1
  *                          (any place above 16777215 is given as 16777215)
  *   number                 no call was refused, but build refuses: 9 without snippets, else 10
- *                          without sequences, else 8 above 100 bytes; else 24 if image is
- *                          shorter than DA728X_IMAGE */
+ *                          without sequences, else 8 above 100 bytes
+ *   24                     nothing else was refused, but image is shorter than DA728X_IMAGE */
 uint32_t da728x_assemble_strict(const uint8_t *calls, size_t calls_len,
                                 uint8_t *image, size_t image_len);
 

@@ -164,6 +164,7 @@ static void build(uint8_t image[DA728X_IMAGE])
 static void refuse(void)
 {
     uint8_t wrong[sizeof calls], answers[sizeof calls / 4], image[DA728X_IMAGE] = {0};
+    uint8_t points[2] = {0x55, 0x55};
     const uint8_t nothing[DA728X_IMAGE] = {0};
     uint32_t refused;
     memcpy(wrong, calls, sizeof calls);
@@ -184,6 +185,13 @@ static void refuse(void)
     /* A list that is cut short: its last call is refused. */
     refused = da728x_assemble_strict(calls, sizeof calls - 1, image, DA728X_IMAGE);
     expect("a list that is cut short", refused, 14 + 256 * (sizeof calls / 4));
+
+    /* A snippet goes into a buffer whole, or not at all: here are two points and one byte. */
+    refused = da728x_snippet(calls, 2 * 4, points, 1);
+    expect("a buffer that is too short", refused, 65536 * 24);
+    expect("that buffer", points[0], 0x55);
+    expect("one that is not", da728x_snippet(calls, 2 * 4, points, 2), 2);
+    expect_bytes("the snippet", points, wanted_image + 6, 2);
 }
 
 static void read_back(const uint8_t image[DA728X_IMAGE])

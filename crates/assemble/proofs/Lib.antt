@@ -2,6 +2,7 @@ pub mod Assembly
 pub mod Example
 pub mod Flat
 pub mod Holding
+pub mod Items
 pub mod Keeping
 pub mod Lists
 pub mod Numbers

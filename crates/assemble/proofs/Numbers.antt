@@ -1,11 +1,16 @@
 -- The numbers that calls are answered with. Assumes nothing.
-use mathlib.Core.Bool.{false}
+use mathlib.Core.Bool.{Bool, true, false, cond}
 use mathlib.Core.List.{List, [], _∷_}
 use Prim.Native.Nat.{ℕ, _≤_}
 use native.Mathlib.Omega.{arith}
+use lib.Dec.{ltb}
+use lib.ListN.{length}
 use Rattle.laws.specs.Bytes.{All}
 use Rattle.errors.specs.Told.{Told, gives, refuses, toldNumber}
 use Rattle.frame.specs.declared.FrameBuilder.{FrameBuilder}
+use Rattle.memory.specs.declared.WaveformMemoryBuilder.{WaveformMemoryBuilder}
+use Rattle.memory.specs.Image.{imageSize}
+use Rattle.memory.specs.Memory.{snippetItems, sequenceItems, builtMemory}
 use Rattle.calls.specs.Said.{Call}
 use Rattle.calls.specs.Said as Call
 use Rattle.calls.specs.Calls.{callsIn}
@@ -42,3 +47,13 @@ all-numbers (k ∷ ks) g = (call-number g k, all-numbers ks (grouped g k .builde
 pub answer-numbers : (calls : List ℕ) → All (λ n. n ≤ 14) (answersOf calls)
 unfolding answersOf
 answer-numbers calls = all-numbers (callsIn calls) noGroups
+
+-- the build's own numbers are 9, 10 and 8
+pub build-number : (m : WaveformMemoryBuilder) → builtMemory m .number ≤ 10
+unfolding builtMemory
+build-number m = go (ltb (length (snippetItems m)) 1) (ltb (length (sequenceItems m)) 1) (ltb 100 (imageSize (snippetItems m) (sequenceItems m))) where
+  go : (t u v : Bool) → cond t 9 (cond u 10 (cond v 8 0)) ≤ 10
+  go true u v = omega arith
+  go false true v = omega arith
+  go false false true = omega arith
+  go false false false = omega arith

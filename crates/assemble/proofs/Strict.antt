@@ -10,16 +10,16 @@ use native.Mathlib.Omega.{arith}
 use borrow.Author.Tests.{lt-ltb, le-ltb, ltb-true, ltb-false}
 use lib.Dec.{ltb}
 use lib.ListN.{length, drop}
-use Rattle.errors.specs.Told.{Told, gives, refuses, toldNumber}
-use Rattle.laws.specs.Whole.{whole, wholeOut, lengthOf}
+use Rattle.errors.specs.Told.{Told, refuses, toldNumber}
+use Rattle.laws.specs.Whole.{whole, wholeOut}
 use Rattle.laws.proofs.Whole.{whole-or-nothing}
-use Rattle.pattern.specs.Calls.{contentFrom}
-use Rattle.pattern.specs.Demand.{Pattern, ImageOf}
+use Rattle.pattern.specs.Calls.{memoryFrom}
+use Rattle.pattern.specs.Demand.{Pattern}
 use Rattle.pattern.proofs.Demand3.{demand3}
 use Rattle.assemble.specs.Lists.{groupsOf, answersOf, builtOf, lastPlace, withPlace, firstRefused}
-use Rattle.assemble.specs.Items.{imageItem, strictItem}
-use Rattle.assemble.specs.Strict.{leniently, strictly, AllAccepted, Assembled, Strict}
-use Rattle.assemble.proofs.Numbers.{answer-numbers}
+use Rattle.assemble.specs.Items.{imageItem, strictItem, leniently, strictly}
+use Rattle.assemble.specs.Strict.{AllAccepted, Assembled, Strict}
+use Rattle.assemble.proofs.Numbers.{answer-numbers, build-number}
 
 -- ---- as the code answers it
 
@@ -40,7 +40,7 @@ module _ (calls : List ℕ) where
 
   module _ (told : ℕ) (e : told ≡ f) (buffer : List ℕ) where
     pub strict-refused : 0 < told → (told ≡ strictly buffer calls) × (buffer ≡ wholeOut buffer (strictItem calls))
-    strict-refused h = let w = same-item buffer (ap refuses e ∙ refused-item (omega arith)) in w
+    strict-refused h = same-item buffer (ap refuses e ∙ refused-item (omega arith))
 
     pub strict-built : told ≤ 0 → (buffer′ : List ℕ) (n : ℕ) → (n ≡ leniently buffer calls) × (buffer′ ≡ wholeOut buffer (imageItem calls))
         → (n ≡ strictly buffer calls) × (buffer′ ≡ wholeOut buffer (strictItem calls))
@@ -96,6 +96,7 @@ module _ (buffer calls : List ℕ) where
         done = (done-leniently, λ w. room (w .0) (w .1) .0);
         builds = λ h. builds h .0;
         short = λ e h. short e h .0;
+        number = one-of (λ h. omega (arith, builds h .0, build-number (memoryFrom false (groupsOf calls .memory)))) (λ k h. omega (arith, short k h .0)) (λ k h. omega (arith, room k h .0));
         kept = kept-leniently;
         image = λ e. room (done-leniently e .0) (done-leniently e .1) .1;
         made = λ e. demand3 .laidOut pattern (done-leniently e .0);

@@ -6,8 +6,7 @@ use lib.ListN.{replicate}
 use Rattle.errors.specs.Told.{gives, refuses}
 use Rattle.laws.specs.Whole.{whole, wholeOut, lengthOf}
 use Rattle.assemble.specs.Lists.{answersOf, buildersOf}
-use Rattle.assemble.specs.Items.{snippetItem, frameItem, sequenceItem, imageItem, strictItem}
-use Rattle.assemble.specs.Strict.{leniently, strictly}
+use Rattle.assemble.specs.Items.{snippetItem, frameItem, sequenceItem, imageItem, strictItem, leniently, strictly}
 
 -- the record of a call
 abbrev pub call : ℕ → ℕ → ℕ → List ℕ

@@ -1,5 +1,5 @@
--- The definitions that the contracts of `assemble` and `capi` cite (Lists, Items; privately Flat, Holding, Kept), and the claims Assembled,
--- Strict, UsedUp, Example.
+-- The definitions that the contracts of `assemble` and `capi` cite (Lists, Items; privately Flat, Holding, Kept), and the claims
+-- WholeItems, Assembled, Strict, UsedUp, Example.
 pub mod Example
 pub mod Flat
 pub mod Holding

@@ -6,20 +6,12 @@ use mathlib.Core.Bool.{false}
 use mathlib.Core.Logic.{_↔_, _⊎_}
 use mathlib.Core.List.{List, _∷_, _++_}
 use lib.ListN.{length, drop}
-use Rattle.errors.specs.Told.{toldNumber}
-use Rattle.laws.specs.Whole.{whole, wholeOut}
+use Rattle.laws.specs.Whole.{wholeOut}
 use Rattle.laws.specs.Bytes.{All}
 use Rattle.pattern.specs.Calls.{contentFrom}
 use Rattle.pattern.specs.Demand.{ImageOf}
 use Rattle.assemble.specs.Lists.{groupsOf, answersOf, builtOf, lastPlace}
-use Rattle.assemble.specs.Items.{imageItem, strictItem}
-
--- what they answer
-abbrev pub leniently : List ℕ → List ℕ → ℕ
-leniently buffer calls = toldNumber (whole buffer (imageItem calls))
-
-abbrev pub strictly : List ℕ → List ℕ → ℕ
-strictly buffer calls = toldNumber (whole buffer (strictItem calls))
+use Rattle.assemble.specs.Items.{imageItem, strictItem, leniently, strictly}
 
 pub record Assembled (buffer calls : List ℕ) : Type 0 where
   -- 0 exactly if an image is built and the buffer has room for it
@@ -27,7 +19,8 @@ pub record Assembled (buffer calls : List ℕ) : Type 0 where
   -- what building refuses (9, 10 or 8), whatever the buffer; then a buffer without room
   pub builds : 0 < builtOf calls .number → leniently buffer calls ≡ builtOf calls .number
   pub short : builtOf calls .number ≡ 0 → length buffer < 100 → leniently buffer calls ≡ 24
-  -- a refusal leaves the buffer; else it has the image in front of its other bytes
+  -- a refusal is its number alone; it leaves the buffer; else that has the image in front of its other bytes
+  pub number : leniently buffer calls ≤ 24
   pub kept : 0 < leniently buffer calls → wholeOut buffer (imageItem calls) ≡ buffer
   pub image : leniently buffer calls ≡ 0 → wholeOut buffer (imageItem calls) ≡ builtOf calls .item .«data» ++ drop 100 buffer
   -- and that is the image of what the calls added, which the builders admit

@@ -13,7 +13,7 @@ use Rattle.content.specs.ReadImage.{readImage}
 use Rattle.readings.specs.Readings.{countsAnswer, pointAnswer, frameAnswer}
 use Rattle.readings.specs.Lists.{listsAnswer}
 use Rattle.readings.specs.Telling.{ReadingsTold}
-use Rattle.assemble.specs.Items.{snippetItem, frameItem, sequenceItem}
+use Rattle.assemble.specs.Items.{snippetItem, frameItem, sequenceItem, WholeItems}
 use Rattle.assemble.specs.Strict.{Assembled, Strict}
 
 -- equal numbers are equal answers
@@ -37,5 +37,6 @@ pub record Telling : Type 0 where
   -- da728x_assemble: a number; da728x_assemble_strict: a number and a place
   pub assembled : (buffer calls : List ℕ) → Assembled buffer calls
   pub strict : (buffer calls : List ℕ) → Strict buffer calls
-  -- every function that hands out an item, an image or all lists of an image
+  -- every function that hands out an item, an image or all lists of an image, whatever the buffer; and an item is all of it
+  pub items : (calls : List ℕ) → WholeItems calls
   pub wholeOrNothing : (buffer : List ℕ) (item : Told (List ℕ)) → WholeOrNothing buffer item

@@ -1,5 +1,5 @@
 -- Every error has a number: none is told as 0. Assumes nothing.
-use Prim.Native.Nat.{ℕ, _≤_}
+use Prim.Native.Nat.{_≤_}
 use native.Mathlib.Omega.{arith}
 use Rattle.errors.specs.declared.Error.{Error}
 use Rattle.errors.specs.declared.Error.the-variants as Error

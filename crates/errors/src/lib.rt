@@ -1,6 +1,6 @@
 // The refusals (errors.rs), each with document 01's number ('Who can cause which answer') or document 02's.
 // The Rust's names; `Gpio` is left out, since no ported operation drives a pin; `NotAnImage`, `OutOfTurn` and `BufferTooShort` are added.
-// `I2c` carries the bus's own failure code. Proved: `number` is document 01's list, `bus_code` that code (specs/Number.antt). Left out:
+// `I2c` carries the bus's own failure code. Proved: `number` is the papers' list, `bus_code` that code (specs/Number.antt). Left out:
 // the texts for printing.
 ghost use mathlib.Core.Path.{_≡_};
 ghost use Rattle.errors.specs.Number.{numberAndCode, errorNumber, answerNumber, busCode, encodedTold};
@@ -35,7 +35,7 @@ pub enum Answer {
     Refused(Error),
 }
 
-// What copying a whole item into a lent buffer answers: the item's length.
+// What copying a whole item into a lent buffer answers: the item's length, or the refusal.
 pub enum Encoded {
     Whole(usize),
     Refused(Error),

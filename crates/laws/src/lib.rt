@@ -1,4 +1,4 @@
-// Copying bytes into a lent buffer: `copy_whole` for items, images and listings (every `encode_into` of waveform/*.rs), `copy_into` where
+// Copying bytes into a lent buffer: `copy_whole` for items (every `encode_into` of waveform/*.rs), images and their lists, `copy_into` where
 // as much is copied as fits; and (in proofs/) the laws that several crates cite: tests computed over all small numbers, lists that show a
 // part of an array. Document 02, CR 5: "copy the whole item and answer its length, or copy nothing".
 // Proved: they leave and answer what specs/Whole.antt and specs/Copied.antt say, for any buffer and any bytes; `WholeOrNothing`.

@@ -1,20 +1,17 @@
 -- Bytes laid part by part are laid at once.
 -- Assumes nothing.
 use mathlib.Core.Path.{_≡_, refl, sym, ap, _∙_}
-use mathlib.Core.List.{List, [], _∷_, _++_, map, append-assoc, append-nil}
-use Prim.Native.Nat.{ℕ, zero, suc, _+_, _-_, _*_, _≤_, _<_}
+use mathlib.Core.List.{List, [], _∷_, _++_, append-assoc, append-nil}
+use Prim.Native.Nat.{ℕ, _+_, _-_, _*_, _≤_, _<_}
 use native.Mathlib.Numerals.{add-one}
 use native.Mathlib.Omega.{arith}
-use lib.ListN.{length, take, drop, getD, replicate, length-append, length-take, length-drop, length-replicate, drop-of-length-le, replicate-append-replicate}
+use lib.ListN.{length, take, drop, getD, replicate, length-append, length-take, length-replicate, drop-of-length-le, replicate-append-replicate}
 use lib.Seq.{take-all, take-suc, take-nil, drop-at}
-use borrow.Rule.Slice.PartMut.{midOf, postOf, putMid}
-use borrow.Rule.Slice.PartAt.{part-to-end}
-use Rattle.laws.specs.Copied.{copied}
+use Rattle.laws.specs.Copied.{copied, placed}
 use Rattle.frame.specs.declared.FrameBuilder.{FrameBuilder}
 use Rattle.frame.specs.Word.{frameWord}
 use Rattle.reader.specs.Reading.{padded}
 use Rattle.readings.specs.Lists.{wordBytes, wordsBytes}
-use Rattle.laws.specs.Copied.{placed}
 use Rattle.laws.proofs.Copies.{copied-all}
 use Rattle.laws.specs.Lists.{lowBytes}
 

@@ -341,4 +341,5 @@ readings-told =
       listed = λ l h out c e. listed l out c (held l c h e);
       short = λ l h out c e. short l out c (held l c h e);
       unread = λ out. (refl, refl);
+      refused = (refl, λ i j. (refl, refl));
     }

@@ -36,3 +36,5 @@ pub record ReadingsTold : Type 0 where
   pub short : (l : List ℕ) → Bytes l → (out : List ℕ) (c : Content) → readImage l ≡ some c → length out < 703
       → (listsAnswer out (some c) ≡ refuses 24) × (wholeOut out (listsItem (some c)) ≡ out)
   pub unread : (out : List ℕ) → (listsAnswer out none ≡ refuses 18) × (wholeOut out (listsItem none) ≡ out)
+  -- nor is anything else told of it
+  pub refused : (countsAnswer none ≡ refuses 18) × ((i j : ℕ) → (pointAnswer none i j ≡ refuses 18) × (frameAnswer none i j ≡ refuses 18))

@@ -1,8 +1,8 @@
 // Sequences and their builder (waveform/sequence.rs; document 01, 'Points, frames, sequences').
 // The sequence under construction carries its 96 bytes with a length and a frame count.
 // Proved: each function answers what specs/ says of its arguments, whatever the builder's fields hold, and a refusal hands the
-// builder back as it came in. `as_bytes` gives the array, of which the first `byte_len` are the sequence's; no function here
-// takes a closure. Left out: `Default` and what the Rust derives.
+// builder back as it came in. `as_bytes` gives the array, of which the first `byte_len` are the sequence's; `encode_into` copies all bytes
+// or none (document 02, CR 5); no function here takes a closure. Left out: `Default` and what the Rust derives.
 ghost use mathlib.Core.Path.{_≡_};
 ghost use lib.ListN.{length};
 ghost use Rattle.laws.specs.Whole.{whole, wholeOut, lengthOf};

@@ -1,8 +1,8 @@
 // Points and snippets (waveform/snippet.rs; document 01, 'Points, frames, sequences').
 // Proved: each function answers what specs/ says of its arguments, whatever the builder's fields hold, and a refusal hands the
 // builder back as it came in. proofs/Points.antt: same kind, length and amplitude exactly when same byte.
-// `points` gives the array, of which the first `byte_len` are the snippet's; no function here takes a closure. Left out: `Default` and
-// what the Rust derives.
+// `points` gives the array, of which the first `byte_len` are the snippet's; `encode_into` copies all bytes or none (document 02, CR 5); no
+// function here takes a closure. Left out: `Default` and what the Rust derives.
 ghost use mathlib.Core.Path.{_≡_};
 ghost use mathlib.Core.Bool.{true, false};
 ghost use mathlib.Core.List.{map};

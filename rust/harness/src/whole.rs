@@ -4,10 +4,10 @@
 /// The number of `BufferTooShort`.
 pub const TOO_SHORT: u8 = 24;
 
-/// How many buffers the published Rust judged, and how many the rule.
+/// How many buffers were compared, and how many the rule judged because they are too short.
 #[derive(Debug, Default, Clone, Copy, PartialEq)]
 pub struct Judged {
-    pub published: usize,
+    pub compared: usize,
     pub too_short: usize,
 }
 
@@ -23,7 +23,7 @@ impl Judged {
             self.too_short += 1;
             return Err(TOO_SHORT);
         }
-        self.published += 1;
+        self.compared += 1;
         let told = published(buffer);
         assert_eq!(told, item, "an item that has room");
         told
@@ -43,8 +43,8 @@ impl Judged {
     }
 
     /// Prints how many there were; they have to be so many.
-    pub fn assert_met(self, what: &str, published: usize, too_short: usize) {
-        println!("{what}: {} by the published Rust, {} too short", self.published, self.too_short);
-        assert_eq!(self, Self { published, too_short }, "{what}");
+    pub fn assert_met(self, what: &str, compared: usize, too_short: usize) {
+        println!("{what}: {} cases compared, {} too short", self.compared, self.too_short);
+        assert_eq!(self, Self { compared, too_short }, "{what}");
     }
 }

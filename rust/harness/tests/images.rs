@@ -242,7 +242,7 @@ fn far_places() {
 fn buffers_of_every_length() {
     const LONGEST: usize = 110;
     let mut random = Random::new(64);
-    let (mut judged, mut refused, mut made) = (Judged::default(), 0, 0);
+    let (mut judged, mut refused, mut made, mut of_build) = (Judged::default(), 0, 0, [0; 11]);
     for at in 0..300 {
         let calls = if at % 2 == 0 { small(&mut random) } else { sizes(&mut random) };
         let calls = if at % 4 < 2 { mended(&calls) } else { calls };
@@ -251,6 +251,7 @@ fn buffers_of_every_length() {
         let (answers, built) = published(&records);
         let strict = strictly(&answers, built);
         refused += usize::from(strict.is_err());
+        of_build[usize::from(built.err().unwrap_or(0))] += 1;
         for strictly in [false, true] {
             let place = if strictly { strict.err().map_or(0, |it| it.1) } else { 0 };
             let item = if strictly { strict.map_err(|it| it.0) } else { built };
@@ -274,8 +275,9 @@ fn buffers_of_every_length() {
             }
         }
     }
-    println!("images into buffers: {refused} of 300 refused");
+    println!("images into buffers: {refused} of 300 refused, by build {of_build:?}");
     assert!(refused > 50 && refused < 250);
+    assert!([0, 8, 9, 10].iter().all(|number| of_build[*number] > 5));
     let too_short = made * 2 * IMAGE;
     judged.assert_met("images into buffers", 2 * 300 * 2 * 111 - too_short, too_short);
 }

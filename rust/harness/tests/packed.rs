@@ -1,5 +1,5 @@
 //! A C function that tells a value or a refusal in one number never tells both by the same: what the published Rust accepts and
-//! what it refuses are told apart by the number alone.
+//! what it refuses, or document 02 for want of room, are told apart by the number alone.
 
 use harness::generate::{list, with_noise};
 use harness::images::{frame_word, hundred, plain};

@@ -72,3 +72,18 @@ fn every_kind_is_there() {
     assert_eq!(exported(), named);
     compared("cases of the stored sample", cases, 4946);
 }
+
+/// Buffers that are too short, by kind: the word is 24, or 24 times 65536 beside a length or counts.
+#[test]
+fn short_buffers_are_there() {
+    let sample = text("crates/vectors/stdin");
+    let short = |kind: &str, word: &str| {
+        let cases = sample.lines().map(|line| line.split(' ').collect::<Vec<_>>());
+        cases.filter(|case| case[0] == kind && case.get(3) == Some(&word)).count()
+    };
+    let kinds = ["05", "06", "07", "09", "15", "16"];
+    let words = ["180000", "180000", "180000", "18", "18", "180000"];
+    let met: Vec<_> = kinds.iter().zip(words).map(|(kind, word)| short(kind, word)).collect();
+    println!("short buffers in the sample: {met:?}");
+    assert!(met.iter().all(|cases| *cases > 10), "{met:?}");
+}

@@ -124,7 +124,8 @@ impl Call {
 }
 
 /// Runs the calls, builds the snippet under construction and copies all its bytes, 1 to 16, into the
-/// front of `out`; how many they are. Refused calls are left out silently: [`answers`] shows them.
+/// front of `out`; how many they are. The other bytes of `out` stay. Refused calls are left out
+/// silently: [`answers`] shows them.
 ///
 /// ```
 /// # use yambelugo::{Call, Error};
@@ -148,7 +149,8 @@ pub fn snippet(calls: &[u8], out: &mut [u8]) -> Result<usize, Error> {
 }
 
 /// Runs the calls, builds the frame under construction and copies all its bytes, 1 to 3, into the
-/// front of `out`; how many they are. Refused calls are left out silently.
+/// front of `out`; how many they are. The other bytes of `out` stay. Refused calls are left out
+/// silently.
 ///
 /// ```
 /// # use yambelugo::{Call, Error, Gain, Timebase};
@@ -178,7 +180,8 @@ pub fn frame(calls: &[u8], out: &mut [u8]) -> Result<usize, Error> {
 }
 
 /// Runs the calls, builds the sequence under construction and copies all its bytes, 1 to 96, into the
-/// front of `out`; how many they are. Refused calls are left out silently.
+/// front of `out`; how many they are. The other bytes of `out` stay. Refused calls are left out
+/// silently.
 ///
 /// ```
 /// # use yambelugo::{Call, Error};

@@ -1,25 +1,22 @@
 -- By the frame that the calls leave, if one is begun, and what encoding answers. Assumes nothing.
 use borrow.Author.Needs.{needs}
-use mathlib.Core.Path.{_≡_, ap, sym, _∙_, subst}
-use Prim.Native.Nat.{ℕ, _*_, _≤_, min}
-use native.Mathlib.Omega.{arith}
+use mathlib.Core.Path.{ap, sym, _∙_}
+use Prim.Native.Nat.{ℕ, _*_}
 use denote.Ref.{now}
-use lib.ListN.{length, length-take}
 use Rattle.errors.specs.Told.{gives}
-use Rattle.errors.specs.Packed.{Room}
 use Rattle.calls.specs.declared.Builders.{Builders}
 use Rattle.frame.specs.declared.Frame.{Frame}
 use Rattle.frame.specs.Frame.{frameBytes}
-use Rattle.capi.proofs.Words.{frameUnderWay, item-room, refused-as, encoded-as}
+use Rattle.capi.proofs.Words.{frameUnderWay, few-frame, refused-as, encoded-room, encoded-as}
 use Rattle.capi.proofs.da728x_frame.Statement.{statement}
 use Rattle.capi.proofs.da728x_frame.Tie as tie
 
 requires : tie.Need-length-word-requires
 requires c κs =
-    let g = c .before .before .before .before .build .result in
-    let h : length (g .bytes) ≡ 3 = search needs in
-    let e : length (frameBytes g) ≡ min (g .len) 3 = simp (length-take, h) in
-    subst (Room 16) (sym (c .before .before .encode-into .ensures .0)) (item-room (now (c .before .before .before .before .before .before .before .before .before .before .before .args .out)) (gives (frameBytes g)) (let few : length (frameBytes g) ≤ 96 = omega arith in few))
+    let a = c .before .before .before .before .before .before .before .before .before .before .before .args in
+    encoded-room (now (a .out)) (c .before .before .encode-into .ensures .0)
+    (ap (λ (g : Frame). gives (frameBytes g)) (c .before .before .before .before .build .ensures)
+    ∙ ap frameUnderWay (sym (c .before .before .before .before .before .before .f .given .1) ∙ ap (λ (x : Builders). x .frame) (c .before .before .before .before .before .before .before .before .builders .ensures))) (few-frame (now (a .calls)))
 
 returns : tie.Need-returns
 returns c =

@@ -1,21 +1,15 @@
 -- By the builders that the calls leave, the sequence that they build, and what encoding answers. Assumes nothing.
 use borrow.Author.Needs.{needs}
-use mathlib.Core.Path.{_≡_, ap, sym, _∙_, subst}
-use Prim.Native.Nat.{ℕ}
-use native.Mathlib.Omega.{arith}
+use mathlib.Core.Path.{ap, _∙_}
 use denote.Ref.{now}
-use native.Mathlib.Nat.{min-le-right}
-use Prim.Native.Nat.{_≤_}
-use lib.ListN.{length, length-take}
 use Rattle.errors.specs.Number.{answerNumber}
-use Rattle.errors.specs.Told.{Told, gives, Built, built}
+use Rattle.errors.specs.Told.{Built, built}
 use Rattle.sequence.specs.declared.BuiltSequence.{BuiltSequence}
 use Rattle.sequence.specs.declared.Sequence.{Sequence}
 use Rattle.sequence.specs.declared.SequenceBuilder.{SequenceBuilder}
-use Rattle.errors.specs.Packed.{Room}
 use Rattle.calls.specs.declared.Builders.{Builders}
 use Rattle.sequence.specs.Sequence.{sequenceBytes, builtSequence}
-use Rattle.capi.proofs.Words.{itemFrom, refused-item, built-item, item-room, refused-as, encoded-as}
+use Rattle.capi.proofs.Words.{itemFrom, refused-item, built-item, few-sequence, refused-as, encoded-room, encoded-as}
 use Rattle.capi.proofs.da728x_sequence.Statement.{statement}
 use Rattle.capi.proofs.da728x_sequence.Tie as tie
 
@@ -31,10 +25,11 @@ returns c =
 
 requires : tie.Need-length-word-requires
 requires c κs =
-    let s = c .before .before .before .before .before .before .before .build .result .sequence in
-    let h : length (s .«data») ≡ 96 = search needs in
-    let few : length (sequenceBytes s) ≤ 96 = omega (arith, length-take (s .len) (s .«data»), min-le-right (s .len) (length (s .«data»)), h) in
-    subst (Room 16) (sym (c .before .before .encode-into .ensures .0)) (item-room (now (c .before .before .before .before .before .before .before .before .before .before .before .before .args .out)) (gives (sequenceBytes s)) few)
+    let a = c .before .before .before .before .before .before .before .before .before .before .before .before .args in
+    let r = c .before .before .before .before .before .before .before .build in
+    let w = r .ensures ∙ ap (λ (x : Builders). builtSequence (x .sequence)) (c .before .before .before .before .before .before .before .before .before .builders .ensures) in
+    encoded-room (now (a .out)) (c .before .before .encode-into .ensures .0)
+    (built-item sequenceBytes (told (r .result)) _ (c .before .before .before .before .before .before .number .ensures) (c .before .before .before .before .before .if1 .left) ∙ ap (itemFrom sequenceBytes) w) (few-sequence (now (a .calls)))
 
 returns-2 : tie.Need-returns-2
 returns-2 c =

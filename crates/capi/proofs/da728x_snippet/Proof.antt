@@ -1,23 +1,15 @@
 -- By the builders that the calls leave, the snippet that they build, and what encoding answers. Assumes nothing.
 use borrow.Author.Needs.{needs}
-use mathlib.Core.Path.{_≡_, ap, sym, _∙_, subst}
-use Prim.Native.Nat.{ℕ}
-use native.Mathlib.Omega.{arith}
+use mathlib.Core.Path.{ap, _∙_}
 use denote.Ref.{now}
-use native.Mathlib.Nat.{min-le-right}
-use Prim.Native.Nat.{_≤_}
-use lib.ListN.{length}
 use Rattle.errors.specs.Number.{answerNumber}
-use Rattle.errors.specs.Told.{Told, gives, Built, built}
+use Rattle.errors.specs.Told.{Built, built}
 use Rattle.snippet.specs.declared.BuiltSnippet.{BuiltSnippet}
 use Rattle.snippet.specs.declared.Snippet.{Snippet}
 use Rattle.snippet.specs.declared.SnippetBuilder.{SnippetBuilder}
-use Rattle.errors.specs.Packed.{Room}
 use Rattle.calls.specs.declared.Builders.{Builders}
-use Rattle.laws.proofs.Lists.{length-of-map}
-use Rattle.snippet.proofs.Sizes.{snippet-length}
 use Rattle.snippet.specs.Snippet.{snippetBytes, builtSnippet}
-use Rattle.capi.proofs.Words.{itemFrom, refused-item, built-item, item-room, refused-as, encoded-as}
+use Rattle.capi.proofs.Words.{itemFrom, refused-item, built-item, few-snippet, refused-as, encoded-room, encoded-as}
 use Rattle.capi.proofs.da728x_snippet.Statement.{statement}
 use Rattle.capi.proofs.da728x_snippet.Tie as tie
 
@@ -33,10 +25,11 @@ returns c =
 
 requires : tie.Need-length-word-requires
 requires c κs =
-    let s = c .before .before .before .before .before .before .before .build .result .snippet in
-    let h : length (s .points) ≡ 16 = search (needs, length-of-map) in
-    let few : length (snippetBytes s) ≤ 96 = omega (arith, snippet-length s h, min-le-right (s .len) 16) in
-    subst (Room 16) (sym (c .before .before .encode-into .ensures .0)) (item-room (now (c .before .before .before .before .before .before .before .before .before .before .before .before .args .out)) (gives (snippetBytes s)) few)
+    let a = c .before .before .before .before .before .before .before .before .before .before .before .before .args in
+    let r = c .before .before .before .before .before .before .before .build in
+    let w = r .ensures ∙ ap (λ (x : Builders). builtSnippet (x .snippet)) (c .before .before .before .before .before .before .before .before .before .builders .ensures) in
+    encoded-room (now (a .out)) (c .before .before .encode-into .ensures .0)
+    (built-item snippetBytes (told (r .result)) _ (c .before .before .before .before .before .before .number .ensures) (c .before .before .before .before .before .if1 .left) ∙ ap (itemFrom snippetBytes) w) (few-snippet (now (a .calls)))
 
 returns-2 : tie.Need-returns-2
 returns-2 c =

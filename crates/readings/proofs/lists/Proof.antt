@@ -1,6 +1,6 @@
 -- By what the reader answers, and whether the lists have room. Assumes nothing.
 use borrow.Author.Needs.{needs}
-use mathlib.Core.Path.{_≡_, ap, _∙_}
+use mathlib.Core.Path.{ap, _∙_}
 use mathlib.Core.List.{List}
 use Prim.Native.Nat.{ℕ}
 use denote.Ref.{now}

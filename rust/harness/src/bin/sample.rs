@@ -20,7 +20,7 @@ use harness::raw::{LISTS, result_word};
 use harness::registers::{ADDRESSES, Field, GROUPS};
 use harness::settings::{MEMORY_TIMEBASES, Settings, VARIANTS, near};
 use harness::text;
-use harness::whole::{Judged, TOO_SHORT};
+use harness::whole::Judged;
 use std::fmt::Write;
 use yambelugo::{Call, OperationMode, Reply, Variant};
 
@@ -76,7 +76,8 @@ const ADDRESS_ROOMS: [usize; 8] = [0, 1, 2, 21, 41, 42, 43, 50];
 const LONGEST: usize = 4096;
 
 const HEAD: &str = "\
-Answers of the published Rust to random calls near the limits, refused ones among them.
+Answers of the published Rust to random calls near the limits, refused ones among them; 24 where a
+buffer is too short for its item, its image or its lists.
 Written by `scripts/remake-vectors` (rust/harness/src/bin/sample.rs), never by hand; read by the
 program `vectors`. The Rust is da728x-rs, revision REVISION, in rust/oracle, with these sums:
 SUMS
@@ -440,15 +441,14 @@ fn listed(at: usize, random: &mut Random) -> Vec<Vec<u8>> {
     let image = nearly(at, random);
     let lists = held(&image);
     let mut out = lent(random.pick(&[LISTS, LISTS, LISTS, LISTS + 1, LISTS - 1, 110, 0]));
-    let word = match &lists {
-        Some(_) if out.len() < LISTS => bytes_of(u64::from(TOO_SHORT) << 16),
-        _ => counts(&lists),
+    let Some(laid) = lists.as_ref().map(Lists::laid) else {
+        out.truncate(4);
+        return vec![vec![], image, counts(&lists), out];
     };
-    match &lists {
-        Some(lists) if out.len() >= LISTS => out[..LISTS].copy_from_slice(&lists.laid()),
-        Some(_) => {}
-        None => out.truncate(4),
-    }
+    let word = match Judged::default().wanted_bytes(Ok(&laid), &mut out) {
+        Ok(_) => counts(&lists),
+        Err(number) => bytes_of(u64::from(number) << 16),
+    };
     vec![vec![], image, word, out]
 }
 

@@ -170,7 +170,9 @@ impl Tally {
             let outcomes = outcomes.map(|(told, seen)| match told {
                 0 => format!("done {seen}"),
                 _ if told as u64 == NOTHING => format!("nothing {seen}"),
-                _ if told as u64 > NOTHING => format!("build's {}: {seen}", told as u64 - OF_BUILD),
+                _ if told as u64 > NOTHING => {
+                    format!("at place 0 {}: {seen}", told as u64 - OF_BUILD)
+                }
                 _ => format!("{told}: {seen}"),
             });
             outcomes.collect::<Vec<_>>().join(", ")

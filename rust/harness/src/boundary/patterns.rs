@@ -129,7 +129,6 @@ impl Patterns {
             24 => assert!(out.len() < item && item <= most && written == 0, "{name}"),
             _ => assert_eq!(told, item as u64, "{name}"),
         }
-        assert!(number == 24 || item > most || item <= out.len(), "{name} takes a part");
         hands.assert_rest_stays(function, 1, written);
         hands.tally.count(function, number);
     }
@@ -152,7 +151,12 @@ impl Patterns {
             // SAFETY: each pointer and length is a slice; the mutable one overlaps no other.
             unsafe { ffi::da728x_assemble_strict(list.0, list.1, image, len).into() }
         });
-        self.assembled(da728x_assemble_strict, told, choices, hands);
+        let mut whole = [0; IMAGE];
+        // SAFETY: each pointer and length is a slice; they do not overlap.
+        let room = unsafe {
+            ffi::da728x_assemble_strict(calls.as_ptr(), calls.len(), whole.as_mut_ptr(), IMAGE)
+        };
+        self.assembled(da728x_assemble_strict, told, room.into(), choices, hands);
         let answered = answers(&calls, choices, hands);
         let (number, place) = (told % 256, told as usize / 256);
         match answered.iter().position(|answer| *answer != 0) {
@@ -174,23 +178,31 @@ impl Patterns {
             // SAFETY: each pointer and length is a slice; the mutable one overlaps no other.
             unsafe { ffi::da728x_assemble(list.0, list.1, image, len).into() }
         });
-        self.assembled(da728x_assemble, told, choices, hands);
+        let mut whole = [0; IMAGE];
+        // SAFETY: each pointer and length is a slice; they do not overlap.
+        let room =
+            unsafe { ffi::da728x_assemble(calls.as_ptr(), calls.len(), whole.as_mut_ptr(), IMAGE) };
+        self.assembled(da728x_assemble, told, room.into(), choices, hands);
         hands.tally.count(da728x_assemble, told);
     }
 
-    /// Looks at what is left of the image, and keeps one that was made.
-    fn assembled(&mut self, by: Function, told: u64, choices: &mut Choices, hands: &mut Hands) {
+    /// Looks at what is left of the image, and keeps one that was made; `room` is what is told where it has room.
+    fn assembled(
+        &mut self,
+        by: Function,
+        told: u64,
+        room: u64,
+        choices: &mut Choices,
+        hands: &mut Hands,
+    ) {
         hands.assert_rest_stays(by, 1, if told == 0 { IMAGE } else { 0 });
         let (_, image) = hands.slice(1);
-        match told {
-            0 => {
-                assert!(image.len() >= IMAGE, "a part of an image");
-                assert!((1..=15).contains(&image[0]) && (1..=16).contains(&image[1]));
-                let at = choices.below(self.images.len());
-                self.images[at].copy_from_slice(&image[..IMAGE]);
-            }
-            24 => assert!(image.len() < IMAGE, "an image has room"),
-            _ => {}
+        let short = room == 0 && image.len() < IMAGE;
+        assert_eq!(told, if short { 24 } else { room }, "{}", by.name());
+        if told == 0 {
+            assert!((1..=15).contains(&image[0]) && (1..=16).contains(&image[1]));
+            let at = choices.below(self.images.len());
+            self.images[at].copy_from_slice(&image[..IMAGE]);
         }
     }
 

@@ -1,4 +1,4 @@
--- The part that is copied is what the frame shows. Assumes nothing.
+-- What is copied is what the frame shows. Assumes nothing.
 use mathlib.Core.Path.{ap, _∙_}
 use mathlib.Core.List.{List}
 use Prim.Native.Nat.{ℕ}

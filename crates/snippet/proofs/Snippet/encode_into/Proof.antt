@@ -1,4 +1,4 @@
--- `Snippet::encode_into` meets its contract: the part that is copied is what the snippet shows. Assumes nothing.
+-- What is copied is what the snippet shows. Assumes nothing.
 use borrow.Author.Needs.{needs}
 use mathlib.Core.Path.{ap, _∙_}
 use mathlib.Core.List.{List, map}
