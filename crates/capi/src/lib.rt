@@ -2,7 +2,8 @@
 // a counterpart': "The harness in Rust calls functions exported for C on numbers and byte slices". They reach snippet.rs, frame.rs,
 // sequence.rs, registers.rs and, by `assemble`, what memory.rs builds; those of lib.rs are in `capi_driver`.
 // Proved: every one is total, on any bytes and any lengths, and its contract equates the answer and every lent byte with a definition
-// (in specs/ of the crates it calls); specs/Telling.antt: no answer misleads. Left out: the functions without an export of their own, which docs/DIFFERENCES.md lists.
+// (in specs/ of the crates it calls); specs/Telling.antt: no answer misleads. Left out: the functions without an export of their own, which
+// docs/DIFFERENCES.md lists.
 ghost use mathlib.Core.Path.{_≡_};
 ghost use lib.Dec.{ltb};
 ghost use Prim.Native.Nat.{min};
