@@ -1,2 +1,4 @@
 pub mod Accepted
+pub mod Blames
 pub mod First
+pub mod Tests

@@ -49,18 +49,19 @@ outsideBand m hz = cond (tracking m) (ltb hz 50 || ltb 300 hz) (ltb hz 25 || ltb
 abbrev pub Check : Type 0
 Check = Bool × ℕ
 
--- "in the Rust's order", then the added ones
+-- "in the Rust's order", then the added ones; the numbers of the values are document 02's: "Each check keeps its place in 01's order", "A voltage
+-- gives 21, a current or impedance 22, and a frequency .. 23"
 abbrev pub configureChecks : Variant → ActuatorConfig → DeviceConfig → List Check
 configureChecks v a d =
     (not (tracking (d .«driving_mode»)) && (d .acceleration || d .«rapid_stop»), 12)
     ∷ (etwm (d .«operation_mode») && eqb (triggersGiven d) 0, 13)
     ∷ (etwm (d .«operation_mode») && (eqb (variantCode v) (variantCode DA7281) && ltb 1 (triggersGiven d)), 14)
-    ∷ (ltb 6000 (a .«nominal_max_mV»), 11) ∷ (ltb 6000 (a .«absolute_max_mV»), 11)
-    ∷ (ltb 252 (a .«max_current_mA»), 11)
-    ∷ (ltb (a .«impedance_mOhm») 4000 || ltb 49999 (a .«impedance_mOhm»), 11)
-    ∷ (outsideBand (d .«driving_mode») (a .«frequency_Hz»), 11)
-    ∷ (ltb 5990 (a .«nominal_max_mV»), 11) ∷ (ltb 5990 (a .«absolute_max_mV»), 11)
-    ∷ (ltb (a .«max_current_mA») 29, 11)
+    ∷ (ltb 6000 (a .«nominal_max_mV»), 21) ∷ (ltb 6000 (a .«absolute_max_mV»), 21)
+    ∷ (ltb 252 (a .«max_current_mA»), 22)
+    ∷ (ltb (a .«impedance_mOhm») 4000 || ltb 49999 (a .«impedance_mOhm»), 22)
+    ∷ (outsideBand (d .«driving_mode») (a .«frequency_Hz»), 23)
+    ∷ (ltb 5990 (a .«nominal_max_mV»), 21) ∷ (ltb 5990 (a .«absolute_max_mV»), 21)
+    ∷ (ltb (a .«max_current_mA») 29, 22)
     ∷ (etwm (d .«operation_mode») && triggersAbove15 d, 11)
     ∷ (d .«rapid_stop», 14) ∷ []
 

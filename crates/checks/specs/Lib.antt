@@ -1,3 +1,4 @@
 -- The definitions that the contracts of `checks` cite.
+pub mod Blames
 pub mod Checks
 pub mod InRange

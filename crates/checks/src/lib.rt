@@ -32,29 +32,29 @@ pub fn configure_checks(variant: Variant, actuator: ActuatorConfig, device: Devi
         return Answer::Refused(Error::NotSupported);
     }
     if 6000 < actuator.nominal_max_mV {
-        return Answer::Refused(Error::InvalidValue);
+        return Answer::Refused(Error::InvalidVoltage);
     }
     if 6000 < actuator.absolute_max_mV {
-        return Answer::Refused(Error::InvalidValue);
+        return Answer::Refused(Error::InvalidVoltage);
     }
     if 252 < actuator.max_current_mA {
-        return Answer::Refused(Error::InvalidValue);
+        return Answer::Refused(Error::InvalidCurrentOrImpedance);
     }
     if outside_impedance(actuator.impedance_mOhm) {
-        return Answer::Refused(Error::InvalidValue);
+        return Answer::Refused(Error::InvalidCurrentOrImpedance);
     }
     if outside_band(mode, actuator.frequency_Hz) {
-        return Answer::Refused(Error::InvalidValue);
+        return Answer::Refused(Error::InvalidDriveFrequency);
     }
     // from here on the checks that the Rust lacks
     if 5990 < actuator.nominal_max_mV {
-        return Answer::Refused(Error::InvalidValue);
+        return Answer::Refused(Error::InvalidVoltage);
     }
     if 5990 < actuator.absolute_max_mV {
-        return Answer::Refused(Error::InvalidValue);
+        return Answer::Refused(Error::InvalidVoltage);
     }
     if actuator.max_current_mA < 29 {
-        return Answer::Refused(Error::InvalidValue);
+        return Answer::Refused(Error::InvalidCurrentOrImpedance);
     }
     if triggers_above_15(device) {
         return Answer::Refused(Error::InvalidValue);

@@ -113,9 +113,10 @@ getEvents r =
 abbrev pub getStatus : DA728x → Operation
 getStatus r = asking 3 r (Read (addressOf "IRQ_STATUS1") ∷ [])
 
+-- 15, then 23, document 02: "a frequency, also in `set_frequency`, 23"
 abbrev pub setFrequency : DA728x → ℕ → Operation
 setFrequency r hz =
-    plain (withSettings (r .settings) (λ a d. unless (firstFailing ((outsideBand (d .«driving_mode») hz, 11) ∷ [])) (runs r (frequencySteps hz))))
+    plain (withSettings (r .settings) (λ a d. unless (firstFailing ((outsideBand (d .«driving_mode») hz, 23) ∷ [])) (runs r (frequencySteps hz))))
 
 abbrev pub negative : ℤ → Bool
 negative (pos n) = false

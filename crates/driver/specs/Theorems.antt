@@ -3,7 +3,7 @@
 use Prim.Native.Nat.{ℕ, suc, _^_, _≤_, _<_, min}
 use mathlib.Core.Path.{_≡_}
 use mathlib.Core.Bool.{Bool, true, false, cond, not, _&&_}
-use mathlib.Core.Logic.{_↔_}
+use mathlib.Core.Logic.{_↔_, _⊎_}
 use mathlib.Core.List.{List, [], _∷_, _++_}
 use lib.Dec.{ltb, leb, eqb}
 use lib.IntN.{ℤ}
@@ -25,12 +25,13 @@ use Rattle.exchange.specs.State.{isSession, countIn, completed, indexed, left, 
 use Rattle.exchange.specs.Turn.{resized, reportOf}
 use Rattle.exchange.specs.Session.{AnswerCall, numberAt, afterCall, final, sent, came, brokenOff, exchangesOf, lending, filled}
 use Rattle.checks.specs.Checks.{configureNumber}
+use Rattle.checks.specs.Blames.{OutOfBand, among}
 use Rattle.da728x.specs.declared.DA728x.{DA728x}
 use Rattle.da728x.specs.declared.Settings.the-variants.{Absent, Given}
 use Rattle.outcome.specs.declared.Change.the-variants.{Same}
 use Rattle.outcome.specs.Outcome.{isChipOf, outcomeOf}
 use Rattle.driver.specs.Operations as operation
-use Rattle.driver.specs.Operations.{Start, declines, begins, startedIn, Operation, revision, changeAfter, recordAfter}
+use Rattle.driver.specs.Operations.{Start, declines, begins, startNumber, startedIn, Operation, revision, negative, changeAfter, recordAfter}
 
 -- ---- all eighteen operations
 
@@ -91,14 +92,30 @@ NoMismatch address o = (b : Begun) (xs : List Step) → o .start ≡ begins b xs
 
 pub record Answers : Type 0 where
   pub courses : Each AnswersAs
-  -- a start of these eighteen that is refused before its first exchange tells one of 11 to 15
-  pub listed : Each (λ address o. (number : ℕ) → o .start ≡ declines number → (11 ≤ number) × (number ≤ 15))
+  -- a start of these eighteen that is refused before its first exchange tells one of these
+  pub listed : Each (λ address o. (number : ℕ) → o .start ≡ declines number → among (11 ∷ 12 ∷ 13 ∷ 14 ∷ 15 ∷ 21 ∷ 22 ∷ 23 ∷ []) number ≡ true)
   -- "16 VariantMismatch, in `new`": in no other operation
   pub mismatch : Others NoMismatch × ((r : DA728x) (a : ActuatorConfig) (d : DeviceConfig) → NoMismatch (r .address) (operation.configure r a d))
   -- "`configure` makes at most 25, at least 14 if none fails"
   pub counts : (r : DA728x) (a : ActuatorConfig) (d : DeviceConfig) (st : List ℕ) (cs : List AnswerCall) →
       configureNumber (r .variant) a d ≡ 0 → isSession st ≡ true →
       let after = final (startedIn st (operation.configure r a d .start)) cs in (countIn after ≤ 25) × (completed after ≡ true → 14 ≤ countIn after)
+
+-- ---- what a start is refused for: document 02, CR 3
+
+pub record Refusals : Type 0 where
+  -- by the number of its checks, whatever is stored; which entry it is told for: `Blames` (checks/specs/Blames.antt)
+  pub configure : (r : DA728x) (a : ActuatorConfig) (d : DeviceConfig) → startNumber (operation.configure r a d .start) ≡ configureNumber (r .variant) a d
+  -- "a frequency, also in `set_frequency`, 23"; 15 comes first
+  pub set-frequency : (r : DA728x) (a : ActuatorConfig) (d : DeviceConfig) (hz number : ℕ) → r .settings ≡ Given a d →
+      (operation.setFrequency r hz .start ≡ declines number) ↔ ((number ≡ 23) × OutOfBand (d .«driving_mode») hz)
+  pub unconfigured : (r : DA728x) (hz : ℕ) (value : ℤ) → r .settings ≡ Absent →
+      (operation.setFrequency r hz .start ≡ declines 15) × (operation.setOverrideValue r value .start ≡ declines 15)
+  -- "Number 11 remains for .. override values, `select_sequence` and `play_sequence`"
+  pub set-override-value : (r : DA728x) (a : ActuatorConfig) (d : DeviceConfig) (value : ℤ) → r .settings ≡ Given a d →
+      (operation.setOverrideValue r value .start ≡ declines 11) ↔ ((d .acceleration ≡ true) × (negative value ≡ true))
+  pub select-sequence : (r : DA728x) (id loops number : ℕ) → (operation.selectSequence r id loops .start ≡ declines number) ↔ ((number ≡ 11) × ((15 < id) ⊎ (15 < loops)))
+  pub play-sequence : (r : DA728x) (id loops number : ℕ) → (operation.playSequence r id loops .start ≡ declines number) ↔ ((number ≡ 11) × ((15 < id) ⊎ (15 < loops)))
 
 -- ---- what is stored
 

@@ -154,7 +154,7 @@ pub fn set_frequency(driver: DA728x, frequency_hz: u16, session: &mut [u8]) -> A
         Settings::Given(_, d) => {
             let mode = d.driving_mode;
             if checks::outside_band(mode, frequency_hz) {
-                return Answer::Refused(Error::InvalidValue);
+                return Answer::Refused(Error::InvalidDriveFrequency);
             }
             sessions::begin(session, driver.address, outcome::COMMAND);
             plans::frequency(session, frequency_hz);

@@ -25,4 +25,7 @@ has-number Error.VariantMismatch = omega arith
 has-number (Error.I2c code) = omega arith
 has-number Error.NotAnImage = omega arith
 has-number Error.OutOfTurn = omega arith
+has-number Error.InvalidVoltage = omega arith
+has-number Error.InvalidCurrentOrImpedance = omega arith
+has-number Error.InvalidDriveFrequency = omega arith
 has-number Error.BufferTooShort = omega arith

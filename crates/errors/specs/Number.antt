@@ -26,6 +26,11 @@ numberAndCode Error.InvalidValue = (11, 0)
 numberAndCode Error.WrongMode = (12, 0)
 numberAndCode Error.MissingTriggerConfigInEtwmMode = (13, 0)
 numberAndCode Error.NotSupported = (14, 0)
+-- .. and document 02's: "A voltage gives 21, a current or impedance 22, and a frequency .. 23"; "Number 11 remains for trigger numbers, override
+-- values, `select_sequence` and `play_sequence`"
+numberAndCode Error.InvalidVoltage = (21, 0)
+numberAndCode Error.InvalidCurrentOrImpedance = (22, 0)
+numberAndCode Error.InvalidDriveFrequency = (23, 0)
 -- the calling program (8 as well, for `from_bytes`)
 numberAndCode Error.NotConfigured = (15, 0)
 -- the board

@@ -1,5 +1,5 @@
 // The refusals (errors.rs), each with document 01's number ('Who can cause which answer') or document 02's.
-// The Rust's names; `Gpio` is left out, since no ported operation drives a pin; `NotAnImage`, `OutOfTurn` and `BufferTooShort` are added.
+// The Rust's names; `Gpio` is left out, since no ported operation drives a pin; `NotAnImage`, `OutOfTurn` and those above 19 are added.
 // `I2c` carries the bus's own failure code. Proved: `number` is the papers' list, `bus_code` that code (specs/Number.antt). Left out:
 // the texts for printing.
 ghost use mathlib.Core.Path.{_≡_};
@@ -26,6 +26,9 @@ pub enum Error {
     EmptySequence,
     NotAnImage,
     OutOfTurn,
+    InvalidVoltage,
+    InvalidCurrentOrImpedance,
+    InvalidDriveFrequency,
     BufferTooShort,
 }
 
@@ -66,6 +69,9 @@ impl Error {
             Error::VariantMismatch => 0,
             Error::NotAnImage => 0,
             Error::OutOfTurn => 0,
+            Error::InvalidVoltage => 0,
+            Error::InvalidCurrentOrImpedance => 0,
+            Error::InvalidDriveFrequency => 0,
             Error::BufferTooShort => 0,
         }
     }
@@ -93,6 +99,9 @@ impl Error {
             Error::I2c(_) => 17,
             Error::NotAnImage => 18,
             Error::OutOfTurn => 19,
+            Error::InvalidVoltage => 21,
+            Error::InvalidCurrentOrImpedance => 22,
+            Error::InvalidDriveFrequency => 23,
             Error::BufferTooShort => 24,
         }
     }

@@ -71,6 +71,19 @@ refusal o = startNumber (o .start)
 abbrev pub told : Variant → List (ℕ × ℕ) → ℕ
 told v changes = refusal (configuring v (replaced (settingsFor 4) changes))
 
+-- faults while it tracks, in the order of the checks: the number, and the bytes that are replaced. Acceleration, rapid stop (CUSTOM_WAVEFORM); no
+-- trigger; 6001 mV nominal, absolute; 253 mA; 3999, 50000 mOhm; 49, 301 Hz; 5991 mV nominal, 6000 absolute; 28 mA; sequence 16, each trigger; rapid stop
+abbrev pub faults : List (ℕ × List (ℕ × ℕ))
+faults =
+    (12, (19, 2) ∷ (32, 1) ∷ []) ∷ (12, (19, 2) ∷ (33, 1) ∷ []) ∷ (13, (20, 0) ∷ (24, 0) ∷ (28, 0) ∷ []) ∷ (21, (1, 0x71) ∷ (2, 0x17) ∷ []) ∷ (21, (3, 0x71) ∷ [])
+    ∷ (22, (5, 253) ∷ []) ∷ (22, (7, 0x9F) ∷ (8, 0x0F) ∷ []) ∷ (22, (7, 0x50) ∷ (8, 0xC3) ∷ []) ∷ (23, (11, 49) ∷ (12, 0) ∷ []) ∷ (23, (11, 0x2D) ∷ (12, 1) ∷ [])
+    ∷ (21, (1, 0x67) ∷ (2, 0x17) ∷ []) ∷ (21, (3, 0x70) ∷ []) ∷ (22, (5, 28) ∷ []) ∷ (11, (21, 16) ∷ []) ∷ (11, (25, 16) ∷ []) ∷ (11, (29, 16) ∷ []) ∷ (14, (33, 1) ∷ []) ∷ []
+
+-- each with each that follows it
+abbrev pub pairs : {A B : Type 0} → (A → A → B) → List A → List B
+pairs f [] = []
+pairs f (x ∷ xs) = map (f x) xs ++ pairs f xs
+
 abbrev pub refusedExamples : List Example
 refusedExamples =
     -- without settings
@@ -80,22 +93,23 @@ refusedExamples =
     ∷ (map (λ o. refusal (o (newRecord 0x4A DA7280))) (operation.getChipRev ∷ operation.getEvents ∷ operation.getStatus ∷ operation.unlockWaveformMemory ∷ operation.lockWaveformMemory ∷ operation.startSequence
     ∷ (λ r. operation.setTimebase r «TIMEBASE_136_544_2176_4352») ∷ (λ r. operation.selectSequence r 3 2) ∷ (λ r. operation.playSequence r 3 2) ∷ []) is replicate 9 0)
     ∷ (map (λ settings. refusal (operation.setCustomDriveWaveform (chipWith settings))) (settingsFor 1 ∷ replaced (settingsFor 1) ((19, 1) ∷ []) ∷ accelerating 1 ∷ []) is (14 ∷ 12 ∷ 12 ∷ []))
-    ∷ (map (λ hz. refusal (operation.setFrequency chip hz)) (24 ∷ 25 ∷ 1024 ∷ 1025 ∷ []) is (11 ∷ 0 ∷ 0 ∷ 11 ∷ []))
-    ∷ (map (λ hz. refusal (operation.setFrequency (chipWith (accelerating 1)) hz)) (49 ∷ 50 ∷ 300 ∷ 301 ∷ []) is (11 ∷ 0 ∷ 0 ∷ 11 ∷ []))
-    -- −1 in ETWM_MODE, accelerating and not; 0 and 127 in DRO_MODE, accelerating; 1 in the other modes
-    ∷ (map (λ (c : List ℕ × ℤ). refusal (operation.setOverrideValue (chipWith (c .0)) (c .1))) ((accelerating 4, negsuc 0) ∷ (settingsFor 4, negsuc 0) ∷ (accelerating 1, pos 0) ∷ (accelerating 1, pos 127)
-    ∷ (settingsFor 0, pos 1) ∷ (settingsFor 2, pos 1) ∷ (settingsFor 3, pos 1) ∷ []) is (11 ∷ 12 ∷ 0 ∷ 0 ∷ 12 ∷ 12 ∷ 12 ∷ []))
+    ∷ (map (λ hz. refusal (operation.setFrequency chip hz)) (24 ∷ 25 ∷ 1024 ∷ 1025 ∷ []) is (23 ∷ 0 ∷ 0 ∷ 23 ∷ []))
+    ∷ (map (λ hz. refusal (operation.setFrequency (chipWith (accelerating 1)) hz)) (49 ∷ 50 ∷ 300 ∷ 301 ∷ []) is (23 ∷ 0 ∷ 0 ∷ 23 ∷ []))
+    -- −1 in ETWM_MODE, accelerating and not; −1, 0 and 127 in DRO_MODE, accelerating; 1 in the other modes
+    ∷ (map (λ (c : List ℕ × ℤ). refusal (operation.setOverrideValue (chipWith (c .0)) (c .1))) ((accelerating 4, negsuc 0) ∷ (settingsFor 4, negsuc 0) ∷ (accelerating 1, negsuc 0) ∷ (accelerating 1, pos 0) ∷ (accelerating 1, pos 127)
+    ∷ (settingsFor 0, pos 1) ∷ (settingsFor 2, pos 1) ∷ (settingsFor 3, pos 1) ∷ []) is (11 ∷ 12 ∷ 11 ∷ 0 ∷ 0 ∷ 12 ∷ 12 ∷ 12 ∷ []))
     ∷ (map refusal (operation.selectSequence chip 16 0 ∷ operation.selectSequence chip 0 16 ∷ operation.playSequence chip 16 0 ∷ operation.playSequence chip 0 16 ∷ []) is replicate 4 11)
     -- `configure`: as they are; acceleration, and rapid stop with no trigger, where it does not track; no trigger and 253 mA
     ∷ (map (told DA7280) ([] ∷ ((32, 1) ∷ []) ∷ ((33, 1) ∷ (20, 0) ∷ (24, 0) ∷ (28, 0) ∷ []) ∷ ((20, 0) ∷ (24, 0) ∷ (28, 0) ∷ (5, 253) ∷ []) ∷ []) is (0 ∷ 12 ∷ 12 ∷ 13 ∷ []))
     -- one trigger on a DA7281; two and 253 mA; two and acceleration
     ∷ (map (told DA7281) (((20, 0) ∷ (28, 0) ∷ []) ∷ ((28, 0) ∷ (5, 253) ∷ []) ∷ ((28, 0) ∷ (32, 1) ∷ []) ∷ []) is (0 ∷ 14 ∷ 12 ∷ []))
-    -- 6001 mV, 253 mA, 3999 and 50000 mOhm, 24 and 1025 Hz, 49 and 301 Hz tracking, 5991 mV, 28 mA, sequence 16
-    ∷ (map (told DA7280) (((1, 0x71) ∷ (2, 0x17) ∷ []) ∷ ((3, 0x71) ∷ []) ∷ ((5, 253) ∷ []) ∷ ((7, 0x9F) ∷ (8, 0x0F) ∷ []) ∷ ((7, 0x50) ∷ (8, 0xC3) ∷ []) ∷ ((11, 24) ∷ [])
-    ∷ ((11, 1) ∷ (12, 4) ∷ []) ∷ ((19, 0) ∷ (11, 49) ∷ []) ∷ ((19, 0) ∷ (11, 0x2D) ∷ (12, 1) ∷ []) ∷ ((1, 0x67) ∷ (2, 0x17) ∷ []) ∷ ((3, 0x67) ∷ []) ∷ ((5, 28) ∷ []) ∷ ((29, 16) ∷ [])
-    ∷ []) is replicate 13 11)
-    -- rapid stop while tracking; with sequence 16; with 5991 mV; with 28 mA
-    ∷ (map (λ changes. told DA7280 ((19, 0) ∷ (33, 1) ∷ changes)) ([] ∷ ((29, 16) ∷ []) ∷ ((3, 0x67) ∷ []) ∷ ((5, 28) ∷ []) ∷ []) is (14 ∷ 11 ∷ 11 ∷ 11 ∷ [])) ∷ []
+    -- each fault; each with each later one, before which it is told; on a DA7281, with all three triggers
+    ∷ (map (λ f. told DA7280 ((19, 0) ∷ f .1)) faults is map (λ f. f .0) faults)
+    ∷ (pairs (λ f g. told DA7280 ((19, 0) ∷ g .1 ++ f .1)) faults is pairs (λ f g. f .0) faults)
+    ∷ (map (λ f. told DA7281 ((19, 0) ∷ f .1)) faults is (12 ∷ 12 ∷ 13 ∷ replicate 14 14))
+    -- in CUSTOM_WAVEFORM: 24, 25, 1024 and 1025 Hz; 24 Hz with each fault, where 49 and 301 Hz are none
+    ∷ (map (told DA7280) (((11, 24) ∷ []) ∷ ((11, 25) ∷ []) ∷ ((11, 0) ∷ (12, 4) ∷ []) ∷ ((11, 1) ∷ (12, 4) ∷ []) ∷ []) is (23 ∷ 0 ∷ 0 ∷ 23 ∷ []))
+    ∷ (map (λ f. told DA7280 ((11, 24) ∷ f .1)) faults is (12 ∷ 12 ∷ 13 ∷ 21 ∷ 21 ∷ 22 ∷ 22 ∷ 22 ∷ 0 ∷ 0 ∷ 23 ∷ 23 ∷ 23 ∷ 23 ∷ 23 ∷ 23 ∷ 12 ∷ [])) ∷ []
 
 abbrev pub wireExamples : List Example
 wireExamples =

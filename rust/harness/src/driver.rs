@@ -2,7 +2,7 @@
 
 use crate::bus::{Bus, Exchange, Script, Wire, at_once, kind};
 use crate::lists::MARKER;
-use crate::oracle::number;
+use crate::oracle::{matches, number};
 use crate::settings::{Settings, published_variant};
 use crate::trim::resistance_code;
 use da728x::waveform::{self, WaveformMemory};
@@ -131,6 +131,14 @@ impl Outcome {
         Self { answer, made: 0, log: Vec::new(), lent: markers(room) }
     }
 
+    /// The number of the refusal, 0 where there is none; a failure of the bus is none.
+    fn refusal(&self) -> u8 {
+        match self.answer {
+            Err((number, None)) => number,
+            _ => 0,
+        }
+    }
+
     /// The lent buffer.
     pub fn buffer(&self) -> &[u8] {
         &self.lent[GUARD..self.lent.len() - GUARD]
@@ -139,7 +147,7 @@ impl Outcome {
 
 /// How many outcomes had which number; 0 counts those that succeeded.
 #[derive(Default)]
-pub struct Tally([usize; 20]);
+pub struct Tally([usize; 31]);
 
 impl Tally {
     pub fn count(&mut self, outcome: &Outcome) {
@@ -238,13 +246,19 @@ impl Published {
         (outcome, driver.map(|driver| Self { driver, wire, address, variant, stored: None }))
     }
 
-    /// What an operation comes to on this script, as document 01 has it: by the published driver
-    /// unless it lies outside the comparison.
+    /// What an operation comes to on this script, as documents 01 and 02 have it: by the published driver unless it lies outside
+    /// the comparison. The number is document 02's (CR 3), which the published one has to match.
     pub fn outcome(&mut self, operation: &Operation, script: &Script) -> Outcome {
-        let outcome = match self.outside(operation) {
+        let mut outcome = match self.outside(operation) {
             Some(number) => Outcome::refused(number, operation.room()),
             None => followed(operation, self.run(operation, script)),
         };
+        let published = outcome.refusal();
+        let number = self.told(operation, published);
+        assert!(matches(published, number), "{operation:?}: {published} told as {number}");
+        if published != 0 {
+            outcome.answer = Err((number, None));
+        }
         if let (Operation::Configure(settings), Ok(_)) = (operation, &outcome.answer) {
             self.stored = Some(*settings);
         }
@@ -255,8 +269,13 @@ impl Published {
     fn outside(&self, operation: &Operation) -> Option<u8> {
         match operation {
             Operation::Configure(settings) => {
-                let number = settings.outside()?;
-                Some(self.checked(&settings.inside()).unwrap_or(number))
+                let published = settings.outside().then(|| self.checked(&settings.inside()))?;
+                Some(published.unwrap_or_else(|| {
+                    // None of the published checks refuses them: one of the added ones has to.
+                    let number = settings.told(self.variant);
+                    assert!([11, 14, 21, 22].contains(&number), "{number} for {settings:?}");
+                    number
+                }))
             }
             Operation::SetCustomDriveWaveform(_) => {
                 let custom = DrivingMode::CUSTOM_WAVEFORM;
@@ -264,6 +283,15 @@ impl Published {
             }
             Operation::UploadWaveformMemory(image, _) => (image.len() > IMAGE).then_some(8),
             _ => None,
+        }
+    }
+
+    /// The number by which an operation is told that the published driver refuses with this one, or with none: 0.
+    fn told(&self, operation: &Operation, published: u8) -> u8 {
+        match operation {
+            Operation::Configure(settings) => settings.told(self.variant),
+            Operation::SetFrequency(_) if published == 11 => 23,
+            _ => published,
         }
     }
 

@@ -6,6 +6,12 @@ use da728x::waveform::{self, FrameBuilder, PwlPoint, SequenceBuilder, SnippetBui
 use std::mem;
 use yambelugo::{Call, Gain, Timebase};
 
+/// Whether the published refusal with the first of these numbers may be told by the second: the published `InvalidValue`, 11,
+/// matches any of the four that document 02 tells apart (CR 3).
+pub fn matches(published: u8, told: u8) -> bool {
+    published == told || published == 11 && (21..=23).contains(&told)
+}
+
 /// Document 01's number of a refusal.
 pub fn number(error: &Error) -> u8 {
     match error {

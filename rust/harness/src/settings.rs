@@ -1,4 +1,5 @@
-//! Settings: random ones near every limit, the published ones, and those outside the comparison.
+//! Settings: random ones near every limit, the published ones, those outside the comparison, and the number by which `configure`
+//! tells them, by documents 01 and 02 alone.
 
 use crate::random::Random;
 use da728x::config as published;
@@ -133,23 +134,58 @@ impl Settings {
         }
     }
 
-    /// Document 01's number where the settings lie outside the comparison, told after the
-    /// published checks: the Rust writes nonsense for these, or stops at a `todo!`.
-    pub fn outside(&self) -> Option<u8> {
+    /// The number by which `configure` tells these settings, 0 where it accepts them: document 01's checks in its order, with
+    /// document 02's numbers (CR 3).
+    pub fn told(&self, variant: Variant) -> u8 {
+        let Settings { actuator, device } = self;
+        let tracking = device.driving_mode == DrivingMode::FREQUENCY_TRACK;
+        let etwm = device.operation_mode == OperationMode::ETWM_MODE;
+        let given: Vec<_> = device.gpi_triggers.iter().flatten().collect();
+        let voltage = actuator.nominal_max_mV.max(actuator.absolute_max_mV);
+        let band = if tracking { 50..=300 } else { 25..=1024 };
+
+        if !tracking && (device.acceleration || device.rapid_stop) {
+            return 12;
+        }
+        if etwm && given.is_empty() {
+            return 13;
+        }
+        if etwm && variant == Variant::DA7281 && given.len() > 1 {
+            return 14;
+        }
+        if voltage > 6000 {
+            return 21;
+        }
+        if actuator.max_current_mA > 252 || !(4000..=49999).contains(&actuator.impedance_mOhm) {
+            return 22;
+        }
+        if !band.contains(&actuator.frequency_Hz) {
+            return 23;
+        }
+        // Those that document 01 adds.
+        if voltage > 5990 {
+            return 21;
+        }
+        if actuator.max_current_mA < 29 {
+            return 22;
+        }
+        if etwm && given.iter().any(|trigger| trigger.sequence_id > 15) {
+            return 11;
+        }
+        if device.rapid_stop { 14 } else { 0 }
+    }
+
+    /// Whether the settings lie outside the comparison: the Rust writes nonsense for these, or stops at a `todo!`, where none of
+    /// its own checks refuses them.
+    pub fn outside(&self) -> bool {
         let Settings { actuator, device } = self;
         let etwm = device.operation_mode == OperationMode::ETWM_MODE;
         let voltages = [actuator.nominal_max_mV, actuator.absolute_max_mV];
-        let numbers = device.gpi_triggers.iter().flatten().map(|trigger| trigger.sequence_id);
-        if voltages.iter().any(|it| (5991..=6000).contains(it))
+        let mut numbers = device.gpi_triggers.iter().flatten().map(|trigger| trigger.sequence_id);
+        voltages.iter().any(|it| (5991..=6000).contains(it))
             || actuator.max_current_mA <= 28
-            || etwm && numbers.max() > Some(15)
-        {
-            Some(11)
-        } else if device.rapid_stop && device.driving_mode == DrivingMode::FREQUENCY_TRACK {
-            Some(14)
-        } else {
-            None
-        }
+            || etwm && numbers.any(|number| number > 15)
+            || device.rapid_stop && device.driving_mode == DrivingMode::FREQUENCY_TRACK
     }
 
     /// The settings inside the comparison that the published checks judge the same.

@@ -1,6 +1,7 @@
 //! `configure` against the published Rust: the answer, every exchange in order, the count, and what is stored, as far as a later
 //! operation shows it and as the record's bytes say it. The low two bits of TRIM4 follow document 01, by the text of the
-//! published `match`; settings that document 01 adds a check for are told by its number instead (`Settings::outside`).
+//! published `match`. The number is held to documents 01 and 02 as well (`Settings::told`), which the published refusal has to
+//! match; for settings that document 01 adds a check for it is the judge alone (`Settings::outside`).
 
 use harness::bus::Script;
 use harness::compared;
@@ -8,6 +9,7 @@ use harness::driver::{Operation, Pair, Tally};
 use harness::random::Random;
 use harness::settings::{DRIVINGS, MODES, OPERATIONS, POLARITIES, Settings, TYPES, VARIANTS};
 use harness::trim::rows;
+use std::collections::BTreeSet;
 use yambelugo::{DrivingMode, OperationMode, TriggerConfig, Variant};
 
 const TRACK: DrivingMode = DrivingMode::FREQUENCY_TRACK;
@@ -78,7 +80,7 @@ fn every_voltage() {
     let mut cases = 0;
     for voltage in (0..=6100).chain([32768, 65535]) {
         let mut settings = Settings::plain(DRO, TRACK);
-        let wanted = if voltage > 5990 { 11 } else { 0 };
+        let wanted = if voltage > 5990 { 21 } else { 0 };
         settings.actuator.nominal_max_mV = voltage;
         assert_eq!(number(&mut pair, settings), wanted, "{voltage} mV");
         settings.actuator.nominal_max_mV = 5990;
@@ -99,7 +101,7 @@ fn every_current() {
             let mut settings = Settings::plain(DRO, TRACK);
             settings.actuator.max_current_mA = current;
             settings.actuator.impedance_mOhm = impedance;
-            let wanted = if (29..=252).contains(&current) { 0 } else { 11 };
+            let wanted = if (29..=252).contains(&current) { 0 } else { 22 };
             assert_eq!(number(&mut pair, settings), wanted, "{current} mA");
             cases += 1;
         }
@@ -117,7 +119,7 @@ fn every_impedance() {
             let mut settings = Settings::plain(DRO, TRACK);
             settings.actuator.max_current_mA = 29 + imax * 36 / 5;
             settings.actuator.impedance_mOhm = impedance;
-            let wanted = if (4000..=49999).contains(&impedance) { 0 } else { 11 };
+            let wanted = if (4000..=49999).contains(&impedance) { 0 } else { 22 };
             assert_eq!(number(&mut pair, settings), wanted, "{impedance} mOhm");
             cases += 1;
         }
@@ -160,7 +162,7 @@ fn every_frequency() {
             let mut settings = Settings::plain(DRO, driving);
             settings.actuator.frequency_Hz = frequency;
             let band = if driving == TRACK { 50..=300 } else { 25..=1024 };
-            let wanted = if band.contains(&frequency) { 0 } else { 11 };
+            let wanted = if band.contains(&frequency) { 0 } else { 23 };
             assert_eq!(number(&mut pair, settings), wanted, "{frequency} Hz, {driving:?}");
             cases += 1;
         }
@@ -238,6 +240,130 @@ fn every_trigger() {
         }
     }
     compared("triggers", cases, 2 * 2 * 3 * 6 * 256);
+}
+
+/// An entry of the settings, right or with a fault: the checks that it fails, by their places in document 01's order from 0, and
+/// how it is made.
+type Entry = (&'static [usize], fn(&mut Settings));
+
+/// The number of the check at each place: documents 01 and 02.
+const NUMBERS: [u8; 13] = [12, 13, 14, 21, 21, 22, 22, 23, 21, 21, 22, 11, 14];
+
+const NOMINAL: [Entry; 3] = [
+    (&[], |it| it.actuator.nominal_max_mV = 5990),
+    (&[8], |it| it.actuator.nominal_max_mV = 5995),
+    (&[3, 8], |it| it.actuator.nominal_max_mV = 6001),
+];
+
+const ABSOLUTE: [Entry; 3] = [
+    (&[], |it| it.actuator.absolute_max_mV = 5990),
+    (&[9], |it| it.actuator.absolute_max_mV = 6000),
+    (&[4, 9], |it| it.actuator.absolute_max_mV = 65535),
+];
+
+const CURRENT: [Entry; 3] = [
+    (&[], |it| it.actuator.max_current_mA = 29),
+    (&[10], |it| it.actuator.max_current_mA = 28),
+    (&[5], |it| it.actuator.max_current_mA = 253),
+];
+
+const IMPEDANCE: [Entry; 3] = [
+    (&[], |it| it.actuator.impedance_mOhm = 49999),
+    (&[6], |it| it.actuator.impedance_mOhm = 3999),
+    (&[6], |it| it.actuator.impedance_mOhm = 50000),
+];
+
+/// The frequency, and acceleration or rapid stop, while it tracks.
+const TRACKED: [&[Entry]; 2] = [
+    &[
+        (&[], |it| it.actuator.frequency_Hz = 300),
+        (&[7], |it| it.actuator.frequency_Hz = 49),
+        (&[7], |it| it.actuator.frequency_Hz = 301),
+    ],
+    &[
+        (&[], |it| flags(it, false, false)),
+        (&[], |it| flags(it, true, false)),
+        (&[12], |it| flags(it, false, true)),
+        (&[12], |it| flags(it, true, true)),
+    ],
+];
+
+/// And while it does not.
+const UNTRACKED: [&[Entry]; 2] = [
+    &[
+        (&[], |it| it.actuator.frequency_Hz = 1024),
+        (&[7], |it| it.actuator.frequency_Hz = 24),
+        (&[7], |it| it.actuator.frequency_Hz = 1025),
+    ],
+    &[
+        (&[], |it| flags(it, false, false)),
+        (&[0], |it| flags(it, true, false)),
+        (&[0, 12], |it| flags(it, false, true)),
+        (&[0, 12], |it| flags(it, true, true)),
+    ],
+];
+
+fn flags(settings: &mut Settings, acceleration: bool, rapid_stop: bool) {
+    (settings.device.acceleration, settings.device.rapid_stop) = (acceleration, rapid_stop);
+}
+
+/// The triggers' sequence numbers, with the checks that they fail in ETWM mode on a DA7281; on the others the third of the checks
+/// is not made.
+const TRIGGERS: [(&[usize], [Option<u8>; 3]); 7] = [
+    (&[1], [None, None, None]),
+    (&[], [None, Some(15), None]),
+    (&[11], [Some(16), None, None]),
+    (&[11], [None, None, Some(255)]),
+    (&[2], [Some(0), None, Some(15)]),
+    (&[2, 11], [Some(15), Some(16), None]),
+    (&[2, 11], [Some(0), Some(15), Some(16)]),
+];
+
+/// All combinations of the thirteen faults that can occur together, on every variant: the first in document 01's order is told.
+/// This is a third rule for the number, beside the published driver and `Settings::told`.
+#[test]
+fn every_combination_of_faults() {
+    let (mut cases, mut met, mut told) = (0, BTreeSet::new(), BTreeSet::new());
+    let modes = [DRO, ETWM].map(|it| [(it, TRACK, TRACKED), (it, CUSTOM, UNTRACKED)]);
+    for (variant, mode) in VARIANTS.iter().flat_map(|it| modes.as_flattened().iter().map(move |to| (*it, to))) {
+        let (operation, driving, [frequency, flags]) = *mode;
+        let mut pair = Pair::new(0x4A, variant);
+        for entries in choices(&[&NOMINAL, &ABSOLUTE, &CURRENT, &IMPEDANCE, frequency, flags]) {
+            for (places, numbers) in TRIGGERS {
+                let mut settings = Settings::plain(operation, driving);
+                entries.iter().for_each(|(_, make)| make(&mut settings));
+                settings.device.gpi_triggers = numbers.map(|number| {
+                    number.map(|sequence_id| TriggerConfig {
+                        sequence_id,
+                        polarity: POLARITIES[0],
+                        mode: MODES[0],
+                    })
+                });
+                let made = |place: &&usize| {
+                    operation == ETWM && (**place != 2 || variant == Variant::DA7281)
+                };
+                let of_triggers = places.iter().filter(made);
+                let failed = entries.iter().flat_map(|(places, _)| *places).chain(of_triggers);
+                let failed: BTreeSet<usize> = failed.copied().collect();
+                let wanted = failed.first().map_or(0, |place| NUMBERS[*place]);
+                assert_eq!(number(&mut pair, settings), wanted, "{failed:?}: {settings:?}");
+                told.insert(wanted);
+                met.insert(failed);
+                cases += 1;
+            }
+        }
+    }
+    compared("settings with faults", cases, 3 * 4 * 3_usize.pow(5) * 4 * 7);
+    // Nominal, absolute, current; impedance; frequency; flags; triggers.
+    compared("combinations of faults", met.len(), 3 * 3 * 3 * 2 * 2 * 4 * 5);
+    assert_eq!(Vec::from_iter(told), [0, 11, 12, 13, 14, 21, 22, 23]);
+}
+
+/// One of each, in all ways.
+fn choices(entries: &[&[Entry]]) -> Vec<Vec<Entry>> {
+    let Some((first, others)) = entries.split_first() else { return vec![Vec::new()] };
+    let with = |rest: Vec<Entry>| first.iter().map(move |it| [&[*it], &rest[..]].concat());
+    choices(others).into_iter().flat_map(with).collect()
 }
 
 /// Every byte that TOP_CFG2 and TOP_INT_CFG8 may hold before, with and without acceleration.

@@ -54,6 +54,6 @@ fn numbers_are_those_of_the_definitions() {
         assert_eq!(error.number().to_string(), number);
         cases += 1;
     }
-    compared("numbers of errors", cases, 20);
+    compared("numbers of errors", cases, 23);
     assert!(Error::from_number(0, 0).is_none() && Error::from_number(20, 0).is_none());
 }

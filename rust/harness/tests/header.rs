@@ -84,7 +84,7 @@ fn empty_slices() {
             assert_eq!(replace(0, 255, none, 0), 0);
         }
         assert_eq!(da728x_new(0, 0, none, 0), 0);
-        assert_eq!(da728x_configure(list, 0, list, 0, none, 0), 11);
+        assert_eq!(da728x_configure(list, 0, list, 0, none, 0), 22);
         for start in [
             da728x_get_chip_rev,
             da728x_get_events,

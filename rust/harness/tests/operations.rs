@@ -145,7 +145,7 @@ fn every_frequency() {
             let wanted = match (driving, band.contains(&frequency)) {
                 (None, _) => Err((15, None)),
                 (_, true) => Ok(Value::Nothing),
-                (_, false) => Err((11, None)),
+                (_, false) => Err((23, None)),
             };
             assert_eq!(outcome.answer, wanted, "{frequency} Hz, {driving:?}");
             cases += 1;

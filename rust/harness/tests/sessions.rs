@@ -220,10 +220,10 @@ fn a_refused_start_writes_nothing() {
     let custom = record_bytes(0x4A, Variant::DA7282, Some(&longest()));
     let one = record_bytes(0x4A, Variant::DA7281, None);
     let rows: [(Operation, [u8; RECORD], u8); 15] = [
-        (Operation::Configure(refused), none, 11),
+        (Operation::Configure(refused), none, 23),
         (Operation::Configure(longest()), one, 14),
         (Operation::SetFrequency(100), none, 15),
-        (Operation::SetFrequency(1025), custom, 11),
+        (Operation::SetFrequency(1025), custom, 23),
         (Operation::SetOverrideValue(1), none, 15),
         (Operation::SetOverrideValue(1), custom, 12),
         (Operation::Enable, none, 15),
@@ -327,7 +327,7 @@ fn settings_of_another_length() {
             let number = raw::configure(&stored(), &whole, &mut session);
             assert_eq!(number, raw::configure(&stored(), &padded, &mut wanted), "{len} bytes");
             // Without the impedance's high byte it is too low.
-            assert!(len > 8 || number == 11);
+            assert!(len > 8 || number == 22);
             assert!(len < 34 || number == 0);
             assert_eq!(session, wanted, "{len} bytes");
             lengths += 1;

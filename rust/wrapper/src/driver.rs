@@ -98,7 +98,11 @@ impl DA728x {
     /// # Errors
     /// The first that holds: `WrongMode` for acceleration or rapid stop when not tracking;
     /// `MissingTriggerConfigInEtwmMode` for no trigger in ETWM mode, `NotSupported` for more than
-    /// one on the DA7281; `InvalidValue` for a value out of range; `NotSupported` for rapid stop.
+    /// one on the DA7281; `InvalidVoltage` above 6000 mV; `InvalidCurrentOrImpedance` above 252 mA
+    /// and outside 4000 to 49999 mOhm; `InvalidDriveFrequency` outside 50 to 300 Hz when tracking,
+    /// else outside 25 to 1024; `InvalidVoltage` above 5990 mV; `InvalidCurrentOrImpedance` below
+    /// 29 mA; `InvalidValue` for a trigger's sequence number above 15 in ETWM mode; `NotSupported`
+    /// for rapid stop.
     ///
     /// ```
     /// # use yambelugo::*;
@@ -132,6 +136,12 @@ impl DA728x {
     /// let wideband = DeviceConfig { driving_mode: DrivingMode::WIDEBAND, ..device };
     /// let slow = ActuatorConfig { frequency_Hz: 20, ..actuator };
     /// assert_eq!(driver.configure(slow, wideband), Err(Error::WrongMode));
+    ///
+    /// // The number names the entry; 5995 mV is told behind the frequency.
+    /// let high = ActuatorConfig { nominal_max_mV: 5995, ..actuator };
+    /// assert_eq!(driver.configure(high, device), Err(Error::InvalidVoltage));
+    /// let both = ActuatorConfig { nominal_max_mV: 5995, ..slow };
+    /// assert_eq!(driver.configure(both, device), Err(Error::InvalidDriveFrequency));
     /// assert_eq!(driver.as_bytes()[3..21], actuator.encode());
     /// # Ok::<(), Error>(())
     /// ```
@@ -200,7 +210,8 @@ impl DA728x {
     /// Sets the frequency that the chip drives with; the stored one stays.
     ///
     /// # Errors
-    /// `NotConfigured`; `InvalidValue` outside 50 to 300 Hz when tracking, else outside 25 to 1024.
+    /// `NotConfigured`; `InvalidDriveFrequency` outside 50 to 300 Hz when tracking, else outside 25
+    /// to 1024.
     ///
     /// ```
     /// # use yambelugo::{DA728x, Error, RECORD, Reply};
@@ -216,7 +227,7 @@ impl DA728x {
     ///     &mut [],
     /// )?;
     /// assert_eq!(sent, [[0x0A, 34], [0x0B, 59]]);
-    /// assert_eq!(driver.set_frequency(301), Err(Error::InvalidValue));
+    /// assert_eq!(driver.set_frequency(301), Err(Error::InvalidDriveFrequency));
     /// # Ok::<(), Error>(())
     /// ```
     pub fn set_frequency(&mut self, frequency_hz: u16) -> Started<'_> {

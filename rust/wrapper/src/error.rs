@@ -36,7 +36,8 @@ pub enum Error {
     EmptySnippet,
     /// 10: no frames, or no sequences, to build from.
     EmptySequence,
-    /// 11: a setting or an argument is out of range.
+    /// 11: a trigger's sequence number, an override value, a sequence number or a loop count is
+    /// out of range.
     InvalidValue,
     /// 12: the operation does not fit the mode.
     WrongMode,
@@ -54,6 +55,13 @@ pub enum Error {
     NotAnImage,
     /// 19: an answer does not fit, none is pending, or the read buffer's length has changed.
     OutOfTurn,
+    /// 21: a voltage is above 5990 mV.
+    InvalidVoltage,
+    /// 22: a current is not 29 to 252 mA, or an impedance not 4000 to 49999 mOhm.
+    InvalidCurrentOrImpedance,
+    /// 23: a frequency that the chip is to drive is not 50 to 300 Hz when tracking, else not 25 to
+    /// 1024. (A frame's is told by [`InvalidFrequency`](Error::InvalidFrequency).)
+    InvalidDriveFrequency,
     /// 24: the buffer is shorter than the item; no byte of it was written.
     BufferTooShort,
 }
@@ -86,6 +94,9 @@ impl Error {
             Error::I2c(_) => 17,
             Error::NotAnImage => 18,
             Error::OutOfTurn => 19,
+            Error::InvalidVoltage => 21,
+            Error::InvalidCurrentOrImpedance => 22,
+            Error::InvalidDriveFrequency => 23,
             Error::BufferTooShort => 24,
         }
     }
@@ -118,6 +129,9 @@ impl Error {
             17 => Error::I2c(code),
             18 => Error::NotAnImage,
             19 => Error::OutOfTurn,
+            21 => Error::InvalidVoltage,
+            22 => Error::InvalidCurrentOrImpedance,
+            23 => Error::InvalidDriveFrequency,
             24 => Error::BufferTooShort,
             _ => return None,
         })
@@ -137,7 +151,7 @@ impl fmt::Display for Error {
             Error::WaveformMemoryFull => "a sequence above 96 bytes or an image above 100",
             Error::EmptySnippet => "no snippet to build from",
             Error::EmptySequence => "no sequence to build from",
-            Error::InvalidValue => "a setting is out of range",
+            Error::InvalidValue => "a sequence number, a loop count or an override value is out of range",
             Error::WrongMode => "the operation does not fit the mode",
             Error::MissingTriggerConfigInEtwmMode => "no trigger in ETWM mode",
             Error::NotSupported => "not supported",
@@ -146,6 +160,13 @@ impl fmt::Display for Error {
             Error::I2c(code) => return write!(f, "the bus failed with code {code}"),
             Error::NotAnImage => "the bytes are no image",
             Error::OutOfTurn => "the answer does not fit the pending exchange",
+            Error::InvalidVoltage => "a voltage is above 5990 mV",
+            Error::InvalidCurrentOrImpedance => {
+                "a current is not 29 to 252 mA, or an impedance not 4000 to 49999 mOhm"
+            }
+            Error::InvalidDriveFrequency => {
+                "a frequency is not 50 to 300 Hz when tracking, else not 25 to 1024"
+            }
             Error::BufferTooShort => "the buffer is shorter than the item",
         })
     }
@@ -177,7 +198,7 @@ mod tests {
         for number in 0..=255 {
             match Error::from_number(number, 7) {
                 Some(error) => assert_eq!(error.number(), number),
-                None => assert!(matches!(number, 0 | 20..=23 | 25..)),
+                None => assert!(matches!(number, 0 | 20 | 25..)),
             }
         }
     }

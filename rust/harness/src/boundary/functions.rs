@@ -48,11 +48,11 @@ functions! {
     da728x_replace_control: 0;
     da728x_replace_trigger: 0;
     da728x_new: 0;
-    da728x_configure: 0, 11, 12, 13, 14;
+    da728x_configure: 0, 11, 12, 13, 14, 21, 22, 23;
     da728x_get_chip_rev: 0;
     da728x_get_events: 0;
     da728x_get_status: 0;
-    da728x_set_frequency: 0, 11, 15;
+    da728x_set_frequency: 0, 15, 23;
     da728x_set_override_value: 0, 11, 12, 15;
     da728x_set_timebase: 0;
     da728x_enable: 0, 15;
