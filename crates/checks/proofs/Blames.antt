@@ -94,10 +94,11 @@ blames = record {
       inl (inl (ltb-true (a .«max_current_mA») 29 (last _ t)))));
   frequency = λ v a d e. out-of-band (d .«driving_mode») (a .«frequency_Hz») .0 (last _ (told 23 v a d (omega arith) e));
   trigger-number = λ v a d e.
-      let both = and-eq-true-iff (etwm (d .«operation_mode»)) (triggersAbove15 d) .0 (last _ (told 11 v a d (omega arith) e)) in
-      (is-etwm (d .«operation_mode») (both .0),
-      split (sequenceAbove15 (d .«gpi_trigger_0»)) _ (both .1) (λ t. inl (above15 (d .«gpi_trigger_0») t)) (λ r.
-      split (sequenceAbove15 (d .«gpi_trigger_1»)) _ r (λ t. inr (inl (above15 (d .«gpi_trigger_1») t))) (λ t. inr (inr (above15 (d .«gpi_trigger_2») t)))));
+      let both = and-eq-true-iff (etwm (d .«operation_mode»)) (triggersAbove15 d) .0 (last _ (told 11 v a d (omega arith) e)) in (
+        is-etwm (d .«operation_mode») (both .0),
+        split (sequenceAbove15 (d .«gpi_trigger_0»)) _ (both .1) (λ t. inl (above15 (d .«gpi_trigger_0») t)) (λ r.
+            split (sequenceAbove15 (d .«gpi_trigger_1»)) _ r (λ t. inr (inl (above15 (d .«gpi_trigger_1») t))) (λ t. inr (inr (above15 (d .«gpi_trigger_2») t)))),
+      );
   untracked = λ v a d e.
       let both = and-eq-true-iff (not (tracking (d .«driving_mode»))) (d .acceleration || d .«rapid_stop») .0 (last _ (told 12 v a d (omega arith) e)) in
       (untracks (d .«driving_mode») .0 (not-true (tracking (d .«driving_mode»)) (both .0)), split (d .acceleration) (d .«rapid_stop») (both .1) inl inr);
@@ -107,9 +108,9 @@ blames = record {
       (is-etwm (d .«operation_mode») (both .0), absent (d .«gpi_trigger_0») (omega (arith, none)), absent (d .«gpi_trigger_1») (omega (arith, none)), absent (d .«gpi_trigger_2») (omega (arith, none)));
   unsupported = λ v a d e.
       split (etwm (d .«operation_mode») && (isDA7281 v && ltb 1 (triggersGiven d))) _ (told 14 v a d (omega arith) e) (λ t.
-          let both = and-eq-true-iff (etwm (d .«operation_mode»)) (isDA7281 v && ltb 1 (triggersGiven d)) .0 t in
-          let more = and-eq-true-iff (isDA7281 v) (ltb 1 (triggersGiven d)) .0 (both .1) in
-          inl (is-etwm (d .«operation_mode») (both .0), is-DA7281 v (more .0), ltb-true 1 (triggersGiven d) (more .1)))
+      let both = and-eq-true-iff (etwm (d .«operation_mode»)) (isDA7281 v && ltb 1 (triggersGiven d)) .0 t in
+      let more = and-eq-true-iff (isDA7281 v) (ltb 1 (triggersGiven d)) .0 (both .1) in
+      inl (is-etwm (d .«operation_mode») (both .0), is-DA7281 v (more .0), ltb-true 1 (triggersGiven d) (more .1)))
       (λ t. inr (tracks (d .«driving_mode») (on (tracking (d .«driving_mode»)) (λ f. not-first v a d e f (last _ t))), last _ t));
 }
   where

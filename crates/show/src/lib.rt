@@ -90,7 +90,8 @@ pub fn error(number: u8) {
     word(
         b"Done InvalidTimebase InvalidAmplitude InvalidSnippetId InvalidLoopCount InvalidFrequency TooManySnippets \
           TooManySequences WaveformMemoryFull EmptySnippet EmptySequence InvalidValue WrongMode \
-          MissingTriggerConfigInEtwmMode NotSupported NotConfigured VariantMismatch I2c NotAnImage OutOfTurn",
+          MissingTriggerConfigInEtwmMode NotSupported NotConfigured VariantMismatch I2c NotAnImage OutOfTurn \
+          - InvalidVoltage InvalidCurrentOrImpedance InvalidDriveFrequency BufferTooShort",
         number as usize,
     );
 }

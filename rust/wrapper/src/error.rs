@@ -151,7 +151,9 @@ impl fmt::Display for Error {
             Error::WaveformMemoryFull => "a sequence above 96 bytes or an image above 100",
             Error::EmptySnippet => "no snippet to build from",
             Error::EmptySequence => "no sequence to build from",
-            Error::InvalidValue => "a sequence number, a loop count or an override value is out of range",
+            Error::InvalidValue => {
+                "a sequence number, a loop count or an override value is out of range"
+            }
             Error::WrongMode => "the operation does not fit the mode",
             Error::MissingTriggerConfigInEtwmMode => "no trigger in ETWM mode",
             Error::NotSupported => "not supported",

@@ -71,9 +71,7 @@ impl Inputs {
         while refused.len() < cases {
             let settings = Settings::any(&mut random);
             let case = Case::new(&settings);
-            if !settings.outside()
-                && our_start(&case, &our_record(), &mut [0; SESSION]) != 0
-            {
+            if !settings.outside() && our_start(&case, &our_record(), &mut [0; SESSION]) != 0 {
                 refused.push(case);
             }
         }
