@@ -30,13 +30,14 @@
  *    2 InvalidAmplitude     a point's amplitude is above 15
  *    3 InvalidSnippetId     a snippet number is 0 or above 15, or no frame was begun
  *    4 InvalidLoopCount     a frame's loop count is above 15
- *    5 InvalidFrequency     a frame's frequency is above 511 Hz
+ *    5 InvalidFrequency     a frame's frequency is above 511 Hz (one that is driven: 23)
  *    6 TooManySnippets      a 17th point or a 16th snippet
  *    7 TooManySequences     a 33rd frame or a 17th sequence
  *    8 WaveformMemoryFull   a sequence above 96 bytes, an image above 100
  *    9 EmptySnippet         no points, or no snippets, to build from
  *   10 EmptySequence        no frames, or no sequences, to build from
- *   11 InvalidValue         a setting or an argument is out of range
+ *   11 InvalidValue         an override value, or a sequence number (of a trigger too) or a loop
+ *                           count that is to be played, is out of range
  *   12 WrongMode            the settings' mode does not allow it
  *   13 MissingTriggerConfigInEtwmMode
  *   14 NotSupported         by the chip or by the driver; a record that is no builder call
@@ -45,6 +46,11 @@
  *   17 I2c                  the bus failed
  *   18 NotAnImage           the builders cannot make these bytes
  *   19 OutOfTurn            an answer that does not fit the pending exchange
+ *   21 InvalidVoltage       a voltage of the settings is out of range
+ *   22 InvalidCurrentOrImpedance
+ *                           a current or an impedance of the settings is out of range
+ *   23 InvalidDriveFrequency
+ *                           a frequency that is to be driven is out of range
  *   24 BufferTooShort       the lent buffer is shorter than the item, the image or the lists that
  *                           go into it; no byte of it is written
  */
@@ -366,10 +372,19 @@ uint8_t da728x_new(uint8_t address, uint8_t variant,
  * no register that these settings do not name: what a custom waveform set in SEQ_CTL1, TOP_CFG4
  * and FRQ_PHASE_L stays when the chip is set up for tracking afterwards.
  * Settings for a custom waveform write SEQ_CTL1 anew: da728x_set_timebase has to follow them.
- * Refused with the first that holds: 12 for acceleration or rapid stop when not tracking;
- * in ETWM mode 13 for no trigger, 14 for more than one on the DA7281; 11 for a value
- * outside the ranges above (of a trigger's sequence number in ETWM mode only); 14 for
- * rapid stop.
+ * Refused with the first that holds:
+ *   12  acceleration or rapid stop when not tracking
+ *   13  in ETWM mode no trigger
+ *   14  in ETWM mode more than one trigger on the DA7281
+ *   21  a voltage above 6000 mV
+ *   22  a current above 252 mA, an impedance below 4000 or above 49999 mOhm
+ *   23  a frequency outside 50 to 300 Hz when tracking, else outside 25 to 1024
+ *   21  a voltage above 5990 mV
+ *   22  a current below 29 mA
+ *   11  in ETWM mode a given trigger's sequence number above 15
+ *   14  rapid stop
+ * So a number names an entry that is wrong; another may be wrong too, and is told once the first is
+ * mended. Missing bytes count as 0: settings that are cut short before the impedance give 22.
  * The settings are stored as they are understood, so their bytes may differ from those lent: a
  * code past the last as the last, a flag as 1, PID words and triggers that are not given as 0. */
 uint8_t da728x_configure(const uint8_t *record, size_t record_len,
@@ -386,7 +401,7 @@ uint8_t da728x_get_events(const uint8_t *record, size_t record_len,
 uint8_t da728x_get_status(const uint8_t *record, size_t record_len,
                           uint8_t *session, size_t session_len);
 
-/* Sets the frequency that the chip drives; the stored one stays. 15 without settings, then 11
+/* Sets the frequency that the chip drives; the stored one stays. 15 without settings, then 23
  * outside 50 to 300 Hz when tracking, else outside 25 to 1024. */
 uint8_t da728x_set_frequency(const uint8_t *record, size_t record_len, uint16_t frequency_hz,
                              uint8_t *session, size_t session_len);

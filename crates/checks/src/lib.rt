@@ -1,7 +1,8 @@
 // The checks that `configure` makes before its first exchange (lib.rs; document 01, 'Settings to registers'), those that document 01 adds
-// among them. Nothing is left out.
+// among them; the numbers of values are document 02's (CR 3). Nothing is left out.
 // Proved: the answer is the number of the first check of specs/Checks.antt that fails, in that order; no
-// check fails if and only if the settings are in the ranges of specs/InRange.antt (proofs/Accepted.antt).
+// check fails if and only if the settings are in the ranges of specs/InRange.antt (proofs/Accepted.antt); a number is told where an entry
+// that it stands for is wrong (specs/Blames.antt).
 ghost use mathlib.Core.Path.{_≡_};
 ghost use mathlib.Core.Bool.{not, _&&_, _||_};
 ghost use lib.Dec.{ltb, eqb};
@@ -46,7 +47,7 @@ pub fn configure_checks(variant: Variant, actuator: ActuatorConfig, device: Devi
     if outside_band(mode, actuator.frequency_Hz) {
         return Answer::Refused(Error::InvalidDriveFrequency);
     }
-    // from here on the checks that the Rust lacks
+    // from here on the checks that the Rust lacks; they stay behind the others
     if 5990 < actuator.nominal_max_mV {
         return Answer::Refused(Error::InvalidVoltage);
     }
