@@ -156,7 +156,7 @@ fn run(record: &mut [u8], session: &mut [u8], read: u8) -> u8 {
     0
 }
 
-/// Three settings of a DA7280: two that are accepted, and one that is refused with 11.
+/// Three settings of a DA7280: two that are accepted, and one that is refused with 22.
 fn three_settings() -> [Settings; 3] {
     let plain = |mode| Settings::plain(mode, DrivingMode::FREQUENCY_TRACK);
     let (x, y) = (plain(OperationMode::DRO_MODE), plain(OperationMode::RTWM_MODE));
@@ -199,7 +199,7 @@ fn a_stale_session_brings_back_no_settings() {
     let mut record = found(0x4A, Variant::DA7280);
     configured(&x, &mut record, &mut a);
     configured(&y, &mut record, &mut b);
-    assert_eq!(raw::configure(&record, &z.encode(), &mut a), 11);
+    assert_eq!(raw::configure(&record, &z.encode(), &mut a), 22);
     assert_eq!(run(&mut record, &mut a, 0x5A), 0);
     brings_nothing_back(&mut record, &mut a);
     assert_eq!(record, record_bytes(0x4A, Variant::DA7280, Some(&y)));
@@ -217,7 +217,7 @@ fn a_stale_session_on_two_chips() {
     let mut first = found(0x4A, Variant::DA7280);
     let mut second = found(0x4B, Variant::DA7281);
     configured(&x, &mut first, &mut session);
-    assert_eq!(raw::configure(&second, &z.encode(), &mut session), 11);
+    assert_eq!(raw::configure(&second, &z.encode(), &mut session), 22);
     assert_eq!(run(&mut second, &mut session, 0x5A), 0);
     brings_nothing_back(&mut second, &mut session);
     brings_nothing_back(&mut first, &mut session);
@@ -231,8 +231,8 @@ fn a_stale_session_on_two_chips() {
 #[test]
 fn a_refused_start_after_a_completed_session() {
     let refusals = [
-        (Operation::Configure(three_settings()[2]), 11),
-        (Operation::SetFrequency(0), 11),
+        (Operation::Configure(three_settings()[2]), 22),
+        (Operation::SetFrequency(0), 23),
         (Operation::SetCustomDriveWaveform([1, 2, 3]), 12),
         (Operation::UploadWaveformMemory(vec![0; 101], true), 8),
         (Operation::PlaySequence(16, 0), 11),
@@ -267,7 +267,7 @@ fn a_refused_start_under_way() {
     let mut session = [0; SESSION];
     assert_eq!(raw::configure(&record, &x.encode(), &mut session), 0);
     raw::answer(&mut record, &mut session, DONE, 0, &mut []);
-    assert_eq!(raw::configure(&record, &z.encode(), &mut session), 11);
+    assert_eq!(raw::configure(&record, &z.encode(), &mut session), 22);
     assert_eq!(raw::result(&session), result_word(0, 1, false));
     assert_eq!(run(&mut record, &mut session, 0x5A), 0);
     assert_eq!(record, record_bytes(0x4A, Variant::DA7280, Some(&x)));
