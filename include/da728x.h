@@ -30,14 +30,14 @@
  *    2 InvalidAmplitude     a point's amplitude is above 15
  *    3 InvalidSnippetId     a snippet number is 0 or above 15, or no frame was begun
  *    4 InvalidLoopCount     a frame's loop count is above 15
- *    5 InvalidFrequency     a frame's frequency is above 511 Hz (one that is driven: 23)
+ *    5 InvalidFrequency     a frame's frequency is above 511 Hz
  *    6 TooManySnippets      a 17th point or a 16th snippet
  *    7 TooManySequences     a 33rd frame or a 17th sequence
  *    8 WaveformMemoryFull   a sequence above 96 bytes, an image above 100
  *    9 EmptySnippet         no points, or no snippets, to build from
  *   10 EmptySequence        no frames, or no sequences, to build from
- *   11 InvalidValue         an override value, or a sequence number (of a trigger too) or a loop
- *                           count that is to be played, is out of range
+ *   11 InvalidValue         a sequence number (also a trigger's) or a loop count above 15; an
+ *                           override value below 0 under acceleration
  *   12 WrongMode            the settings' mode does not allow it
  *   13 MissingTriggerConfigInEtwmMode
  *   14 NotSupported         by the chip or by the driver; a record that is no builder call
@@ -46,11 +46,12 @@
  *   17 I2c                  the bus failed
  *   18 NotAnImage           the builders cannot make these bytes
  *   19 OutOfTurn            an answer that does not fit the pending exchange
- *   21 InvalidVoltage       a voltage of the settings is out of range
+ *   21 InvalidVoltage       a voltage of the settings is out of range (20 is not used)
  *   22 InvalidCurrentOrImpedance
- *                           a current or an impedance of the settings is out of range
+ *                           the current or the impedance of the settings is out of range
  *   23 InvalidDriveFrequency
- *                           a frequency that is to be driven is out of range
+ *                           the frequency of the settings, or the one given to
+ *                           da728x_set_frequency, is out of range
  *   24 BufferTooShort       the lent buffer is shorter than the item, the image or the lists that
  *                           go into it; no byte of it is written
  */
@@ -310,6 +311,10 @@ size_t da728x_replace_trigger(uint8_t byte, uint8_t value, uint8_t *out, size_t 
  *   has not made                 address 0, and da728x_configure sets that up
  *   a record of another length   lent with a start: it has no settings, address 0, and is a DA7280.
  *   than DA728X_RECORD           Lent with an answer: NO refusal, and it is never written
+ *   settings that are cut short  missing bytes count as 0. Up to the impedance it is 22 (21 for a
+ *                                voltage above 6000 mV); behind the frequency's first byte there
+ *                                may be NO refusal: modes, triggers and flags are then 0, and a
+ *                                frequency is cut. Lend DA728X_SETTINGS bytes
  *   a session of another length  a start returns what it would for any session, but begins nothing;
  *   than DA728X_SESSION          nothing is pending, every answer is refused with 19, the result is
  *                                0. If the length is wrong at the start only: NO sign. The start
@@ -343,7 +348,8 @@ size_t da728x_replace_trigger(uint8_t byte, uint8_t value, uint8_t *out, size_t 
  *   16, 17  Ki, likewise
  *   18      operation mode: 0 inactive, 1 DRO, 2 PWM, 3 RTWM, 4 ETWM
  *   19      driving mode: 0 frequency track ("tracking" here), 1 wideband, 2 custom waveform
- *   20..23  the trigger of GPI_0: 1 if it is given, else 0; its sequence number, 0 to 15;
+ *   20..23  the trigger of GPI_0: 1 if it is given, else 0; its sequence number, 0 to 15 (in
+ *           another mode than ETWM any is taken, and none is written to the chip);
  *           its polarity: 0 rising, 1 falling, 2 both; its mode, 0 or 1, which is ignored
  *   24..27  that of GPI_1
  *   28..31  that of GPI_2
@@ -383,8 +389,9 @@ uint8_t da728x_new(uint8_t address, uint8_t variant,
  *   22  a current below 29 mA
  *   11  in ETWM mode a given trigger's sequence number above 15
  *   14  rapid stop
- * So a number names an entry that is wrong; another may be wrong too, and is told once the first is
- * mended. Missing bytes count as 0: settings that are cut short before the impedance give 22.
+ * So one of the entries of that line is wrong, and none of a line above it; one of a line below may
+ * be wrong too, and is told once the first is mended. (23 may also mean that the driving mode is not
+ * the one that was meant.)
  * The settings are stored as they are understood, so their bytes may differ from those lent: a
  * code past the last as the last, a flag as 1, PID words and triggers that are not given as 0. */
 uint8_t da728x_configure(const uint8_t *record, size_t record_len,
@@ -402,7 +409,7 @@ uint8_t da728x_get_status(const uint8_t *record, size_t record_len,
                           uint8_t *session, size_t session_len);
 
 /* Sets the frequency that the chip drives; the stored one stays. 15 without settings, then 23
- * outside 50 to 300 Hz when tracking, else outside 25 to 1024. */
+ * outside 50 to 300 Hz when tracking (the stored driving mode), else outside 25 to 1024. */
 uint8_t da728x_set_frequency(const uint8_t *record, size_t record_len, uint16_t frequency_hz,
                              uint8_t *session, size_t session_len);
 

@@ -268,7 +268,7 @@ static void configure(struct chip *chip)
     settings[18] = 3;                        /* RTWM: sequences are started over the bus */
     settings[32] = 1;                        /* acceleration */
     expect("253 mA", da728x_configure(record, sizeof record, settings, sizeof settings, session,
-                                      sizeof session), 11);
+                                      sizeof session), 22);
 
     put16(settings + 5, 165);
     run_whole(chip, "configure", da728x_configure(record, sizeof record, settings, sizeof settings,
@@ -285,7 +285,7 @@ static void configure(struct chip *chip)
     /* A refused start whose number nobody looks at: no answer is taken, the record stays. */
     settings[5] = 253;
     expect("253 mA again", da728x_configure(record, sizeof record, settings, sizeof settings,
-                                            session, sizeof session), 11);
+                                            session, sizeof session), 22);
     expect("an answer to an ended session",
            da728x_answer(record, sizeof record, session, sizeof session, DA728X_DONE, 0, NULL, 0)
                & 255, 19);

@@ -52,8 +52,9 @@ pub extern "C" fn da728x_configure(record: &[u8], settings: &[u8], session: &mut
         ≡ spec.startedIn (now (session .entry)) (spec.configure (recordAt (now («record» .entry))) (actuatorConfigAt (now (settings .entry)) 0)
         (deviceConfigAt (now (settings .entry)) 18) .start) ⌝ }
 {
-    let a = da728x::actuator_config(settings);
+    // in this order less is copied
     let d = da728x::device_config(settings);
+    let a = da728x::actuator_config(settings);
     driver::configure(da728x::chip(record), a, d, session).number()
 }
 

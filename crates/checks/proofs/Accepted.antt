@@ -85,9 +85,9 @@ to-checks v a d r =
         (
           and-off (etwm operation) _ (λ t. and-off (isDA7281 v) _ (λ s. le-ltb 1 (triggersGiven d) (lone _ _ _ .1 (r .single (is-etwm operation t) (is-DA7281 v s))))),
           (
-            le-ltb 6000 (a .«nominal_max_mV») (omega (arith, r .nominal)),
+            le-ltb _ (a .«nominal_max_mV») (omega (arith, r .nominal)),
             (
-              le-ltb 6000 (a .«absolute_max_mV») (omega (arith, r .absolute)),
+              le-ltb _ (a .«absolute_max_mV») (omega (arith, r .absolute)),
               (
                 le-ltb 252 (a .«max_current_mA») (r .current .1),
                 (

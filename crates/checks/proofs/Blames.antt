@@ -1,37 +1,41 @@
--- A number that is told is that of a check that fails, so an entry that it names is wrong. Assumes nothing.
-use Prim.Native.Nat.{ℕ, _<_}
+-- The first check that fails is the first fault: test by test. Assumes nothing.
+use Prim.Native.Nat.{ℕ, _+_, _<_}
 use native.Mathlib.Omega.{arith}
 use mathlib.Core.Path.{_≡_, refl, _∙_, sym, ap}
-use mathlib.Core.Bool.{Bool, true, false, cond, not, _&&_, _||_, So, and-eq-true-iff, or-true, true≢false, false≢true}
+use mathlib.Core.Bool.{Bool, true, false, cond, not, _&&_, _||_, So, and-eq-true-iff, or-true, false≢true}
 use mathlib.Core.List.{List, [], _∷_}
-use mathlib.Core.Logic.{_↔_, inl, inr}
+use mathlib.Core.Logic.{_↔_, _⊎_, inl, inr}
 use lib.Dec.{ltb, eqb}
-use borrow.Author.Tests.{ltb-true, lt-ltb, eqb-true, eq-eqb, not-true}
-use Rattle.config.specs.declared.ActuatorConfig.{ActuatorConfig}
-use Rattle.config.specs.declared.DeviceConfig.{DeviceConfig}
+use borrow.Author.Tests.{ltb-true, ltb-false, lt-ltb, eqb-true, eq-eqb, not-true}
 use Rattle.config.specs.declared.DrivingMode.{DrivingMode}
+use Rattle.config.specs.declared.DrivingMode.the-variants.{«FREQUENCY_TRACK»}
+use Rattle.config.specs.declared.OperationMode.{OperationMode}
+use Rattle.config.specs.declared.OperationMode.the-variants.{«ETWM_MODE»}
 use Rattle.config.specs.declared.Trigger.{Trigger}
 use Rattle.config.specs.declared.Trigger.the-variants.{Absent, Given}
-use Rattle.config.specs.declared.Variant.{Variant}
-use Rattle.checks.specs.Checks.{tracking, etwm, triggersGiven, sequenceAbove15, triggersAbove15, outsideBand, Check, configureChecks, firstFailing, configureNumber}
-use Rattle.checks.specs.Blames.{Outside, OutOfBand, NumberAbove15, among, Blames}
-use Rattle.checks.proofs.First.{numberAt, stop}
-use Rattle.checks.proofs.Tests.{on, tracks, untracks, is-etwm, isDA7281, is-DA7281, absent}
+use Rattle.checks.specs.Checks.{tracking, etwm, oneIfGiven, sequenceAbove15, outsideBand, Check, configureChecks, firstFailing}
+use Rattle.checks.specs.InRange.{OneAbsent}
+use Rattle.checks.specs.Blames.{Outside, OutOfBand, NumberAbove15, Fault, faults, OfFirst, among, Blames}
+use Rattle.checks.proofs.Tests.{on, tracks, untracks, is-etwm, isDA7281, is-DA7281, absent, lone}
 
 -- ---- the list
 
--- a check with this number fails
-abbrev failing : ℕ → List Check → Bool
-failing n [] = false
-failing n (c ∷ cs) = (eqb (c .1) n && c .0) || failing n cs
+-- check by check: it fails exactly where there is the fault, and has its number
+abbrev pub Tests : List Check → List Fault → Type 0
+Tests [] [] = Unit
+Tests [] (f ∷ fs) = ⊥
+Tests (c ∷ cs) [] = ⊥
+Tests (c ∷ cs) (f ∷ fs) = (c .1 ≡ f .0) × ((c .0 ≡ true) ↔ f .1) × Tests cs fs
 
-told-fails : (n : ℕ) (l : List Check) → 0 < n → firstFailing l ≡ n → failing n l ≡ true
-told-fails n [] h e = absurd (omega (arith, h, e))
-told-fails n (c ∷ cs) h e = go (c .0) (λ k. told-fails n cs h k) e
+pub of-first : (l : List Check) (fs : List Fault) → Tests l fs → OfFirst (firstFailing l) fs
+of-first [] [] t = refl
+of-first [] (f ∷ fs) t = absurd t
+of-first (c ∷ cs) [] t = absurd t
+of-first (c ∷ cs) (f ∷ fs) t = go (c .0) (t .1) (of-first cs fs (t .2))
   where
-    go : (b : Bool) → (firstFailing cs ≡ n → failing n cs ≡ true) → cond b (c .1) (firstFailing cs) ≡ n → ((eqb (c .1) n && b) || failing n cs) ≡ true
-    go true later k = ap (λ (t : Bool). (t && true) || failing n cs) (eq-eqb (c .1) n k)
-    go false later k = ap (λ (t : Bool). (eqb (c .1) n && false) || t) (later k) ∙ or-true (eqb (c .1) n && false)
+    go : (b : Bool) → (b ≡ true) ↔ f .1 → OfFirst (firstFailing cs) fs → OfFirst (cond b (c .1) (firstFailing cs)) (f ∷ fs)
+    go true p h = inl (p .0 refl, t .0)
+    go false p h = inr (λ x. false≢true (p .1 x), h)
 
 -- each of these numbers is in the list
 abbrev allAmong : List ℕ → List Check → Bool
@@ -46,28 +50,35 @@ told-among ns (c ∷ cs) z s = let both = and-eq-true-iff (among ns (c .1)) (all
     go true p q = p
     go false p q = q
 
--- ---- tests that hold
+-- ---- what a test says
 
--- one of two tests holds
-split : {C : Type 0} (x y : Bool) → (x || y) ≡ true → (x ≡ true → C) → (y ≡ true → C) → C
-split true y e f g = f refl
-split false y e f g = g e
+pub flag : (b : Bool) → (b ≡ true) ↔ (b ≡ true)
+flag b = (λ e. e, λ e. e)
 
--- the last test of a list holds
-last : (x : Bool) → (x || false) ≡ true → x ≡ true
-last true e = refl
-last false e = e
+pub both : (x y : Bool) (P Q : Type 0) → (x ≡ true) ↔ P → (y ≡ true) ↔ Q → ((x && y) ≡ true) ↔ (P × Q)
+both x y P Q p q =
+    let iff = and-eq-true-iff x y in
+    (λ e. let h = iff .0 e in (p .0 (h .0), q .0 (h .1)), λ f. iff .1 (p .1 (f .0), q .1 (f .1)))
+
+either : (x y : Bool) (P Q : Type 0) → (x ≡ true) ↔ P → (y ≡ true) ↔ Q → ((x || y) ≡ true) ↔ (P ⊎ Q)
+either x y P Q p q = (to x p, from)
+  where
+    to : (b : Bool) → (b ≡ true) ↔ P → (b || y) ≡ true → P ⊎ Q
+    to true k e = inl (k .0 refl)
+    to false k e = inr (q .0 e)
+
+    from : P ⊎ Q → (x || y) ≡ true
+    from (inl f) = ap (λ (b : Bool). b || y) (p .1 f)
+    from (inr f) = ap (λ (b : Bool). x || b) (q .1 f) ∙ or-true x
+
+pub above : (limit n : ℕ) → (ltb limit n ≡ true) ↔ (limit < n)
+above limit n = (ltb-true limit n, lt-ltb limit n)
 
 outside : (low high n : ℕ) → ((ltb n low || ltb high n) ≡ true) ↔ Outside low high n
-outside low high n = (λ e. split (ltb n low) (ltb high n) e (λ t. inl (ltb-true n low t)) (λ t. inr (ltb-true high n t)), back)
-  where
-    back : Outside low high n → (ltb n low || ltb high n) ≡ true
-    back (inl h) = ap (λ (t : Bool). t || ltb high n) (lt-ltb n low h)
-    back (inr h) = ap (λ (t : Bool). ltb n low || t) (lt-ltb high n h) ∙ or-true (ltb n low)
+outside low high n = either (ltb n low) (ltb high n) (n < low) (high < n) (above n low) (above high n)
 
-above15 : (s : Trigger) → sequenceAbove15 s ≡ true → NumberAbove15 s
-above15 Absent e = absurd (false≢true e)
-above15 (Given t) e = ltb-true 15 (t .«sequence_id») e
+untracked : (m : DrivingMode) → (not (tracking m) ≡ true) ↔ ¬ (m ≡ «FREQUENCY_TRACK»)
+untracked m = (λ e. untracks m .0 (not-true (tracking m) e), λ n. ap not (untracks m .1 n))
 
 pub out-of-band : (m : DrivingMode) (hz : ℕ) → (outsideBand m hz ≡ true) ↔ OutOfBand m hz
 out-of-band m hz = (λ e. (λ p. outside 50 300 hz .0 (there true (ap tracking p) e), λ n. outside 25 1024 hz .0 (there false (untracks m .1 n) e)), λ o. back o (tracking m) refl)
@@ -79,46 +90,80 @@ out-of-band m hz = (λ e. (λ p. outside 50 300 hz .0 (there true (ap tracking p
     back o true t = outside 50 300 hz .1 (o .0 (tracks m t))
     back o false f = outside 25 1024 hz .1 (o .1 (untracks m .0 f))
 
--- ---- the numbers
+in-etwm : (m : OperationMode) → (etwm m ≡ true) ↔ (m ≡ «ETWM_MODE»)
+in-etwm m = (is-etwm m, λ p. ap etwm p)
+
+no-trigger : (r s t : Trigger) → (eqb (oneIfGiven r + oneIfGiven s + oneIfGiven t) 0 ≡ true) ↔ ((r ≡ Absent) × (s ≡ Absent) × (t ≡ Absent))
+no-trigger r s t = (
+  λ e. let none = eqb-true (oneIfGiven r + oneIfGiven s + oneIfGiven t) 0 e in (absent r (omega (arith, none)), absent s (omega (arith, none)), absent t (omega (arith, none))),
+  λ p. eq-eqb (oneIfGiven r + oneIfGiven s + oneIfGiven t) 0 (λ i. oneIfGiven (p .0 i) + oneIfGiven (p .1 i) + oneIfGiven (p .2 i)),
+)
+
+several : (r s t : Trigger) → (ltb 1 (oneIfGiven r + oneIfGiven s + oneIfGiven t) ≡ true) ↔ ¬ (OneAbsent r s × OneAbsent r t × OneAbsent s t)
+several r s t = (
+  λ e p. omega (arith, ltb-true 1 (oneIfGiven r + oneIfGiven s + oneIfGiven t) e, lone r s t .1 p),
+  λ n. on (ltb 1 (oneIfGiven r + oneIfGiven s + oneIfGiven t)) (λ f. n (lone r s t .0 (ltb-false 1 (oneIfGiven r + oneIfGiven s + oneIfGiven t) f))),
+)
+
+number-above : (s : Trigger) → (sequenceAbove15 s ≡ true) ↔ NumberAbove15 s
+number-above Absent = (λ e. false≢true e, λ f. absurd f)
+number-above (Given t) = above 15 (t .«sequence_id»)
+
+-- ---- the claim
 
 pub blames : Blames
 blames = record {
-  listed = λ v a d. told-among (0 ∷ 11 ∷ 12 ∷ 13 ∷ 14 ∷ 21 ∷ 22 ∷ 23 ∷ []) (configureChecks v a d) refl refl;
-  voltage = λ v a d e.
-      split (ltb 6000 (a .«nominal_max_mV»)) _ (told 21 v a d (omega arith) e) (λ t. inl (omega (arith, ltb-true 6000 (a .«nominal_max_mV») t))) (λ r.
-      split (ltb 6000 (a .«absolute_max_mV»)) _ r (λ t. inr (omega (arith, ltb-true 6000 (a .«absolute_max_mV») t))) (λ s.
-      split (ltb 5990 (a .«nominal_max_mV»)) _ s (λ t. inl (ltb-true 5990 (a .«nominal_max_mV») t)) (λ t. inr (ltb-true 5990 (a .«absolute_max_mV») (last _ t)))));
-  current-or-impedance = λ v a d e.
-      split (ltb 252 (a .«max_current_mA»)) _ (told 22 v a d (omega arith) e) (λ t. inl (inr (ltb-true 252 (a .«max_current_mA») t))) (λ r.
-      split (ltb (a .«impedance_mOhm») 4000 || ltb 49999 (a .«impedance_mOhm»)) _ r (λ t. inr (outside 4000 49999 (a .«impedance_mOhm») .0 t)) (λ t.
-      inl (inl (ltb-true (a .«max_current_mA») 29 (last _ t)))));
-  frequency = λ v a d e. out-of-band (d .«driving_mode») (a .«frequency_Hz») .0 (last _ (told 23 v a d (omega arith) e));
-  trigger-number = λ v a d e.
-      let both = and-eq-true-iff (etwm (d .«operation_mode»)) (triggersAbove15 d) .0 (last _ (told 11 v a d (omega arith) e)) in (
-        is-etwm (d .«operation_mode») (both .0),
-        split (sequenceAbove15 (d .«gpi_trigger_0»)) _ (both .1) (λ t. inl (above15 (d .«gpi_trigger_0») t)) (λ r.
-            split (sequenceAbove15 (d .«gpi_trigger_1»)) _ r (λ t. inr (inl (above15 (d .«gpi_trigger_1») t))) (λ t. inr (inr (above15 (d .«gpi_trigger_2») t)))),
+  first = λ v a d.
+      let operation = in-etwm (d .«operation_mode») in
+      of-first (configureChecks v a d) (faults v a d) (
+        refl,
+        both _ _ _ _ (untracked (d .«driving_mode»)) (either _ _ _ _ (flag (d .acceleration)) (flag (d .«rapid_stop»))),
+        (
+          refl,
+          both _ _ _ _ operation (no-trigger (d .«gpi_trigger_0») (d .«gpi_trigger_1») (d .«gpi_trigger_2»)),
+          (
+            refl,
+            both _ _ _ _ operation (both _ _ _ _ (is-DA7281 v, λ p. ap isDA7281 p) (several (d .«gpi_trigger_0») (d .«gpi_trigger_1») (d .«gpi_trigger_2»))),
+            (
+              refl,
+              above 6000 (a .«nominal_max_mV»),
+              (
+                refl,
+                above 6000 (a .«absolute_max_mV»),
+                (
+                  refl,
+                  above 252 (a .«max_current_mA»),
+                  (
+                    refl,
+                    outside 4000 49999 (a .«impedance_mOhm»),
+                    (
+                      refl,
+                      out-of-band (d .«driving_mode») (a .«frequency_Hz»),
+                      (
+                        refl,
+                        above 5990 (a .«nominal_max_mV»),
+                        (
+                          refl,
+                          above 5990 (a .«absolute_max_mV»),
+                          (
+                            refl,
+                            above (a .«max_current_mA») 29,
+                            (
+                              refl,
+                              both _ _ _ _ operation (either _ _ _ _ (number-above (d .«gpi_trigger_0»))
+                                  (either _ _ _ _ (number-above (d .«gpi_trigger_1»)) (number-above (d .«gpi_trigger_2»)))),
+                              (refl, flag (d .«rapid_stop»), tt),
+                            ),
+                          ),
+                        ),
+                      ),
+                    ),
+                  ),
+                ),
+              ),
+            ),
+          ),
+        ),
       );
-  untracked = λ v a d e.
-      let both = and-eq-true-iff (not (tracking (d .«driving_mode»))) (d .acceleration || d .«rapid_stop») .0 (last _ (told 12 v a d (omega arith) e)) in
-      (untracks (d .«driving_mode») .0 (not-true (tracking (d .«driving_mode»)) (both .0)), split (d .acceleration) (d .«rapid_stop») (both .1) inl inr);
-  no-trigger = λ v a d e.
-      let both = and-eq-true-iff (etwm (d .«operation_mode»)) (eqb (triggersGiven d) 0) .0 (last _ (told 13 v a d (omega arith) e)) in
-      let none = eqb-true (triggersGiven d) 0 (both .1) in
-      (is-etwm (d .«operation_mode») (both .0), absent (d .«gpi_trigger_0») (omega (arith, none)), absent (d .«gpi_trigger_1») (omega (arith, none)), absent (d .«gpi_trigger_2») (omega (arith, none)));
-  unsupported = λ v a d e.
-      split (etwm (d .«operation_mode») && (isDA7281 v && ltb 1 (triggersGiven d))) _ (told 14 v a d (omega arith) e) (λ t.
-      let both = and-eq-true-iff (etwm (d .«operation_mode»)) (isDA7281 v && ltb 1 (triggersGiven d)) .0 t in
-      let more = and-eq-true-iff (isDA7281 v) (ltb 1 (triggersGiven d)) .0 (both .1) in
-      inl (is-etwm (d .«operation_mode») (both .0), is-DA7281 v (more .0), ltb-true 1 (triggersGiven d) (more .1)))
-      (λ t. inr (tracks (d .«driving_mode») (on (tracking (d .«driving_mode»)) (λ f. not-first v a d e f (last _ t))), last _ t));
+  listed = λ v a d. told-among (0 ∷ 11 ∷ 12 ∷ 13 ∷ 14 ∷ 21 ∷ 22 ∷ 23 ∷ []) (configureChecks v a d) refl refl;
 }
-  where
-    told : (n : ℕ) (v : Variant) (a : ActuatorConfig) (d : DeviceConfig) → 0 < n → configureNumber v a d ≡ n → failing n (configureChecks v a d) ≡ true
-    told n v a d = told-fails n (configureChecks v a d)
-
-    -- rapid stop when not tracking is told by 12
-    not-first : (v : Variant) (a : ActuatorConfig) (d : DeviceConfig) → configureNumber v a d ≡ 14 → tracking (d .«driving_mode») ≡ false → d .«rapid_stop» ≡ true → ⊥
-    not-first v a d e f t =
-        let first : numberAt 0 (configureChecks v a d) ≡ 14 = stop 14 0 (configureChecks v a d) (sym e) ((λ i. not (f i) && (d .acceleration || t i)) ∙ or-true (d .acceleration)) in
-        absurd (omega (arith, first))

@@ -1,10 +1,10 @@
 // The checks that `configure` makes before its first exchange (lib.rs; document 01, 'Settings to registers'), those that document 01 adds
 // among them; the numbers of values are document 02's (CR 3). Nothing is left out.
 // Proved: the answer is the number of the first check of specs/Checks.antt that fails, in that order; no
-// check fails if and only if the settings are in the ranges of specs/InRange.antt (proofs/Accepted.antt); a number is told where an entry
-// that it stands for is wrong (specs/Blames.antt).
+// check fails if and only if the settings are in the ranges of specs/InRange.antt (proofs/Accepted.antt); the number is that of the first
+// fault, each said in plain numbers (specs/Blames.antt).
 ghost use mathlib.Core.Path.{_≡_};
-ghost use mathlib.Core.Bool.{not, _&&_, _||_};
+ghost use mathlib.Core.Bool.{cond, not, _&&_, _||_};
 ghost use lib.Dec.{ltb, eqb};
 ghost use Rattle.errors.specs.Number.{answerNumber};
 ghost use Rattle.config.specs.Codes.{variantCode};
@@ -32,10 +32,8 @@ pub fn configure_checks(variant: Variant, actuator: ActuatorConfig, device: Devi
     if has_too_many_triggers(variant, device) {
         return Answer::Refused(Error::NotSupported);
     }
-    if 6000 < actuator.nominal_max_mV {
-        return Answer::Refused(Error::InvalidVoltage);
-    }
-    if 6000 < actuator.absolute_max_mV {
+    let voltage = higher(actuator.nominal_max_mV, actuator.absolute_max_mV);
+    if 6000 < voltage {
         return Answer::Refused(Error::InvalidVoltage);
     }
     if 252 < actuator.max_current_mA {
@@ -44,20 +42,19 @@ pub fn configure_checks(variant: Variant, actuator: ActuatorConfig, device: Devi
     if outside_impedance(actuator.impedance_mOhm) {
         return Answer::Refused(Error::InvalidCurrentOrImpedance);
     }
+    // told below, behind the others; asked here, where it costs less
+    let above = triggers_above_15(device);
     if outside_band(mode, actuator.frequency_Hz) {
         return Answer::Refused(Error::InvalidDriveFrequency);
     }
     // from here on the checks that the Rust lacks; they stay behind the others
-    if 5990 < actuator.nominal_max_mV {
-        return Answer::Refused(Error::InvalidVoltage);
-    }
-    if 5990 < actuator.absolute_max_mV {
+    if 5990 < voltage {
         return Answer::Refused(Error::InvalidVoltage);
     }
     if actuator.max_current_mA < 29 {
         return Answer::Refused(Error::InvalidCurrentOrImpedance);
     }
-    if triggers_above_15(device) {
+    if above {
         return Answer::Refused(Error::InvalidValue);
     }
     if device.rapid_stop {
@@ -140,6 +137,16 @@ fn is_DA7281(variant: Variant) -> bool
 {
     let other = Variant::DA7281;
     variant.code() == other.code()
+}
+
+// The higher of two voltages.
+fn higher(a: u16, b: u16) -> u16
+    ensures { λ r. ⌜ r ≡ cond (ltb a b) b a ⌝ }
+{
+    if a < b {
+        return b;
+    }
+    a
 }
 
 fn outside_impedance(mOhm: u16) -> bool

@@ -1,20 +1,15 @@
--- What every operation sends and answers, and by which numbers it is refused before its first exchange. Assumes nothing.
+-- What every operation sends and answers. Assumes nothing.
 use Prim.Native.Nat.{ℕ, suc, zero, _≤_, min}
 use native.Mathlib.Omega.{arith}
-use mathlib.Core.Path.{_≡_, refl, _∙_, sym, ap, subst}
-use mathlib.Core.Bool.{Bool, true, false, cond, _||_}
+use mathlib.Core.Path.{_≡_, refl, sym, ap, subst}
+use mathlib.Core.Bool.{true, false}
 use mathlib.Core.List.{List, [], _∷_, append-nil}
-use lib.Dec.{eqb}
-use borrow.Author.Tests.{ne-eqb}
 use lib.ListN.{length}
 use Rattle.config.specs.declared.ActuatorConfig.{ActuatorConfig}
 use Rattle.config.specs.declared.DeviceConfig.{DeviceConfig}
-use Rattle.config.specs.Codes.{operationCode, drivingCode}
-use Rattle.config.specs.declared.DrivingMode.the-variants.{«CUSTOM_WAVEFORM»}
+use Rattle.config.specs.Codes.{operationCode}
 use Rattle.config.specs.declared.OperationMode.the-variants.{INACTIVE}
-use Rattle.checks.specs.Checks.{firstFailing, configureChecks, configureNumber, outsideBand}
-use Rattle.checks.specs.Blames.{among}
-use Rattle.checks.proofs.Blames.{told-among}
+use Rattle.checks.specs.Checks.{firstFailing, configureNumber, outsideBand}
 use Rattle.exchange.specs.declared.Step.{Step}
 use Rattle.exchange.specs.declared.Step.the-variants.{Write, Read}
 use Rattle.registers.specs.Table.{addressOf}
@@ -41,32 +36,20 @@ use Rattle.driver.proofs.Mismatch.{AllPlain, all-plain, frequency-plain
 use Rattle.driver.proofs.Starts.{configured}
 use Rattle.driver.proofs.Upload.{few}
 
--- ---- which numbers
-
-abbrev refusals : List ℕ
-refusals = 11 ∷ 12 ∷ 13 ∷ 14 ∷ 15 ∷ 21 ∷ 22 ∷ 23 ∷ []
-
--- none, or one of these
-abbrev Listed : ℕ → Type 0
-Listed n = among (0 ∷ refusals) n ≡ true
-
-configure-listed : (r : DA728x) (a : ActuatorConfig) (d : DeviceConfig) → Listed (configureNumber (r .variant) a d)
-configure-listed r a d = told-among (0 ∷ refusals) (configureChecks (r .variant) a d) refl refl
-
 -- ---- what an operation is begun with
 
--- one of these numbers, or a beginning of which this holds
+-- refused, or a beginning of which this holds
 abbrev By : (Begun → List Step → Type 0) → Start → Type 0
-By Q (declines number) = among refusals number ≡ true
+By Q (declines number) = Unit
 By Q (begins b xs) = Q b xs
 
-by-unless : (Q : Begun → List Step → Type 0) (n : ℕ) (s : Start) → Listed n → By Q s → By Q (unless n s)
-by-unless Q zero s h q = q
-by-unless Q (suc n) s h q = sym (ap (λ (b : Bool). b || among refusals (suc n)) (ne-eqb (suc n) 0 (λ e. absurd (omega (arith, e))))) ∙ h
+by-unless : (Q : Begun → List Step → Type 0) (n : ℕ) (s : Start) → By Q s → By Q (unless n s)
+by-unless Q zero s q = q
+by-unless Q (suc n) s q = tt
 
 by-settings : (Q : Begun → List Step → Type 0) (s : Settings) (f : ActuatorConfig → DeviceConfig → Start) →
     ((a : ActuatorConfig) (d : DeviceConfig) → By Q (f a d)) → By Q (withSettings s f)
-by-settings Q Absent f q = refl
+by-settings Q Absent f q = tt
 by-settings Q (Given a d) f q = q a d
 
 -- its session answers as its result says
@@ -114,9 +97,6 @@ three-bytes (a ∷ b ∷ []) e = absurd (omega (arith, e))
 three-bytes (a ∷ b ∷ c ∷ []) e = refl
 three-bytes (a ∷ b ∷ c ∷ d ∷ bytes) e = absurd (omega (arith, e))
 
-numbers-listed : (id loops : ℕ) → Listed (firstFailing (numberChecks id loops))
-numbers-listed id loops = told-among (0 ∷ refusals) (numberChecks id loops) refl refl
-
 pub quiet : Others QuietOperation
 quiet = record {
   get-chip-rev = λ r. one-byte r (Read (addressOf "CHIP_REV") ∷ []) (omega arith) (tt, tt) (λ bytes e. e);
@@ -124,28 +104,23 @@ quiet = record {
   get-status = λ r. one-byte r (Read (addressOf "IRQ_STATUS1") ∷ []) (omega arith) (tt, tt) (λ bytes e. e);
   set-frequency = λ r hz. by-settings _ (r .settings) _ (λ a d.
       by-unless _ (firstFailing ((outsideBand (d .«driving_mode») hz, 23) ∷ [])) _
-      (told-among (0 ∷ refusals) ((outsideBand (d .«driving_mode») hz, 23) ∷ []) refl refl)
       (quiet-runs r (frequencySteps hz) (omega (arith, frequency hz)) (frequency-plain hz)));
   set-override-value = λ r value. by-settings _ (r .settings) _ (λ a d.
-      by-unless _ (firstFailing (overrideChecks d value)) _ (told-among (0 ∷ refusals) (overrideChecks d value) refl refl) (quiet-runs r (Write (addressOf "TOP_CTL2") (overrideByte value) ∷ []) (omega arith) (tt, tt)));
+      by-unless _ (firstFailing (overrideChecks d value)) _ (quiet-runs r (Write (addressOf "TOP_CTL2") (overrideByte value) ∷ []) (omega arith) (tt, tt)));
   set-timebase = λ r timebase.
       quiet-runs r (updated "SEQ_CTL1" (put "FREQ_WAVEFORM_TIMEBASE" (timebaseBit timebase))) (omega arith) (tt, (tt, tt));
   enable = λ r. by-settings _ (r .settings) _ (λ a d. quiet-runs r (Write (addressOf "TOP_CTL1") (enabled (d .«operation_mode»)) ∷ []) (omega arith) (tt, tt));
   disable = λ r. by-settings _ (r .settings) _ (λ a d.
       quiet-runs r (updated "TOP_CTL1" (put "OPERATION_MODE" (operationCode INACTIVE))) (omega arith) (tt, (tt, tt)));
-  set-custom-drive-waveform = λ r. by-settings _ (r .settings) _ (λ a d. custom (eqb (drivingCode (d .«driving_mode»)) (drivingCode «CUSTOM_WAVEFORM»)));
+  set-custom-drive-waveform = λ r. by-settings _ (r .settings) _ (λ a d. tt);
   unlock-waveform-memory = λ r. quiet-runs r (setUnlocked true ∷ []) (omega arith) (tt, tt);
   lock-waveform-memory = λ r. quiet-runs r (setUnlocked false ∷ []) (omega arith) (tt, tt);
   upload-waveform-memory = λ r m lockAfter e. ((few m lockAfter, omega arith, e, no-record), λ bytes h. refl, refl, λ next s. refl, send-plain (min (m .len) 100) lockAfter);
   read-waveform-memory = λ r len room h. ((omega arith, h, no-image, no-record), λ bytes e. omega arith, refl, λ next s. refl, tt);
-  select-sequence = λ r id loops. by-unless _ (firstFailing (numberChecks id loops)) _ (numbers-listed id loops) (quiet-runs r (selectStep id loops ∷ []) (omega arith) (tt, tt));
+  select-sequence = λ r id loops. by-unless _ (firstFailing (numberChecks id loops)) _ (quiet-runs r (selectStep id loops ∷ []) (omega arith) (tt, tt));
   start-sequence = λ r. quiet-runs r startSteps (omega arith) (tt, (tt, tt));
-  play-sequence = λ r id loops. by-unless _ (firstFailing (numberChecks id loops)) _ (numbers-listed id loops) (quiet-runs r (selectStep id loops ∷ startSteps) (omega arith) (tt, (tt, (tt, tt))));
+  play-sequence = λ r id loops. by-unless _ (firstFailing (numberChecks id loops)) _ (quiet-runs r (selectStep id loops ∷ startSteps) (omega arith) (tt, (tt, (tt, tt))));
 }
-  where
-    custom : (b : Bool) → among refusals (cond b 14 12) ≡ true
-    custom true = refl
-    custom false = refl
 
 -- ---- from one claim on all of them to another
 
@@ -180,7 +155,7 @@ fits-configure r a d = (at-most a d, omega arith, no-image, record-length (confi
 sound : Each SoundOperation
 sound = record {
   new = fits-new;
-  configure = λ r a d. by-unless _ (configureNumber (r .variant) a d) _ (configure-listed r a d) (fits-configure r a d, λ bytes e. refl, refl);
+  configure = λ r a d. by-unless _ (configureNumber (r .variant) a d) _ (fits-configure r a d, λ bytes e. refl, refl);
   others = each-others (λ address o q. go address (o .answers) (o .start) q) quiet;
 }
   where
@@ -213,11 +188,10 @@ answers = record {
       let g = subst (λ (x : Start). By (Sound address (o .answers)) x) e f in
       subst (λ (x : ℕ). Course (begunIn st b xs) x (b .image) (allSteps b xs) (o .answers) cs) (g .2)
       (answered (holds st b xs s (g .0)) cs (o .answers) (g .1)));
-  listed = each-sound (λ address o f number e. subst (λ (x : Start). By (Sound address (o .answers)) x) e f);
   mismatch = (
     each-others (λ address o q b xs e st s cs. let h = quiet-holds address o q b xs e st s in never (h .0) (all-plain b xs (h .2)) cs) quiet,
     λ r a d b xs e st s cs.
-        let g = subst (By Unmatched) e (by-unless Unmatched (configureNumber (r .variant) a d) _ (configure-listed r a d) (fits-configure r a d, configure-plain a d)) in
+        let g = subst (By Unmatched) e (by-unless Unmatched (configureNumber (r .variant) a d) _ (fits-configure r a d, configure-plain a d)) in
         never (holds st b xs s (g .0)) (all-plain b xs (g .1)) cs,
   );
   counts = λ r a d st cs none s.

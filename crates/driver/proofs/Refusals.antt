@@ -1,90 +1,71 @@
--- What a start is refused for: the first check that fails, and no other. Assumes nothing.
+-- What a start is refused for: the first check that fails is the first fault. Assumes nothing.
 use Prim.Native.Nat.{ℕ, zero, suc, _<_}
 use native.Mathlib.Omega.{arith}
-use mathlib.Core.Path.{_≡_, refl, _∙_, sym, ap}
-use mathlib.Core.Bool.{Bool, true, false, cond, not, _&&_, and-eq-true-iff, true≢false, false≢true}
-use mathlib.Core.List.{List}
-use mathlib.Core.Logic.{_↔_, _⊎_, inl, inr}
-use lib.Dec.{ltb, eqb}
-use borrow.Author.Tests.{ltb-true, lt-ltb}
+use mathlib.Core.Path.{_≡_, refl, sym, ap, subst}
+use mathlib.Core.Bool.{Bool, true, false, not, cond, true≢false, false≢true}
+use mathlib.Core.List.{List, [], _∷_}
+use mathlib.Core.Logic.{_↔_, inl, inr}
+use lib.Dec.{eqb}
 use Rattle.config.specs.declared.ActuatorConfig.{ActuatorConfig}
 use Rattle.config.specs.declared.DeviceConfig.{DeviceConfig}
-use Rattle.config.specs.declared.OperationMode.the-variants.{«DRO_MODE»}
-use Rattle.config.specs.Codes.{operationCode}
-use Rattle.checks.specs.Checks.{configureNumber, outsideBand}
-use Rattle.checks.proofs.Blames.{out-of-band}
+use Rattle.config.specs.declared.DrivingMode.{DrivingMode}
+use Rattle.config.specs.declared.DrivingMode.the-variants.{«FREQUENCY_TRACK», WIDEBAND, «CUSTOM_WAVEFORM»}
+use Rattle.config.specs.declared.OperationMode.{OperationMode}
+use Rattle.config.specs.declared.OperationMode.the-variants.{INACTIVE, «DRO_MODE», «PWM_MODE», «RTWM_MODE», «ETWM_MODE»}
+use Rattle.config.specs.Codes.{operationCode, drivingCode}
+use Rattle.checks.specs.Checks.{Check, firstFailing, configureNumber, outsideBand}
+use Rattle.checks.specs.Blames.{OutOfBand, Fault, faults, OfFirst}
+use Rattle.checks.proofs.Blames.{Tests, of-first, flag, both, above, out-of-band, blames}
 use Rattle.exchange.specs.declared.Step.{Step}
 use Rattle.exchange.specs.State.{Begun}
 use Rattle.da728x.specs.declared.Settings.{Settings}
-use Rattle.da728x.specs.declared.Settings.the-variants.{Absent}
-use Rattle.driver.specs.Operations.{Start, declines, begins, startNumber, unless, withSettings, negative}
-use Rattle.driver.specs.Theorems.{Refusals}
-use Rattle.driver.proofs.Starts.{with-settings}
+use Rattle.da728x.specs.declared.Settings.the-variants.{Absent, Given}
+use Rattle.driver.specs.Operations.{Start, begins, startNumber, unless, withSettings, negative, overrideChecks, numberChecks}
+use Rattle.driver.specs.Theorems.{InStored, Refusals}
 
 number-of : (n : ℕ) (b : Begun) (xs : List Step) → startNumber (unless n (begins b xs)) ≡ n
 number-of zero b xs = refl
 number-of (suc n) b xs = refl
 
--- whether it begins
-abbrev starts : Start → Bool
-starts (declines n) = false
-starts (begins b xs) = true
+-- begun unless a check fails
+checked : (cs : List Check) (b : Begun) (xs : List Step) (fs : List Fault) → Tests cs fs → OfFirst (startNumber (unless (firstFailing cs) (begins b xs))) fs
+checked cs b xs fs t = subst (λ (n : ℕ). OfFirst n fs) (sym (number-of (firstFailing cs) b xs)) (of-first cs fs t)
 
-without : (s : Settings) (f : ActuatorConfig → DeviceConfig → Start) → s ≡ Absent → withSettings s f ≡ declines 15
-without s f e = ap (λ (x : Settings). withSettings x f) e
-
--- one check: refused by its number exactly if it fails
-one : (x : Bool) (n number : ℕ) (b : Begun) (xs : List Step) → (unless (cond x (suc n) 0) (begins b xs) ≡ declines number) ↔ ((number ≡ suc n) × (x ≡ true))
-one true n number b xs = (λ e. (sym (ap startNumber e), refl), λ p. ap declines (sym (p .0)))
-one false n number b xs = (λ e. absurd (true≢false (ap starts e)), λ p. absurd (false≢true (p .1)))
-
--- two checks with one number
-two : (x y : Bool) (n number : ℕ) (b : Begun) (xs : List Step) →
-    (unless (cond x (suc n) (cond y (suc n) 0)) (begins b xs) ≡ declines number) ↔ ((number ≡ suc n) × ((x ≡ true) ⊎ (y ≡ true)))
-two true y n number b xs = (λ e. (sym (ap startNumber e), inl refl), λ p. ap declines (sym (p .0)))
-two false y n number b xs = (λ e. let h = one y n number b xs .0 e in (h .0, inr (h .1)), λ p. one y n number b xs .1 (p .0, second (p .1)))
+-- 15 first
+settled : (s : Settings) (f : ActuatorConfig → DeviceConfig → Start) (fs : Settings → List Fault) →
+    ((a : ActuatorConfig) (d : DeviceConfig) → OfFirst (startNumber (f a d)) (fs (Given a d))) → OfFirst (startNumber (withSettings s f)) ((15, s ≡ Absent) ∷ fs s)
+settled Absent f fs h = inl (refl, refl)
+settled (Given a d) f fs h = inr (λ e. true≢false (ap given e), h a d)
   where
-    second : (false ≡ true) ⊎ (y ≡ true) → y ≡ true
-    second (inl e) = absurd (false≢true e)
-    second (inr e) = e
+    given : Settings → Bool
+    given Absent = false
+    given (Given a d) = true
 
--- the first of two with different numbers
-first : (x y : Bool) (b : Begun) (xs : List Step) → (unless (cond x 11 (cond y 12 0)) (begins b xs) ≡ declines 11) ↔ (x ≡ true)
-first true y b xs = (λ e. refl, λ t. refl)
-first false true b xs = (λ e. absurd (omega (arith, ap startNumber e)), λ t. absurd (false≢true t))
-first false false b xs = (λ e. absurd (true≢false (ap starts e)), λ t. absurd (false≢true t))
+in-dro : (m : OperationMode) → (not (eqb (operationCode m) (operationCode «DRO_MODE»)) ≡ true) ↔ ¬ (m ≡ «DRO_MODE»)
+in-dro INACTIVE = (λ e p. omega (arith, ap operationCode p), λ n. refl)
+in-dro «DRO_MODE» = (λ e. absurd (false≢true e), λ n. absurd (n refl))
+in-dro «PWM_MODE» = (λ e p. omega (arith, ap operationCode p), λ n. refl)
+in-dro «RTWM_MODE» = (λ e p. omega (arith, ap operationCode p), λ n. refl)
+in-dro «ETWM_MODE» = (λ e p. omega (arith, ap operationCode p), λ n. refl)
 
-above : (id loops : ℕ) → ((ltb 15 id ≡ true) ⊎ (ltb 15 loops ≡ true)) ↔ ((15 < id) ⊎ (15 < loops))
-above id loops = (to, from)
-  where
-    to : (ltb 15 id ≡ true) ⊎ (ltb 15 loops ≡ true) → (15 < id) ⊎ (15 < loops)
-    to (inl e) = inl (ltb-true 15 id e)
-    to (inr e) = inr (ltb-true 15 loops e)
-
-    from : (15 < id) ⊎ (15 < loops) → (ltb 15 id ≡ true) ⊎ (ltb 15 loops ≡ true)
-    from (inl h) = inl (lt-ltb 15 id h)
-    from (inr h) = inr (lt-ltb 15 loops h)
-
-numbers : (id loops number : ℕ) (b : Begun) (xs : List Step) →
-    (unless (cond (ltb 15 id) 11 (cond (ltb 15 loops) 11 0)) (begins b xs) ≡ declines number) ↔ ((number ≡ 11) × ((15 < id) ⊎ (15 < loops)))
-numbers id loops number b xs =
-    let t = two (ltb 15 id) (ltb 15 loops) 10 number b xs in
-    (λ e. let h = t .0 e in (h .0, above id loops .0 (h .1)), λ p. t .1 (p .0, above id loops .1 (p .1)))
+custom : (m : DrivingMode) → OfFirst (cond (eqb (drivingCode m) (drivingCode «CUSTOM_WAVEFORM»)) 14 12) ((12, ¬ (m ≡ «CUSTOM_WAVEFORM»)) ∷ (14, Unit) ∷ [])
+custom «FREQUENCY_TRACK» = inl (λ p. omega (arith, ap drivingCode p), refl)
+custom WIDEBAND = inl (λ p. omega (arith, ap drivingCode p), refl)
+custom «CUSTOM_WAVEFORM» = inr (λ n. n refl, inl (tt, refl))
 
 pub refusals : Refusals
 refusals = record {
-  configure = λ r a d. number-of (configureNumber (r .variant) a d) _ _;
-  set-frequency = λ r a d hz number s.
-      let stored = with-settings (r .settings) _ a d s in
-      let t = one (outsideBand (d .«driving_mode») hz) 22 number _ _ in
-      let band = out-of-band (d .«driving_mode») hz in
-      (λ e. let h = t .0 (sym stored ∙ e) in (h .0, band .0 (h .1)), λ p. stored ∙ t .1 (p .0, band .1 (p .1)));
-  unconfigured = λ r hz value s. (without (r .settings) _ s, without (r .settings) _ s);
-  set-override-value = λ r a d value s.
-      let stored = with-settings (r .settings) _ a d s in
-      let t = first (d .acceleration && negative value) (not (eqb (operationCode (d .«operation_mode»)) (operationCode «DRO_MODE»))) _ _ in
-      let both = and-eq-true-iff (d .acceleration) (negative value) in
-      (λ e. both .0 (t .0 (sym stored ∙ e)), λ p. stored ∙ t .1 (both .1 p));
-  select-sequence = λ r id loops number. numbers id loops number _ _;
-  play-sequence = λ r id loops number. numbers id loops number _ _;
+  configure = λ r a d. subst (λ (n : ℕ). OfFirst n (faults (r .variant) a d)) (sym (number-of (configureNumber (r .variant) a d) _ _)) (blames .first (r .variant) a d);
+  set-frequency = λ r hz. settled (r .settings) _ (λ s. (23, InStored (λ a d. OutOfBand (d .«driving_mode») hz) s) ∷ []) (λ a d.
+      checked ((outsideBand (d .«driving_mode») hz, 23) ∷ []) _ _ ((23, OutOfBand (d .«driving_mode») hz) ∷ []) (refl, out-of-band (d .«driving_mode») hz, tt));
+  set-override-value = λ r value. settled (r .settings) _ (λ s. (11, InStored (λ a d. (d .acceleration ≡ true) × (negative value ≡ true)) s)
+      ∷ (12, InStored (λ a d. ¬ (d .«operation_mode» ≡ «DRO_MODE»)) s) ∷ []) (λ a d.
+      checked (overrideChecks d value) _ _ ((11, (d .acceleration ≡ true) × (negative value ≡ true)) ∷ (12, ¬ (d .«operation_mode» ≡ «DRO_MODE»)) ∷ [])
+      (refl, both (d .acceleration) (negative value) _ _ (flag (d .acceleration)) (flag (negative value)), (refl, in-dro (d .«operation_mode»), tt)));
+  select-sequence = λ r id loops. checked (numberChecks id loops) _ _ ((11, 15 < id) ∷ (11, 15 < loops) ∷ []) (refl, above 15 id, (refl, above 15 loops, tt));
+  play-sequence = λ r id loops. checked (numberChecks id loops) _ _ ((11, 15 < id) ∷ (11, 15 < loops) ∷ []) (refl, above 15 id, (refl, above 15 loops, tt));
+  enable = λ r. settled (r .settings) _ (λ s. []) (λ a d. refl);
+  disable = λ r. settled (r .settings) _ (λ s. []) (λ a d. refl);
+  set-custom-drive-waveform = λ r. settled (r .settings) _ (λ s. (12, InStored (λ a d. ¬ (d .«driving_mode» ≡ «CUSTOM_WAVEFORM»)) s) ∷ (14, Unit) ∷ []) (λ a d. custom (d .«driving_mode»));
+  others = λ r address v timebase m lockAfter len room. (refl, (refl, (refl, (refl, (refl, (refl, (refl, (refl, (refl, (refl, tt))))))))));
 }

@@ -1,15 +1,17 @@
--- What every operation sends, answers and stores: document 01, 'Exchanges'; for every session's bytes, every list of answers and every record.
+-- What every operation sends, answers and stores, and what its start is refused for: document 01, 'Exchanges'; for every session's bytes, every list of answers and every record.
 -- They speak of what the contracts cite: how a start begins a session, and what an answer does to it.
 use Prim.Native.Nat.{ℕ, suc, _^_, _≤_, _<_, min}
 use mathlib.Core.Path.{_≡_}
 use mathlib.Core.Bool.{Bool, true, false, cond, not, _&&_}
-use mathlib.Core.Logic.{_↔_, _⊎_}
+use mathlib.Core.Logic.{_↔_}
 use mathlib.Core.List.{List, [], _∷_, _++_}
 use lib.Dec.{ltb, leb, eqb}
 use lib.IntN.{ℤ}
 use lib.ListN.{length, take, drop}
 use Rattle.config.specs.declared.ActuatorConfig.{ActuatorConfig}
 use Rattle.config.specs.declared.DeviceConfig.{DeviceConfig}
+use Rattle.config.specs.declared.DrivingMode.the-variants.{«CUSTOM_WAVEFORM»}
+use Rattle.config.specs.declared.OperationMode.the-variants.{«DRO_MODE»}
 use Rattle.config.specs.declared.Variant.{Variant}
 use Rattle.memory.specs.declared.WaveformMemory.{WaveformMemory}
 use Rattle.memory.specs.declared.WaveformMemoryTimebase.{WaveformMemoryTimebase}
@@ -25,8 +27,9 @@ use Rattle.exchange.specs.State.{isSession, countIn, completed, indexed, left, 
 use Rattle.exchange.specs.Turn.{resized, reportOf}
 use Rattle.exchange.specs.Session.{AnswerCall, numberAt, afterCall, final, sent, came, brokenOff, exchangesOf, lending, filled}
 use Rattle.checks.specs.Checks.{configureNumber}
-use Rattle.checks.specs.Blames.{OutOfBand, among}
+use Rattle.checks.specs.Blames.{OutOfBand, Fault, faults, OfFirst}
 use Rattle.da728x.specs.declared.DA728x.{DA728x}
+use Rattle.da728x.specs.declared.Settings.{Settings}
 use Rattle.da728x.specs.declared.Settings.the-variants.{Absent, Given}
 use Rattle.outcome.specs.declared.Change.the-variants.{Same}
 use Rattle.outcome.specs.Outcome.{isChipOf, outcomeOf}
@@ -92,8 +95,6 @@ NoMismatch address o = (b : Begun) (xs : List Step) → o .start ≡ begins b xs
 
 pub record Answers : Type 0 where
   pub courses : Each AnswersAs
-  -- a start of these eighteen that is refused before its first exchange tells one of these
-  pub listed : Each (λ address o. (number : ℕ) → o .start ≡ declines number → among (11 ∷ 12 ∷ 13 ∷ 14 ∷ 15 ∷ 21 ∷ 22 ∷ 23 ∷ []) number ≡ true)
   -- "16 VariantMismatch, in `new`": in no other operation
   pub mismatch : Others NoMismatch × ((r : DA728x) (a : ActuatorConfig) (d : DeviceConfig) → NoMismatch (r .address) (operation.configure r a d))
   -- "`configure` makes at most 25, at least 14 if none fails"
@@ -101,21 +102,38 @@ pub record Answers : Type 0 where
       configureNumber (r .variant) a d ≡ 0 → isSession st ≡ true →
       let after = final (startedIn st (operation.configure r a d .start)) cs in (countIn after ≤ 25) × (completed after ≡ true → 14 ≤ countIn after)
 
--- ---- what a start is refused for: document 02, CR 3
+-- ---- what a start is refused for: document 01, 'Settings to registers', with document 02's numbers (CR 3)
+
+-- a fault that depends on what is stored
+abbrev pub InStored : (ActuatorConfig → DeviceConfig → Type 0) → Settings → Type 0
+InStored P Absent = ⊥
+InStored P (Given a d) = P a d
+
+-- the number told is that of the first of these faults; it begins where there is none
+abbrev pub Refused : Operation → List Fault → Type 0
+Refused o faults = OfFirst (startNumber (o .start)) faults
 
 pub record Refusals : Type 0 where
-  -- by the number of its checks, whatever is stored; which entry it is told for: `Blames` (checks/specs/Blames.antt)
-  pub configure : (r : DA728x) (a : ActuatorConfig) (d : DeviceConfig) → startNumber (operation.configure r a d .start) ≡ configureNumber (r .variant) a d
-  -- "a frequency, also in `set_frequency`, 23"; 15 comes first
-  pub set-frequency : (r : DA728x) (a : ActuatorConfig) (d : DeviceConfig) (hz number : ℕ) → r .settings ≡ Given a d →
-      (operation.setFrequency r hz .start ≡ declines number) ↔ ((number ≡ 23) × OutOfBand (d .«driving_mode») hz)
-  pub unconfigured : (r : DA728x) (hz : ℕ) (value : ℤ) → r .settings ≡ Absent →
-      (operation.setFrequency r hz .start ≡ declines 15) × (operation.setOverrideValue r value .start ≡ declines 15)
+  pub configure : (r : DA728x) (a : ActuatorConfig) (d : DeviceConfig) → Refused (operation.configure r a d) (faults (r .variant) a d)
+  -- "a frequency, also in `set_frequency`, 23"
+  pub set-frequency : (r : DA728x) (hz : ℕ) → Refused (operation.setFrequency r hz)
+      ((15, r .settings ≡ Absent) ∷ (23, InStored (λ a d. OutOfBand (d .«driving_mode») hz) (r .settings)) ∷ [])
   -- "Number 11 remains for .. override values, `select_sequence` and `play_sequence`"
-  pub set-override-value : (r : DA728x) (a : ActuatorConfig) (d : DeviceConfig) (value : ℤ) → r .settings ≡ Given a d →
-      (operation.setOverrideValue r value .start ≡ declines 11) ↔ ((d .acceleration ≡ true) × (negative value ≡ true))
-  pub select-sequence : (r : DA728x) (id loops number : ℕ) → (operation.selectSequence r id loops .start ≡ declines number) ↔ ((number ≡ 11) × ((15 < id) ⊎ (15 < loops)))
-  pub play-sequence : (r : DA728x) (id loops number : ℕ) → (operation.playSequence r id loops .start ≡ declines number) ↔ ((number ≡ 11) × ((15 < id) ⊎ (15 < loops)))
+  pub set-override-value : (r : DA728x) (value : ℤ) → Refused (operation.setOverrideValue r value)
+      ((15, r .settings ≡ Absent) ∷ (11, InStored (λ a d. (d .acceleration ≡ true) × (negative value ≡ true)) (r .settings))
+      ∷ (12, InStored (λ a d. ¬ (d .«operation_mode» ≡ «DRO_MODE»)) (r .settings)) ∷ [])
+  pub select-sequence : (r : DA728x) (id loops : ℕ) → Refused (operation.selectSequence r id loops) ((11, 15 < id) ∷ (11, 15 < loops) ∷ [])
+  pub play-sequence : (r : DA728x) (id loops : ℕ) → Refused (operation.playSequence r id loops) ((11, 15 < id) ∷ (11, 15 < loops) ∷ [])
+  pub enable : (r : DA728x) → Refused (operation.enable r) ((15, r .settings ≡ Absent) ∷ [])
+  pub disable : (r : DA728x) → Refused (operation.disable r) ((15, r .settings ≡ Absent) ∷ [])
+  -- always
+  pub set-custom-drive-waveform : (r : DA728x) → Refused (operation.setCustomDriveWaveform r)
+      ((15, r .settings ≡ Absent) ∷ (12, InStored (λ a d. ¬ (d .«driving_mode» ≡ «CUSTOM_WAVEFORM»)) (r .settings)) ∷ (14, Unit) ∷ [])
+  -- never
+  pub others : (r : DA728x) (address : ℕ) (v : Variant) (timebase : WaveformMemoryTimebase) (m : WaveformMemory) (lockAfter : Bool) (len room : ℕ) →
+      All (λ o. startNumber (o .start) ≡ 0) (operation.new address v ∷ operation.getChipRev r ∷ operation.getEvents r ∷ operation.getStatus r
+      ∷ operation.setTimebase r timebase ∷ operation.unlockWaveformMemory r ∷ operation.lockWaveformMemory r ∷ operation.uploadWaveformMemory r m lockAfter
+      ∷ operation.readWaveformMemory r len room ∷ operation.startSequence r ∷ [])
 
 -- ---- what is stored
 

@@ -3,8 +3,8 @@
 // start and with each answer, and `answer` gives it back, changed only by the answer that completes `new` or `configure`.
 // Left out: the `defmt` prints, and the body that `set_custom_drive_waveform` does not have in the Rust either.
 //
-// Proved: the answer is document 01's number and the session's bytes are those of the operation's steps (specs/Operations.antt).
-// proofs/Answers.antt: what is sent, in which order and how much, and what every operation answers, 16 in `new` only. proofs/Stored.antt: the
+// Proved: the answer is the papers' number and the session's bytes are those of the operation's steps (specs/Operations.antt).
+// proofs/Refusals.antt: for which fault each of the eighteen starts is refused, and by which number. proofs/Answers.antt: what is sent, in which order and how much, and what every operation answers, 16 in `new` only. proofs/Stored.antt: the
 // record changes exactly by the answer that completes `new` or `configure`, and by none to a session that has ended or was never begun.
 // proofs/Transfers.antt: an upload sends the memory's bytes, each to its own address; a read fills the front of the buffer.
 ghost use mathlib.Core.Path.{_≡_};

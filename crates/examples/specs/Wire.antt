@@ -71,19 +71,6 @@ refusal o = startNumber (o .start)
 abbrev pub told : Variant → List (ℕ × ℕ) → ℕ
 told v changes = refusal (configuring v (replaced (settingsFor 4) changes))
 
--- faults while it tracks, in the order of the checks: the number, and the bytes that are replaced. Acceleration, rapid stop (CUSTOM_WAVEFORM); no
--- trigger; 6001 mV nominal, absolute; 253 mA; 3999, 50000 mOhm; 49, 301 Hz; 5991 mV nominal, 6000 absolute; 28 mA; sequence 16, each trigger; rapid stop
-abbrev pub faults : List (ℕ × List (ℕ × ℕ))
-faults =
-    (12, (19, 2) ∷ (32, 1) ∷ []) ∷ (12, (19, 2) ∷ (33, 1) ∷ []) ∷ (13, (20, 0) ∷ (24, 0) ∷ (28, 0) ∷ []) ∷ (21, (1, 0x71) ∷ (2, 0x17) ∷ []) ∷ (21, (3, 0x71) ∷ [])
-    ∷ (22, (5, 253) ∷ []) ∷ (22, (7, 0x9F) ∷ (8, 0x0F) ∷ []) ∷ (22, (7, 0x50) ∷ (8, 0xC3) ∷ []) ∷ (23, (11, 49) ∷ (12, 0) ∷ []) ∷ (23, (11, 0x2D) ∷ (12, 1) ∷ [])
-    ∷ (21, (1, 0x67) ∷ (2, 0x17) ∷ []) ∷ (21, (3, 0x70) ∷ []) ∷ (22, (5, 28) ∷ []) ∷ (11, (21, 16) ∷ []) ∷ (11, (25, 16) ∷ []) ∷ (11, (29, 16) ∷ []) ∷ (14, (33, 1) ∷ []) ∷ []
-
--- each with each that follows it
-abbrev pub pairs : {A B : Type 0} → (A → A → B) → List A → List B
-pairs f [] = []
-pairs f (x ∷ xs) = map (f x) xs ++ pairs f xs
-
 abbrev pub refusedExamples : List Example
 refusedExamples =
     -- without settings
@@ -103,13 +90,15 @@ refusedExamples =
     ∷ (map (told DA7280) ([] ∷ ((32, 1) ∷ []) ∷ ((33, 1) ∷ (20, 0) ∷ (24, 0) ∷ (28, 0) ∷ []) ∷ ((20, 0) ∷ (24, 0) ∷ (28, 0) ∷ (5, 253) ∷ []) ∷ []) is (0 ∷ 12 ∷ 12 ∷ 13 ∷ []))
     -- one trigger on a DA7281; two and 253 mA; two and acceleration
     ∷ (map (told DA7281) (((20, 0) ∷ (28, 0) ∷ []) ∷ ((28, 0) ∷ (5, 253) ∷ []) ∷ ((28, 0) ∷ (32, 1) ∷ []) ∷ []) is (0 ∷ 14 ∷ 12 ∷ []))
-    -- each fault; each with each later one, before which it is told; on a DA7281, with all three triggers
-    ∷ (map (λ f. told DA7280 ((19, 0) ∷ f .1)) faults is map (λ f. f .0) faults)
-    ∷ (pairs (λ f g. told DA7280 ((19, 0) ∷ g .1 ++ f .1)) faults is pairs (λ f g. f .0) faults)
-    ∷ (map (λ f. told DA7281 ((19, 0) ∷ f .1)) faults is (12 ∷ 12 ∷ 13 ∷ replicate 14 14))
-    -- in CUSTOM_WAVEFORM: 24, 25, 1024 and 1025 Hz; 24 Hz with each fault, where 49 and 301 Hz are none
-    ∷ (map (told DA7280) (((11, 24) ∷ []) ∷ ((11, 25) ∷ []) ∷ ((11, 0) ∷ (12, 4) ∷ []) ∷ ((11, 1) ∷ (12, 4) ∷ []) ∷ []) is (23 ∷ 0 ∷ 0 ∷ 23 ∷ []))
-    ∷ (map (λ f. told DA7280 ((11, 24) ∷ f .1)) faults is (12 ∷ 12 ∷ 13 ∷ 21 ∷ 21 ∷ 22 ∷ 22 ∷ 22 ∷ 0 ∷ 0 ∷ 23 ∷ 23 ∷ 23 ∷ 23 ∷ 23 ∷ 23 ∷ 12 ∷ [])) ∷ []
+    -- 6001 mV, nominal and absolute, 253 mA, 3999 and 50000 mOhm, 24 and 1025 Hz, 49 and 301 Hz tracking, 5991 mV, 28 mA, sequence 16
+    ∷ (map (told DA7280) (((1, 0x71) ∷ (2, 0x17) ∷ []) ∷ ((3, 0x71) ∷ []) ∷ ((5, 253) ∷ []) ∷ ((7, 0x9F) ∷ (8, 0x0F) ∷ []) ∷ ((7, 0x50) ∷ (8, 0xC3) ∷ []) ∷ ((11, 24) ∷ [])
+    ∷ ((11, 1) ∷ (12, 4) ∷ []) ∷ ((19, 0) ∷ (11, 49) ∷ []) ∷ ((19, 0) ∷ (11, 0x2D) ∷ (12, 1) ∷ []) ∷ ((1, 0x67) ∷ (2, 0x17) ∷ []) ∷ ((3, 0x67) ∷ []) ∷ ((5, 28) ∷ []) ∷ ((29, 16) ∷ [])
+    ∷ []) is (21 ∷ 21 ∷ 22 ∷ 22 ∷ 22 ∷ 23 ∷ 23 ∷ 23 ∷ 23 ∷ 21 ∷ 21 ∷ 22 ∷ 11 ∷ []))
+    -- 5995 mV with 3999 mOhm, with 20 Hz, with 28 mA; 28 mA with 20 Hz, with sequence 16; 253 mA with 6001 mV, with 3999 mOhm
+    ∷ (map (told DA7280) (((3, 0x6B) ∷ (7, 0x9F) ∷ (8, 0x0F) ∷ []) ∷ ((3, 0x6B) ∷ (11, 20) ∷ []) ∷ ((3, 0x6B) ∷ (5, 28) ∷ []) ∷ ((5, 28) ∷ (11, 20) ∷ []) ∷ ((5, 28) ∷ (29, 16) ∷ [])
+    ∷ ((5, 253) ∷ (3, 0x71) ∷ []) ∷ ((5, 253) ∷ (7, 0x9F) ∷ (8, 0x0F) ∷ []) ∷ []) is (22 ∷ 23 ∷ 21 ∷ 23 ∷ 22 ∷ 21 ∷ 22 ∷ []))
+    -- rapid stop while tracking; with sequence 16; with 5991 mV; with 28 mA
+    ∷ (map (λ changes. told DA7280 ((19, 0) ∷ (33, 1) ∷ changes)) ([] ∷ ((29, 16) ∷ []) ∷ ((3, 0x67) ∷ []) ∷ ((5, 28) ∷ []) ∷ []) is (14 ∷ 11 ∷ 21 ∷ 22 ∷ [])) ∷ []
 
 abbrev pub wireExamples : List Example
 wireExamples =

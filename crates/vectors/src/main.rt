@@ -1,5 +1,5 @@
-// Replays the stored sample of the published Rust's answers, which comes by standard input, on the functions exported for C, images
-// also by Rattle's own types, and says of each kind how many cases agree. The sample's head says what it is; a case that does not
+// Replays the stored sample of the published Rust's answers, with document 02's 21 to 24, which comes by standard input, on the functions
+// exported for C, images also by Rattle's own types, and says of each kind how many cases agree. The sample's head says what it is; a case that does not
 // agree, or cannot be read, is told by the number of its line.
 // Proved: every function is safe and returns, whatever the input.
 mod cases;

@@ -145,9 +145,12 @@ impl Outcome {
     }
 }
 
+/// One more than the highest number of the papers.
+const NUMBERS: usize = 31;
+
 /// How many outcomes had which number; 0 counts those that succeeded.
 #[derive(Default)]
-pub struct Tally([usize; 31]);
+pub struct Tally([usize; NUMBERS]);
 
 impl Tally {
     pub fn count(&mut self, outcome: &Outcome) {
@@ -271,7 +274,8 @@ impl Published {
             Operation::Configure(settings) => {
                 let published = settings.outside().then(|| self.checked(&settings.inside()))?;
                 Some(published.unwrap_or_else(|| {
-                    // None of the published checks refuses them: one of the added ones has to.
+                    // None of the published checks refuses them: one of the added ones has to. Which is held to plain values
+                    // in the tests of each entry, and of all their combinations.
                     let number = settings.told(self.variant);
                     assert!([11, 14, 21, 22].contains(&number), "{number} for {settings:?}");
                     number

@@ -255,13 +255,13 @@ const NUMBERS: [u8; 13] = [12, 13, 14, 21, 21, 22, 22, 23, 21, 21, 22, 11, 14];
 
 const NOMINAL: [Entry; 3] = [
     (&[], |it| it.actuator.nominal_max_mV = 5990),
-    (&[8], |it| it.actuator.nominal_max_mV = 5995),
+    (&[8], |it| it.actuator.nominal_max_mV = 6000),
     (&[3, 8], |it| it.actuator.nominal_max_mV = 6001),
 ];
 
 const ABSOLUTE: [Entry; 3] = [
     (&[], |it| it.actuator.absolute_max_mV = 5990),
-    (&[9], |it| it.actuator.absolute_max_mV = 6000),
+    (&[9], |it| it.actuator.absolute_max_mV = 5991),
     (&[4, 9], |it| it.actuator.absolute_max_mV = 65535),
 ];
 
@@ -277,7 +277,7 @@ const IMPEDANCE: [Entry; 3] = [
     (&[6], |it| it.actuator.impedance_mOhm = 50000),
 ];
 
-/// The frequency, and acceleration or rapid stop, while it tracks.
+/// The frequency, and acceleration and rapid stop, while it tracks.
 const TRACKED: [&[Entry]; 2] = [
     &[
         (&[], |it| it.actuator.frequency_Hz = 300),
@@ -324,37 +324,39 @@ const TRIGGERS: [Triggers; 7] = [
     (&[2, 11], [Some(0), Some(15), Some(16)]),
 ];
 
-/// All combinations of the thirteen faults that can occur together, on every variant: the first in document 01's order is told.
-/// This is a third rule for the number, beside the published driver and `Settings::told`.
+/// All combinations of the thirteen faults that can occur together, on every variant and in every mode: the first in document 01's
+/// order is told. This is a third rule for the number, beside the published driver and `Settings::told`.
 #[test]
 fn every_combination_of_faults() {
-    let (mut cases, mut met, mut told) = (0, BTreeSet::new(), BTreeSet::new());
-    for (variant, operation) in VARIANTS.iter().flat_map(|it| [DRO, ETWM].map(|to| (*it, to))) {
+    let (mut cases, mut met, mut numbers) = (0, BTreeSet::new(), BTreeSet::new());
+    for (variant, operation) in VARIANTS.iter().flat_map(|it| OPERATIONS.map(|to| (*it, to))) {
         let mut pair = Pair::new(0x4A, variant);
-        for (driving, [frequency, flags]) in [(TRACK, TRACKED), (CUSTOM, UNTRACKED)] {
-            let entries = [&NOMINAL, &ABSOLUTE, &CURRENT, &IMPEDANCE, frequency, flags];
-            for (entries, (places, numbers)) in choices(&entries) {
+        for driving in DRIVINGS {
+            let [frequency, flagged] = if driving == TRACK { TRACKED } else { UNTRACKED };
+            let alternatives = [&NOMINAL, &ABSOLUTE, &CURRENT, &IMPEDANCE, frequency, flagged];
+            for (entries, (of_triggers, sequences)) in choices(&alternatives) {
                 let mut settings = Settings::plain(operation, driving);
                 entries.iter().for_each(|(_, make)| make(&mut settings));
-                settings.device.gpi_triggers = numbers.map(|number| number.map(trigger));
-                let made = |place: &&usize| {
+                settings.device.gpi_triggers = sequences.map(|it| it.map(trigger));
+                settings.actuator.actuator_type = TYPES[cases % 2];
+                let asked = |place: &&usize| {
                     operation == ETWM && (**place != 2 || variant == Variant::DA7281)
                 };
-                let of_triggers = places.iter().filter(made);
-                let failed = entries.iter().flat_map(|(places, _)| *places).chain(of_triggers);
+                let failed = entries.iter().flat_map(|(places, _)| *places);
+                let failed = failed.chain(of_triggers.iter().filter(asked));
                 let failed: BTreeSet<usize> = failed.copied().collect();
                 let wanted = failed.first().map_or(0, |place| NUMBERS[*place]);
                 assert_eq!(number(&mut pair, settings), wanted, "{failed:?}: {settings:?}");
-                told.insert(wanted);
+                numbers.insert(wanted);
                 met.insert(failed);
                 cases += 1;
             }
         }
     }
-    compared("settings with faults", cases, 3 * 2 * 2 * 3_usize.pow(5) * 4 * 7);
+    compared("settings with faults", cases, 3 * 5 * 3 * 3_usize.pow(5) * 4 * 7);
     // Nominal, absolute, current; impedance; frequency; flags; triggers.
     compared("combinations of faults", met.len(), 3 * 3 * 3 * 2 * 2 * 4 * 5);
-    assert_eq!(Vec::from_iter(told), [0, 11, 12, 13, 14, 21, 22, 23]);
+    assert_eq!(Vec::from_iter(numbers), [0, 11, 12, 13, 14, 21, 22, 23]);
 }
 
 fn trigger(sequence_id: u8) -> TriggerConfig {
@@ -366,10 +368,10 @@ fn trigger(sequence_id: u8) -> TriggerConfig {
 }
 
 /// One of each entry, in all ways, and each choice of triggers with it.
-fn choices(entries: &[&[Entry]]) -> Vec<(Vec<Entry>, Triggers)> {
+fn choices(alternatives: &[&[Entry]]) -> Vec<(Vec<Entry>, Triggers)> {
     let mut ways = vec![Vec::new()];
-    for entry in entries {
-        let with = |way: Vec<Entry>| entry.iter().map(move |it| [&way[..], &[*it]].concat());
+    for entries in alternatives {
+        let with = |way: Vec<Entry>| entries.iter().map(move |it| [&way[..], &[*it]].concat());
         ways = ways.into_iter().flat_map(with).collect();
     }
     ways.into_iter().flat_map(|way| TRIGGERS.map(|triggers| (way.clone(), triggers))).collect()

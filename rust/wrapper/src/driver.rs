@@ -99,7 +99,7 @@ impl DA728x {
     /// The first that holds: `WrongMode` for acceleration or rapid stop when not tracking;
     /// `MissingTriggerConfigInEtwmMode` for no trigger in ETWM mode, `NotSupported` for more than
     /// one on the DA7281; `InvalidVoltage` above 6000 mV; `InvalidCurrentOrImpedance` above 252 mA
-    /// and outside 4000 to 49999 mOhm; `InvalidDriveFrequency` outside 50 to 300 Hz when tracking,
+    /// or outside 4000 to 49999 mOhm; `InvalidDriveFrequency` outside 50 to 300 Hz when tracking,
     /// else outside 25 to 1024; `InvalidVoltage` above 5990 mV; `InvalidCurrentOrImpedance` below
     /// 29 mA; `InvalidValue` for a trigger's sequence number above 15 in ETWM mode; `NotSupported`
     /// for rapid stop.
@@ -137,7 +137,7 @@ impl DA728x {
     /// let slow = ActuatorConfig { frequency_Hz: 20, ..actuator };
     /// assert_eq!(driver.configure(slow, wideband), Err(Error::WrongMode));
     ///
-    /// // The number names the entry; 5995 mV is told behind the frequency.
+    /// // The error names the entry; 5991 to 6000 mV is tested after the frequency.
     /// let high = ActuatorConfig { nominal_max_mV: 5995, ..actuator };
     /// assert_eq!(driver.configure(high, device), Err(Error::InvalidVoltage));
     /// let both = ActuatorConfig { nominal_max_mV: 5995, ..slow };

@@ -36,8 +36,8 @@ pub enum Error {
     EmptySnippet,
     /// 10: no frames, or no sequences, to build from.
     EmptySequence,
-    /// 11: a trigger's sequence number, an override value, a sequence number or a loop count is
-    /// out of range.
+    /// 11: a sequence number (also a trigger's) or a loop count above 15; an override value below 0
+    /// under acceleration.
     InvalidValue,
     /// 12: the operation does not fit the mode.
     WrongMode,
@@ -59,8 +59,8 @@ pub enum Error {
     InvalidVoltage,
     /// 22: a current is not 29 to 252 mA, or an impedance not 4000 to 49999 mOhm.
     InvalidCurrentOrImpedance,
-    /// 23: a frequency that the chip is to drive is not 50 to 300 Hz when tracking, else not 25 to
-    /// 1024. (A frame's is told by [`InvalidFrequency`](Error::InvalidFrequency).)
+    /// 23: the frequency of the settings, or of `set_frequency`, is outside 50 to 300 Hz (tracking)
+    /// or 25 to 1024 Hz (other modes). For a frame's see [`InvalidFrequency`](Error::InvalidFrequency).
     InvalidDriveFrequency,
     /// 24: the buffer is shorter than the item; no byte of it was written.
     BufferTooShort,
@@ -152,7 +152,7 @@ impl fmt::Display for Error {
             Error::EmptySnippet => "no snippet to build from",
             Error::EmptySequence => "no sequence to build from",
             Error::InvalidValue => {
-                "a sequence number, a loop count or an override value is out of range"
+                "a sequence number or a loop count above 15, or an override value below 0 under acceleration"
             }
             Error::WrongMode => "the operation does not fit the mode",
             Error::MissingTriggerConfigInEtwmMode => "no trigger in ETWM mode",
@@ -167,7 +167,7 @@ impl fmt::Display for Error {
                 "a current is not 29 to 252 mA, or an impedance not 4000 to 49999 mOhm"
             }
             Error::InvalidDriveFrequency => {
-                "a frequency is not 50 to 300 Hz when tracking, else not 25 to 1024"
+                "a frequency is outside 50 to 300 Hz (tracking) or 25 to 1024 Hz (other modes)"
             }
             Error::BufferTooShort => "the buffer is shorter than the item",
         })

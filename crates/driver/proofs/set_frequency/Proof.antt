@@ -11,10 +11,10 @@ use Rattle.driver.proofs.set_frequency.Statement.{statement}
 use Rattle.driver.proofs.set_frequency.Tie as tie
 
 returns : tie.Need-returns
-returns c = told _ _ _ _ _ (with-settings _ _ _ _ (c .before .before .before .settings .given .1) ∙ fails _ 22 [] _ (sym (c .before .outside-band .ensures) ∙ c .if1 .taken)) refl refl
+returns c = told _ _ _ _ _ (with-settings _ _ _ _ (c .before .before .before .settings .given .1) ∙ fails _ _ [] _ (sym (c .before .outside-band .ensures) ∙ c .if1 .taken)) refl refl
 
 returns-3 : tie.Need-returns-3
-returns-3 c = let hz = c .before .before .before .before .before .before .before .before .before .before .before .before .before .before .args .frequency-hz in told _ _ _ _ _ (with-settings _ _ _ _ (c .before .before .before .before .before .before .before .before .before .before .before .settings .given .1) ∙ passes _ 23 [] _ (sym (c .before .before .before .before .before .before .before .before .before .outside-band .ensures) ∙ c .before .before .before .before .before .before .before .before .if1 .left)) refl (ran _ _ _ [] (frequencySteps hz) (omega (arith, frequency hz)) (c .before .before .before .before .before .before .begin .ensures) (c .before .before .frequency .ensures))
+returns-3 c = let hz = c .before .before .before .before .before .before .before .before .before .before .before .before .before .before .args .frequency-hz in told _ _ _ _ _ (with-settings _ _ _ _ (c .before .before .before .before .before .before .before .before .before .before .before .settings .given .1) ∙ passes _ _ [] _ (sym (c .before .before .before .before .before .before .before .before .before .outside-band .ensures) ∙ c .before .before .before .before .before .before .before .before .if1 .left)) refl (ran _ _ _ [] (frequencySteps hz) (omega (arith, frequency hz)) (c .before .before .before .before .before .before .begin .ensures) (c .before .before .frequency .ensures))
 
 pub set-frequency-spec : {M : Type 1} → statement M
 set-frequency-spec =

@@ -77,7 +77,8 @@ const LONGEST: usize = 4096;
 
 const HEAD: &str = "\
 Answers of the published Rust to random calls near the limits, refused ones among them; 24 where a
-buffer is too short for its item, its image or its lists.
+buffer is too short for its item, its image or its lists; its InvalidValue as 21, 22 or 23 where
+document 02 tells it apart.
 Written by `scripts/remake-vectors` (rust/harness/src/bin/sample.rs), never by hand; read by the
 program `vectors`. The Rust is da728x-rs, revision REVISION, in rust/oracle, with these sums:
 SUMS

@@ -607,5 +607,9 @@ fn plain(
         _ => unreachable!("{} starts nothing", function.name()),
     });
     assert_eq!(told == 15, !stored && function.listed().contains(&15), "{}", function.name());
+    if function == da728x_set_frequency && stored {
+        let band = if record[3 + 19] == 0 { 50..=300 } else { 25..=1024 };
+        assert_eq!(told == 23, !band.contains(&hz), "{hz} Hz");
+    }
     told
 }
