@@ -36,10 +36,11 @@
  *    8 WaveformMemoryFull   a sequence above 96 bytes, an image above 100
  *    9 EmptySnippet         no points, or no snippets, to build from
  *   10 EmptySequence        no frames, or no sequences, to build from
- *   11 InvalidValue         a sequence number (also a trigger's) or a loop count above 15; an
- *                           override value below 0 under acceleration
+ *   11 InvalidValue         a sequence number (also a trigger's, in ETWM mode) or a loop count
+ *                           above 15; an override value below 0 under acceleration
  *   12 WrongMode            the settings' mode does not allow it
  *   13 MissingTriggerConfigInEtwmMode
+ *                           in ETWM mode no trigger is given
  *   14 NotSupported         by the chip or by the driver; a record that is no builder call
  *   15 NotConfigured        no settings are stored: da728x_configure comes first
  *   16 VariantMismatch      the chip is not of the variant that was given
@@ -311,10 +312,11 @@ size_t da728x_replace_trigger(uint8_t byte, uint8_t value, uint8_t *out, size_t 
  *   has not made                 address 0, and da728x_configure sets that up
  *   a record of another length   lent with a start: it has no settings, address 0, and is a DA7280.
  *   than DA728X_RECORD           Lent with an answer: NO refusal, and it is never written
- *   settings that are cut short  missing bytes count as 0. Up to the impedance it is 22 (21 for a
- *                                voltage above 6000 mV); behind the frequency's first byte there
- *                                may be NO refusal: modes, triggers and flags are then 0, and a
- *                                frequency is cut. Lend DA728X_SETTINGS bytes
+ *   settings that are cut short  missing bytes count as 0. With up to 8 bytes it is 22 (21 for a
+ *                                voltage above 6000 mV), with 9 to 11 it is 23 (or the 21 or 22
+ *                                that is tested before it); with 12 or more there may be NO
+ *                                refusal: what is missing of the modes, triggers and flags is 0,
+ *                                and a frequency is cut. Lend DA728X_SETTINGS bytes
  *   a session of another length  a start returns what it would for any session, but begins nothing;
  *   than DA728X_SESSION          nothing is pending, every answer is refused with 19, the result is
  *                                0. If the length is wrong at the start only: NO sign. The start
@@ -389,9 +391,10 @@ uint8_t da728x_new(uint8_t address, uint8_t variant,
  *   22  a current below 29 mA
  *   11  in ETWM mode a given trigger's sequence number above 15
  *   14  rapid stop
- * So one of the entries of that line is wrong, and none of a line above it; one of a line below may
- * be wrong too, and is told once the first is mended. (23 may also mean that the driving mode is not
- * the one that was meant.)
+ * So what one line with that number says is true, and nothing that a line above it says. What a
+ * line below says may be true as well: it is told once the first is corrected. 14, 21 and 22 have
+ * two lines each: look at both. (12 and 23 may also mean that the driving mode is not the one that
+ * was meant.)
  * The settings are stored as they are understood, so their bytes may differ from those lent: a
  * code past the last as the last, a flag as 1, PID words and triggers that are not given as 0. */
 uint8_t da728x_configure(const uint8_t *record, size_t record_len,

@@ -1,6 +1,6 @@
 -- Which number `configure` tells of settings: that of the first fault in document 01's order, with document 02's numbers (CR 3). So where a number
--- is told, an entry that it stands for is wrong, and nothing before it; a single wrong entry is told by its own number, and only settings
--- without a fault are accepted. That it is so: proofs/Blames.antt.
+-- is told, an entry that it stands for is wrong; a voltage that alone is wrong is told by 21, a current or an impedance by 22, a frequency
+-- by 23, a trigger's number by 11. That it is so: proofs/Blames.antt.
 use Prim.Native.Nat.{ℕ, _<_}
 use mathlib.Core.Path.{_≡_}
 use mathlib.Core.Bool.{Bool, true, false, _||_}
@@ -56,7 +56,7 @@ faults v a d =
 
 -- ---- the claim
 
--- the number of the first that is there, 0 if none is
+-- the number of the first fault that holds, 0 if none does
 abbrev pub OfFirst : ℕ → List Fault → Type 0
 OfFirst n [] = n ≡ 0
 OfFirst n (f ∷ fs) = (f .1 × (n ≡ f .0)) ⊎ ((¬ (f .1)) × OfFirst n fs)
@@ -68,4 +68,5 @@ among (m ∷ ms) n = eqb n m || among ms n
 
 pub record Blames : Type 0 where
   pub first : (v : Variant) (a : ActuatorConfig) (d : DeviceConfig) → OfFirst (configureNumber v a d) (faults v a d)
+  -- follows from `first`
   pub listed : (v : Variant) (a : ActuatorConfig) (d : DeviceConfig) → among (0 ∷ 11 ∷ 12 ∷ 13 ∷ 14 ∷ 21 ∷ 22 ∷ 23 ∷ []) (configureNumber v a d) ≡ true

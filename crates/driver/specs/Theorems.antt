@@ -6,7 +6,7 @@ use mathlib.Core.Bool.{Bool, true, false, cond, not, _&&_}
 use mathlib.Core.Logic.{_↔_}
 use mathlib.Core.List.{List, [], _∷_, _++_}
 use lib.Dec.{ltb, leb, eqb}
-use lib.IntN.{ℤ}
+use lib.IntN.{ℤ, pos, negsuc}
 use lib.ListN.{length, take, drop}
 use Rattle.config.specs.declared.ActuatorConfig.{ActuatorConfig}
 use Rattle.config.specs.declared.DeviceConfig.{DeviceConfig}
@@ -34,7 +34,7 @@ use Rattle.da728x.specs.declared.Settings.the-variants.{Absent, Given}
 use Rattle.outcome.specs.declared.Change.the-variants.{Same}
 use Rattle.outcome.specs.Outcome.{isChipOf, outcomeOf}
 use Rattle.driver.specs.Operations as operation
-use Rattle.driver.specs.Operations.{Start, declines, begins, startNumber, startedIn, Operation, revision, negative, changeAfter, recordAfter}
+use Rattle.driver.specs.Operations.{Start, declines, begins, startedIn, Operation, revision, changeAfter, recordAfter}
 
 -- ---- all eighteen operations
 
@@ -102,36 +102,41 @@ pub record Answers : Type 0 where
       configureNumber (r .variant) a d ≡ 0 → isSession st ≡ true →
       let after = final (startedIn st (operation.configure r a d .start)) cs in (countIn after ≤ 25) × (completed after ≡ true → 14 ≤ countIn after)
 
--- ---- what a start is refused for: document 01, 'Settings to registers', with document 02's numbers (CR 3)
+-- ---- what a start is refused for: document 01, 'Settings to registers' and its list of differences, with document 02's numbers (CR 3)
 
 -- a fault that depends on what is stored
 abbrev pub InStored : (ActuatorConfig → DeviceConfig → Type 0) → Settings → Type 0
 InStored P Absent = ⊥
 InStored P (Given a d) = P a d
 
--- the number told is that of the first of these faults; it begins where there is none
-abbrev pub Refused : Operation → List Fault → Type 0
-Refused o faults = OfFirst (startNumber (o .start)) faults
+abbrev pub BelowZero : ℤ → Type 0
+BelowZero (pos n) = ⊥
+BelowZero (negsuc n) = Unit
+
+-- refused with the number of the first fault that holds; begun where none does
+abbrev pub Starts : Start → List Fault → Type 0
+Starts (declines number) fs = (1 ≤ number) × OfFirst number fs
+Starts (begins b xs) fs = OfFirst 0 fs
 
 pub record Refusals : Type 0 where
-  pub configure : (r : DA728x) (a : ActuatorConfig) (d : DeviceConfig) → Refused (operation.configure r a d) (faults (r .variant) a d)
+  pub configure : (r : DA728x) (a : ActuatorConfig) (d : DeviceConfig) → Starts (operation.configure r a d .start) (faults (r .variant) a d)
   -- "a frequency, also in `set_frequency`, 23"
-  pub set-frequency : (r : DA728x) (hz : ℕ) → Refused (operation.setFrequency r hz)
+  pub set-frequency : (r : DA728x) (hz : ℕ) → Starts (operation.setFrequency r hz .start)
       ((15, r .settings ≡ Absent) ∷ (23, InStored (λ a d. OutOfBand (d .«driving_mode») hz) (r .settings)) ∷ [])
   -- "Number 11 remains for .. override values, `select_sequence` and `play_sequence`"
-  pub set-override-value : (r : DA728x) (value : ℤ) → Refused (operation.setOverrideValue r value)
-      ((15, r .settings ≡ Absent) ∷ (11, InStored (λ a d. (d .acceleration ≡ true) × (negative value ≡ true)) (r .settings))
+  pub set-override-value : (r : DA728x) (value : ℤ) → Starts (operation.setOverrideValue r value .start)
+      ((15, r .settings ≡ Absent) ∷ (11, InStored (λ a d. (d .acceleration ≡ true) × BelowZero value) (r .settings))
       ∷ (12, InStored (λ a d. ¬ (d .«operation_mode» ≡ «DRO_MODE»)) (r .settings)) ∷ [])
-  pub select-sequence : (r : DA728x) (id loops : ℕ) → Refused (operation.selectSequence r id loops) ((11, 15 < id) ∷ (11, 15 < loops) ∷ [])
-  pub play-sequence : (r : DA728x) (id loops : ℕ) → Refused (operation.playSequence r id loops) ((11, 15 < id) ∷ (11, 15 < loops) ∷ [])
-  pub enable : (r : DA728x) → Refused (operation.enable r) ((15, r .settings ≡ Absent) ∷ [])
-  pub disable : (r : DA728x) → Refused (operation.disable r) ((15, r .settings ≡ Absent) ∷ [])
+  pub select-sequence : (r : DA728x) (id loops : ℕ) → Starts (operation.selectSequence r id loops .start) ((11, 15 < id) ∷ (11, 15 < loops) ∷ [])
+  pub play-sequence : (r : DA728x) (id loops : ℕ) → Starts (operation.playSequence r id loops .start) ((11, 15 < id) ∷ (11, 15 < loops) ∷ [])
+  pub enable : (r : DA728x) → Starts (operation.enable r .start) ((15, r .settings ≡ Absent) ∷ [])
+  pub disable : (r : DA728x) → Starts (operation.disable r .start) ((15, r .settings ≡ Absent) ∷ [])
   -- always
-  pub set-custom-drive-waveform : (r : DA728x) → Refused (operation.setCustomDriveWaveform r)
+  pub set-custom-drive-waveform : (r : DA728x) → Starts (operation.setCustomDriveWaveform r .start)
       ((15, r .settings ≡ Absent) ∷ (12, InStored (λ a d. ¬ (d .«driving_mode» ≡ «CUSTOM_WAVEFORM»)) (r .settings)) ∷ (14, Unit) ∷ [])
   -- never
   pub others : (r : DA728x) (address : ℕ) (v : Variant) (timebase : WaveformMemoryTimebase) (m : WaveformMemory) (lockAfter : Bool) (len room : ℕ) →
-      All (λ o. startNumber (o .start) ≡ 0) (operation.new address v ∷ operation.getChipRev r ∷ operation.getEvents r ∷ operation.getStatus r
+      All (λ o. Starts (o .start) []) (operation.new address v ∷ operation.getChipRev r ∷ operation.getEvents r ∷ operation.getStatus r
       ∷ operation.setTimebase r timebase ∷ operation.unlockWaveformMemory r ∷ operation.lockWaveformMemory r ∷ operation.uploadWaveformMemory r m lockAfter
       ∷ operation.readWaveformMemory r len room ∷ operation.startSequence r ∷ [])
 
