@@ -49,8 +49,8 @@ outsideBand m hz = cond (tracking m) (ltb hz 50 || ltb 300 hz) (ltb hz 25 || ltb
 abbrev pub Check : Type 0
 Check = Bool × ℕ
 
--- "in the Rust's order", then the added ones; the numbers of the values are document 02's: "Each check keeps its place in 01's order", "A voltage
--- gives 21, a current or impedance 22, and a frequency .. 23"
+-- "in the Rust's order", then the added ones; 21, 22 and 23 are document 02's: "Each check keeps its place in 01's order", "A voltage gives 21, a
+-- current or impedance 22, and a frequency .. 23"
 abbrev pub configureChecks : Variant → ActuatorConfig → DeviceConfig → List Check
 configureChecks v a d =
     (not (tracking (d .«driving_mode»)) && (d .acceleration || d .«rapid_stop»), 12)

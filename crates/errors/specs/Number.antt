@@ -21,13 +21,12 @@ numberAndCode Error.TooManySequences = (7, 0)
 numberAndCode Error.WaveformMemoryFull = (8, 0)
 numberAndCode Error.EmptySnippet = (9, 0)
 numberAndCode Error.EmptySequence = (10, 0)
--- the fitter of the unit
+-- the fitter of the unit; document 02: "Number 11 remains for trigger numbers, override values, `select_sequence` and `play_sequence`"
 numberAndCode Error.InvalidValue = (11, 0)
 numberAndCode Error.WrongMode = (12, 0)
 numberAndCode Error.MissingTriggerConfigInEtwmMode = (13, 0)
 numberAndCode Error.NotSupported = (14, 0)
--- .. and document 02's: "A voltage gives 21, a current or impedance 22, and a frequency .. 23"; "Number 11 remains for trigger numbers, override
--- values, `select_sequence` and `play_sequence`"
+-- .. and document 02: "A voltage gives 21, a current or impedance 22, and a frequency .. 23" (5 is a frame's)
 numberAndCode Error.InvalidVoltage = (21, 0)
 numberAndCode Error.InvalidCurrentOrImpedance = (22, 0)
 numberAndCode Error.InvalidDriveFrequency = (23, 0)
