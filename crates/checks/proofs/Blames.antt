@@ -21,13 +21,13 @@ use Rattle.checks.proofs.Tests.{on, tracks, untracks, is-etwm, isDA7281
 -- ---- the list
 
 -- check by check: it fails exactly where there is the fault, and has its number
-abbrev pub Tests : List Check → List Fault → Type 0
-Tests [] [] = Unit
-Tests [] (f ∷ fs) = ⊥
-Tests (c ∷ cs) [] = ⊥
-Tests (c ∷ cs) (f ∷ fs) = (c .1 ≡ f .0) × ((c .0 ≡ true) ↔ f .1) × Tests cs fs
+abbrev pub Agree : List Check → List Fault → Type 0
+Agree [] [] = Unit
+Agree [] (f ∷ fs) = ⊥
+Agree (c ∷ cs) [] = ⊥
+Agree (c ∷ cs) (f ∷ fs) = (c .1 ≡ f .0) × ((c .0 ≡ true) ↔ f .1) × Agree cs fs
 
-pub of-first : (l : List Check) (fs : List Fault) → Tests l fs → OfFirst (firstFailing l) fs
+pub of-first : (l : List Check) (fs : List Fault) → Agree l fs → OfFirst (firstFailing l) fs
 of-first [] [] t = refl
 of-first [] (f ∷ fs) t = absurd t
 of-first (c ∷ cs) [] t = absurd t
@@ -55,13 +55,13 @@ told-among ns (c ∷ cs) z s = let both = and-eq-true-iff (among ns (c .1)) (all
 pub flag : (b : Bool) → (b ≡ true) ↔ (b ≡ true)
 flag b = (λ e. e, λ e. e)
 
-pub both : (x y : Bool) (P Q : Type 0) → (x ≡ true) ↔ P → (y ≡ true) ↔ Q → ((x && y) ≡ true) ↔ (P × Q)
-both x y P Q p q =
+pub and-says : (x y : Bool) (P Q : Type 0) → (x ≡ true) ↔ P → (y ≡ true) ↔ Q → ((x && y) ≡ true) ↔ (P × Q)
+and-says x y P Q p q =
     let iff = and-eq-true-iff x y in
     (λ e. let h = iff .0 e in (p .0 (h .0), q .0 (h .1)), λ f. iff .1 (p .1 (f .0), q .1 (f .1)))
 
-either : (x y : Bool) (P Q : Type 0) → (x ≡ true) ↔ P → (y ≡ true) ↔ Q → ((x || y) ≡ true) ↔ (P ⊎ Q)
-either x y P Q p q = (to x p, from)
+or-says : (x y : Bool) (P Q : Type 0) → (x ≡ true) ↔ P → (y ≡ true) ↔ Q → ((x || y) ≡ true) ↔ (P ⊎ Q)
+or-says x y P Q p q = (to x p, from)
   where
     to : (b : Bool) → (b ≡ true) ↔ P → (b || y) ≡ true → P ⊎ Q
     to true k e = inl (k .0 refl)
@@ -75,7 +75,7 @@ pub above : (limit n : ℕ) → (ltb limit n ≡ true) ↔ (limit < n)
 above limit n = (ltb-true limit n, lt-ltb limit n)
 
 outside : (low high n : ℕ) → ((ltb n low || ltb high n) ≡ true) ↔ Outside low high n
-outside low high n = either (ltb n low) (ltb high n) (n < low) (high < n) (above n low) (above high n)
+outside low high n = or-says (ltb n low) (ltb high n) (n < low) (high < n) (above n low) (above high n)
 
 untracked : (m : DrivingMode) → (not (tracking m) ≡ true) ↔ ¬ (m ≡ «FREQUENCY_TRACK»)
 untracked m = (λ e. untracks m .0 (not-true (tracking m) e), λ n. ap not (untracks m .1 n))
@@ -117,13 +117,13 @@ blames = record {
       let operation = in-etwm (d .«operation_mode») in
       of-first (configureChecks v a d) (faults v a d) (
         refl,
-        both _ _ _ _ (untracked (d .«driving_mode»)) (either _ _ _ _ (flag (d .acceleration)) (flag (d .«rapid_stop»))),
+        and-says _ _ _ _ (untracked (d .«driving_mode»)) (or-says _ _ _ _ (flag (d .acceleration)) (flag (d .«rapid_stop»))),
         (
           refl,
-          both _ _ _ _ operation (no-trigger (d .«gpi_trigger_0») (d .«gpi_trigger_1») (d .«gpi_trigger_2»)),
+          and-says _ _ _ _ operation (no-trigger (d .«gpi_trigger_0») (d .«gpi_trigger_1») (d .«gpi_trigger_2»)),
           (
             refl,
-            both _ _ _ _ operation (both _ _ _ _ (is-DA7281 v, λ p. ap isDA7281 p) (several (d .«gpi_trigger_0») (d .«gpi_trigger_1») (d .«gpi_trigger_2»))),
+            and-says _ _ _ _ operation (and-says _ _ _ _ (is-DA7281 v, λ p. ap isDA7281 p) (several (d .«gpi_trigger_0») (d .«gpi_trigger_1») (d .«gpi_trigger_2»))),
             (
               refl,
               above 6000 (a .«nominal_max_mV»),
@@ -150,8 +150,8 @@ blames = record {
                             above (a .«max_current_mA») 29,
                             (
                               refl,
-                              both _ _ _ _ operation (either _ _ _ _ (number-above (d .«gpi_trigger_0»))
-                                  (either _ _ _ _ (number-above (d .«gpi_trigger_1»)) (number-above (d .«gpi_trigger_2»)))),
+                              and-says _ _ _ _ operation (or-says _ _ _ _ (number-above (d .«gpi_trigger_0»))
+                                  (or-says _ _ _ _ (number-above (d .«gpi_trigger_1»)) (number-above (d .«gpi_trigger_2»)))),
                               (refl, flag (d .«rapid_stop»), tt),
                             ),
                           ),

@@ -114,29 +114,29 @@ BelowZero (pos n) = ⊥
 BelowZero (negsuc n) = Unit
 
 -- refused with the number of the first fault that holds; begun where none does
-abbrev pub Starts : Start → List Fault → Type 0
-Starts (declines number) fs = (1 ≤ number) × OfFirst number fs
-Starts (begins b xs) fs = OfFirst 0 fs
+abbrev pub BeginsUnless : Start → List Fault → Type 0
+BeginsUnless (declines number) fs = (1 ≤ number) × OfFirst number fs
+BeginsUnless (begins b xs) fs = OfFirst 0 fs
 
 pub record Refusals : Type 0 where
-  pub configure : (r : DA728x) (a : ActuatorConfig) (d : DeviceConfig) → Starts (operation.configure r a d .start) (faults (r .variant) a d)
+  pub configure : (r : DA728x) (a : ActuatorConfig) (d : DeviceConfig) → BeginsUnless (operation.configure r a d .start) (faults (r .variant) a d)
   -- "a frequency, also in `set_frequency`, 23"
-  pub set-frequency : (r : DA728x) (hz : ℕ) → Starts (operation.setFrequency r hz .start)
+  pub set-frequency : (r : DA728x) (hz : ℕ) → BeginsUnless (operation.setFrequency r hz .start)
       ((15, r .settings ≡ Absent) ∷ (23, InStored (λ a d. OutOfBand (d .«driving_mode») hz) (r .settings)) ∷ [])
   -- "Number 11 remains for .. override values, `select_sequence` and `play_sequence`"
-  pub set-override-value : (r : DA728x) (value : ℤ) → Starts (operation.setOverrideValue r value .start)
+  pub set-override-value : (r : DA728x) (value : ℤ) → BeginsUnless (operation.setOverrideValue r value .start)
       ((15, r .settings ≡ Absent) ∷ (11, InStored (λ a d. (d .acceleration ≡ true) × BelowZero value) (r .settings))
       ∷ (12, InStored (λ a d. ¬ (d .«operation_mode» ≡ «DRO_MODE»)) (r .settings)) ∷ [])
-  pub select-sequence : (r : DA728x) (id loops : ℕ) → Starts (operation.selectSequence r id loops .start) ((11, 15 < id) ∷ (11, 15 < loops) ∷ [])
-  pub play-sequence : (r : DA728x) (id loops : ℕ) → Starts (operation.playSequence r id loops .start) ((11, 15 < id) ∷ (11, 15 < loops) ∷ [])
-  pub enable : (r : DA728x) → Starts (operation.enable r .start) ((15, r .settings ≡ Absent) ∷ [])
-  pub disable : (r : DA728x) → Starts (operation.disable r .start) ((15, r .settings ≡ Absent) ∷ [])
+  pub select-sequence : (r : DA728x) (id loops : ℕ) → BeginsUnless (operation.selectSequence r id loops .start) ((11, 15 < id) ∷ (11, 15 < loops) ∷ [])
+  pub play-sequence : (r : DA728x) (id loops : ℕ) → BeginsUnless (operation.playSequence r id loops .start) ((11, 15 < id) ∷ (11, 15 < loops) ∷ [])
+  pub enable : (r : DA728x) → BeginsUnless (operation.enable r .start) ((15, r .settings ≡ Absent) ∷ [])
+  pub disable : (r : DA728x) → BeginsUnless (operation.disable r .start) ((15, r .settings ≡ Absent) ∷ [])
   -- always
-  pub set-custom-drive-waveform : (r : DA728x) → Starts (operation.setCustomDriveWaveform r .start)
+  pub set-custom-drive-waveform : (r : DA728x) → BeginsUnless (operation.setCustomDriveWaveform r .start)
       ((15, r .settings ≡ Absent) ∷ (12, InStored (λ a d. ¬ (d .«driving_mode» ≡ «CUSTOM_WAVEFORM»)) (r .settings)) ∷ (14, Unit) ∷ [])
   -- never
   pub others : (r : DA728x) (address : ℕ) (v : Variant) (timebase : WaveformMemoryTimebase) (m : WaveformMemory) (lockAfter : Bool) (len room : ℕ) →
-      All (λ o. Starts (o .start) []) (operation.new address v ∷ operation.getChipRev r ∷ operation.getEvents r ∷ operation.getStatus r
+      All (λ o. BeginsUnless (o .start) []) (operation.new address v ∷ operation.getChipRev r ∷ operation.getEvents r ∷ operation.getStatus r
       ∷ operation.setTimebase r timebase ∷ operation.unlockWaveformMemory r ∷ operation.lockWaveformMemory r ∷ operation.uploadWaveformMemory r m lockAfter
       ∷ operation.readWaveformMemory r len room ∷ operation.startSequence r ∷ [])
 
