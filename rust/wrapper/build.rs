@@ -1,5 +1,5 @@
 //! Links the proved code: `libcapi.a` and `libcapi_driver.a` in the folder `DA728X_LIB_DIR` (an absolute
-//! path), by default where `rt staticlib` leaves them in the repository.
+//! path), by default where `scripts/archives` leaves them in the repository.
 
 use std::env;
 use std::path::PathBuf;
@@ -16,7 +16,7 @@ fn main() {
         let archive = folder.join(format!("lib{library}.a"));
         if !archive.exists() {
             let path = archive.display();
-            println!("cargo::warning={path} is missing: make it by `rt staticlib {library}`");
+            println!("cargo::warning={path} is missing: scripts/archives makes it");
         }
         println!("cargo::rerun-if-changed={}", archive.display());
         println!("cargo::rustc-link-lib=static={library}");

@@ -24,7 +24,7 @@ use Rattle.memory.specs.Memory.{newMemory}
 use Rattle.pattern.specs.Calls.{ran, answersTo, snippetStep, snippetFrom, FrameCall, frameStep, Begin, new, silence, begunBy, FrameCalls, sequenceStep, sequenceFrom, MemoryCall, addSnippet, addSequence, memoryStep, memoryFrom}
 use Rattle.pattern.proofs.Items.{frameRan, answerOn, withMadeFrame}
 use Rattle.pattern.proofs.Runs.{ran_append}
-use Rattle.assemble.specs.Lists.{Groups, noFrame, noGroups, leftBy, grouped, groups_of, answersOf, buildersIn, buildersOf}
+use Rattle.assemble.specs.Lists.{Groups, noFrame, noGroups, leftBy, grouped, groupsOf, answersOf, buildersIn, buildersOf}
 use Rattle.assemble.specs.Flat.{State, state, flatCalled}
 use Rattle.assemble.proofs.Flat.{nothingYet, flatAfter, flatAnswers}
 
@@ -152,9 +152,9 @@ module _ (l : List ℕ) where
   answers-from = all-answers (callsIn l) noGroups
 
   pub builders-from : (flatAfter nothingYet (callsIn l)).builders ≡ buildersOf l
-  unfolding groups_of
+  unfolding groupsOf
   builders-from = ap (λ (s : State). s.builders) (all_after (callsIn l) noGroups)
 
-  pub memory-from : (flatAfter nothingYet (callsIn l)).memory ≡ memoryFrom false (groups_of l).memory
-  unfolding groups_of
+  pub memory-from : (flatAfter nothingYet (callsIn l)).memory ≡ memoryFrom false (groupsOf l).memory
+  unfolding groupsOf
   memory-from = ap (λ (s : State). s.memory) (all_after (callsIn l) noGroups)

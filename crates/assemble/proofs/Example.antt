@@ -2,11 +2,11 @@
 use mathlib.Core.Path.{refl}
 use Rattle.calls.specs.Calls.{callsIn}
 use Rattle.memory.specs.Memory.{builtMemory}
-use Rattle.assemble.specs.Lists.{groups_of, answersOf}
+use Rattle.assemble.specs.Lists.{groupsOf, answersOf}
 use Rattle.assemble.specs.Example.{Example}
 
 pub example : Example
-unfolding groups_of answersOf callsIn builtMemory
+unfolding groupsOf answersOf callsIn builtMemory
 example =
     record {
       oneBuilt = refl;

@@ -12,13 +12,13 @@ use borrow.Author.Tests.{lt-ltb, le-ltb}
 use borrow.Rule.Slice.PartMut.{mid_of}
 use Rattle.errors.specs.Told.{Told, gives, toldBy, toldNumber}
 use Rattle.laws.specs.Copied.{copied, over}
-use Rattle.laws.specs.Whole.{whole, wholeOut, length_of}
+use Rattle.laws.specs.Whole.{whole, wholeOut, lengthOf}
 use Rattle.laws.proofs.Whole.{length-number}
 use Rattle.laws.specs.Lists.{joined}
 use Rattle.memory.specs.Image.{endPointers, imageSize, imageBytes}
 use Rattle.memory.specs.Memory.{imageNumber}
 use Rattle.memory.proofs.Images.{joined_length}
-use Rattle.assemble.specs.Kept.{kept, sum_of, ends, Pushed, ImageLaid}
+use Rattle.assemble.specs.Kept.{kept, sumOf, ends, Pushed, ImageLaid}
 use Rattle.assemble.proofs.Lists.{sumOf-lengths, ends-pointers, ends-append, ends-length, joined-append, copied_more, over-more}
 
 abbrev zeros : ℕ → List ℕ
@@ -39,8 +39,8 @@ module _ (most : ℕ) (items : List (List ℕ)) (l : List ℕ) (e : l ≡ kept m
         ∙ ap (take (1 + n - 1)) (append_assoc (map length items) (zeros (most - length items)) (copied (zeros 100) (joined items)))
         ∙ take_at (map length items) (zeros (most - length items) ++ copied (zeros 100) (joined items)) (1 + n - 1) k
 
-    pub sum_is : (a : ℕ) → a ≡ sum_of (mid_of 1 (1 + n - 1) l) → a ≡ length (joined items)
-    sum_is a h = h ∙ ap sum_of lens ∙ sumOf-lengths items
+    pub sum_is : (a : ℕ) → a ≡ sumOf (mid_of 1 (1 + n - 1) l) → a ≡ length (joined items)
+    sum_is a h = h ∙ ap sumOf lens ∙ sumOf-lengths items
 
   -- the bytes, where they fit
   module _ (h : length items ≤ most) (a : ℕ) (f : a ≡ length (joined items)) (fit : a ≤ 100) where
@@ -134,7 +134,7 @@ module _ (most n : ℕ) (l x : List ℕ) (f : n ≡ get_or l 0 0) where
     λ items g e. e ∙ ap (λ (t : Bool). kept most (cond t (items ++ (x ∷ [])) items)) (sym (le-ltb (length items) most (let c = count most items l e in omega arith))),
   )
 
-  pub room : n < most → (a at : ℕ) (l' : List ℕ) → a ≡ sum_of (mid_of 1 (1 + n - 1) l) → at ≡ 1 + most + a → l' ≡ take at l ++ copied (drop at l) x
+  pub room : n < most → (a at : ℕ) (l' : List ℕ) → a ≡ sumOf (mid_of 1 (1 + n - 1) l) → at ≡ 1 + most + a → l' ≡ take at l ++ copied (drop at l) x
       → (true ≡ ltb (get_or l 0 0) most) × Pushed most x l (set (set l' (1 + n) (length x)) 0 (n + 1))
   room h a at l' i j k = (
     sym (lt-ltb (get_or l 0 0) most (omega arith)),
@@ -158,7 +158,7 @@ module _ (ls ks xs ys : List ℕ) (fit : length ls + length ks + length xs + len
   abbrev start : List ℕ
   start = s ∷ q ∷ zeros 98
 
-  pub laid-over : (last : ℕ) (a b c d : List ℕ) → last ≡ 1 + s + q + sum_of ls → a ≡ over start 2 (ends (1 + s + q) ls) → b ≡ over a (2 + s) (ends last ks)
+  pub laid-over : (last : ℕ) (a b c d : List ℕ) → last ≡ 1 + s + q + sumOf ls → a ≡ over start 2 (ends (1 + s + q) ls) → b ≡ over a (2 + s) (ends last ks)
       → c ≡ over b (2 + s + q) xs → d ≡ over c (2 + s + q + length xs) ys
       → d ≡ s ∷ q ∷ (ends (1 + s + q) (ls ++ ks) ++ xs ++ ys ++ zeros (98 - (s + q + length xs + length ys)))
   laid-over last a b c d e f g h i =
@@ -220,7 +220,7 @@ module _ (l j buffer : List ℕ) (n k : ℕ) (f : n ≡ get_or l 0 0) (g : k ≡
       let u = lt-ltb (length qs) 1 (omega arith) in
       (simp (t, u), simp (t, u))
 
-  module _ (h : 1 ≤ n) (o : 1 ≤ k) (u v : ℕ) (p : u ≡ sum_of (mid_of 1 (1 + n - 1) l)) (q : v ≡ sum_of (mid_of 1 (1 + k - 1) j)) where
+  module _ (h : 1 ≤ n) (o : 1 ≤ k) (u v : ℕ) (p : u ≡ sumOf (mid_of 1 (1 + n - 1) l)) (q : v ≡ sumOf (mid_of 1 (1 + k - 1) j)) where
     pub too_large : 98 < n + k + u + v → ImageLaid l j buffer 8 buffer
     too_large w ss qs a b e i =
         let c = count 15 ss l e in
@@ -237,7 +237,7 @@ module _ (l j buffer : List ℕ) (n k : ℕ) (f : n ≡ get_or l 0 0) (g : k ≡
         → out ≡ length (mid_of 1 (1 + n - 1) l) ∷ length (mid_of 1 (1 + k - 1) j) ∷ (ends (1 + length (mid_of 1 (1 + n - 1) l) + length (mid_of 1 (1 + k - 1) j)) (mid_of 1 (1 + n - 1) l ++ mid_of 1 (1 + k - 1) j)
         ++ mid_of 16 (16 + u - 16) l ++ mid_of 17 (17 + v - 17) j
         ++ zeros (98 - (length (mid_of 1 (1 + n - 1) l) + length (mid_of 1 (1 + k - 1) j) + length (mid_of 16 (16 + u - 16) l) + length (mid_of 17 (17 + v - 17) j))))
-        → number ≡ toldNumber (length_of (whole buffer (gives out))) → buffer' ≡ wholeOut buffer (gives out) → ImageLaid l j buffer number buffer'
+        → number ≡ toldNumber (lengthOf (whole buffer (gives out))) → buffer' ≡ wholeOut buffer (gives out) → ImageLaid l j buffer number buffer'
     built w out buffer' number z m x ss qs a b e i =
         let c = count 15 ss l e in
         let d = count 16 qs j i in

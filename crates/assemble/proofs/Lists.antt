@@ -12,18 +12,18 @@ use lib.Seq.{drop-cons, sets, take_all, take_at, drop_at, drop-drop, take-append
 use Rattle.laws.specs.Copied.{copied, over}
 use Rattle.laws.specs.Lists.{joined}
 use Rattle.memory.specs.Image.{endPointers}
-use Rattle.assemble.specs.Kept.{sum_of, ends}
+use Rattle.assemble.specs.Kept.{sumOf, ends}
 
 -- ---- one turn
 
 next : (l : List ℕ) (i : ℕ) → i < length l → drop i l ≡ get_or l i 0 ∷ drop (i + 1) l
 next l i h = rw (add-one) (drop-cons l i 0 h)
 
-pub sumOf-next : (l : List ℕ) (i : ℕ) → i < length l → sum_of (drop i l) ≡ get_or l i 0 + sum_of (drop (i + 1) l)
-sumOf-next l i h = ap sum_of (next l i h)
+pub sumOf-next : (l : List ℕ) (i : ℕ) → i < length l → sumOf (drop i l) ≡ get_or l i 0 + sumOf (drop (i + 1) l)
+sumOf-next l i h = ap sumOf (next l i h)
 
-pub sumOf-done : (l : List ℕ) (i : ℕ) → length l ≤ i → sum_of (drop i l) ≡ 0
-sumOf-done l i h = ap sum_of (drop_of_length-le l {i = i} h)
+pub sumOf-done : (l : List ℕ) (i : ℕ) → length l ≤ i → sumOf (drop i l) ≡ 0
+sumOf-done l i h = ap sumOf (drop_of_length-le l {i = i} h)
 
 pub ends_next : (l out : List ℕ) (at i last : ℕ) → i < length l
     → sets out (at + i) (ends last (drop i l)) ≡ sets (set out (at + i) (last + get_or l i 0)) (at + (i + 1)) (ends (last + get_or l i 0) (drop (i + 1) l))
@@ -36,7 +36,7 @@ ends-done l out j i last h = ap (λ (m : List ℕ). sets out j (ends last m)) (d
 
 -- ---- of items
 
-pub sumOf-lengths : (items : List (List ℕ)) → sum_of (map length items) ≡ length (joined items)
+pub sumOf-lengths : (items : List (List ℕ)) → sumOf (map length items) ≡ length (joined items)
 sumOf-lengths [] = refl
 sumOf-lengths (x ∷ xs) = ap (λ (n : ℕ). length x + n) (sumOf-lengths xs) ∙ sym (length-append x (joined xs))
 
@@ -44,10 +44,10 @@ pub ends-pointers : (items : List (List ℕ)) (before : ℕ) → ends before (ma
 ends-pointers [] before = refl
 ends-pointers (x ∷ xs) before = ap (λ (l : List ℕ). (before + length x) ∷ l) (ends-pointers xs (before + length x))
 
-pub ends-append : (xs ys : List ℕ) (before : ℕ) → ends before (xs ++ ys) ≡ ends before xs ++ ends (before + sum_of xs) ys
+pub ends-append : (xs ys : List ℕ) (before : ℕ) → ends before (xs ++ ys) ≡ ends before xs ++ ends (before + sumOf xs) ys
 ends-append [] ys before = ap (λ (k : ℕ). ends k ys) (sym (add-zero before))
 ends-append (x ∷ xs) ys before =
-    let e : before + x + sum_of xs ≡ before + (x + sum_of xs) = omega arith in
+    let e : before + x + sumOf xs ≡ before + (x + sumOf xs) = omega arith in
     ap (λ (l : List ℕ). (before + x) ∷ l) (ends-append xs ys (before + x) ∙ ap (λ (k : ℕ). ends (before + x) xs ++ ends k ys) e)
 
 pub joined-append : (xs ys : List (List ℕ)) → joined (xs ++ ys) ≡ joined xs ++ joined ys

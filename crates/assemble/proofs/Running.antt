@@ -26,7 +26,7 @@ use Rattle.frame.specs.Read.{gainAt, timebaseAt}
 use Rattle.pattern.specs.Calls.{gain, timebase}
 use Rattle.calls.specs.declared.Record.{Record}
 use Rattle.calls.specs.declared.Builders.{Builders}
-use Rattle.calls.specs.Calls.{callsByCode, firstRecord, call_of, callsIn, calledBy}
+use Rattle.calls.specs.Calls.{callsByCode, firstRecord, callOf, callsIn, calledBy}
 use Rattle.calls.proofs.Turns.{calls-next, calls-none, chosen-either}
 use Rattle.memory.specs.declared.WaveformMemoryBuilder.{WaveformMemoryBuilder}
 use Rattle.pattern.proofs.Items.{withBuiltSnippet, withBuiltSequence}
@@ -59,9 +59,9 @@ beyond n d h k (no e) = go (ℕ_discrete n 13) where
   go (yes f) = absurd (h f)
   go (no f) = absurd (k (omega arith))
 
-pub small-code : (r : Record) → ¬ (r.code ≡ 13) → ¬ (r.code ≡ 14) → Small (call_of r)
+pub small-code : (r : Record) → ¬ (r.code ≡ 13) → ¬ (r.code ≡ 14) → Small (callOf r)
 small-code r h k = go (dec_le 13 r.code) where
-  go : Dec (13 ≤ r.code) → Small (call_of r)
+  go : Dec (13 ≤ r.code) → Small (callOf r)
   go (no d) =
       front-small (take 13 (callsByCode r.a r.b)) (Call.AddSnippet ∷ Call.AddSequence ∷ []) r.code Call.Unknown
       (tt, (tt, (tt, (tt, (tt, (tt, (tt, (chosen-either Small (gain (gainAt r.a)) r.a tt tt, (chosen-either Small (timebase (timebaseAt r.a)) r.a tt tt, (tt, (tt, (tt, (tt, tt)))))))))))))
@@ -134,7 +134,7 @@ first-last told = go (ltb 0 told) refl where
 module _ {bytes k₀ k ls qs : List ℕ} {b : Builders} {at i told : ℕ} (r : Running bytes k₀ k ls qs b at i told) where
   -- one turn
   pub turn : (call : Call) (t : Handed Builders) (ls' qs' k' : List ℕ) (b' : Builders) (n at' told' : ℕ) → at < length bytes → at' ≡ min (at + 4) (length bytes)
-      → call ≡ call_of (firstRecord (drop at bytes)) → StepsMemory b call ls qs t ls' qs' → n ≡ t.number → b' ≡ t.builder → k' ≡ set k i n
+      → call ≡ callOf (firstRecord (drop at bytes)) → StepsMemory b call ls qs t ls' qs' → n ≡ t.number → b' ≡ t.builder → k' ≡ set k i n
       → told' ≡ cond (ltb 0 told) told (cond (ltb 0 n) (withPlace n i) 0) → Running bytes k₀ k' ls' qs' b' at' (i + 1) told'
   unfolding flatAfter flatAnswers
   turn call t ls' qs' k' b' n at' told' h e ec steps en eb ek et =

@@ -10,7 +10,7 @@ use Rattle.laws.proofs.Tests.{choice}
 use Rattle.errors.specs.Told.{Told, gives, refuses, Handed, accepted, refused, Built}
 use Rattle.snippet.specs.declared.SnippetBuilder.{SnippetBuilder}
 use Rattle.snippet.specs.Point as made
-use Rattle.snippet.specs.Snippet.{point_of, withPoint, withMade, builtSnippet}
+use Rattle.snippet.specs.Snippet.{pointOf, withPoint, withMade, builtSnippet}
 use Rattle.frame.specs.declared.FrameBuilder.{FrameBuilder}
 use Rattle.frame.specs.Frame.{frameBytes, builtFrame}
 use Rattle.sequence.specs.declared.SequenceBuilder.{SequenceBuilder}
@@ -34,7 +34,7 @@ by-accepting b x = (omega arith, λ k. absurd (omega arith))
 one : {B : Type 0} (b : B) (t : Bool) (n : ℕ) (x : B) → n ≤ 14 → Answers b (cond t (refused n b) (accepted x))
 one b t n x h = choice (Answers b) t (refused n b) (accepted x) (by-refusing b n h) (by-accepting b x)
 
-point-answers : (b : SnippetBuilder) (x : ℕ) → Answers b (withPoint b (point_of x))
+point-answers : (b : SnippetBuilder) (x : ℕ) → Answers b (withPoint b (pointOf x))
 point-answers b x = one b (leb 16 b.len) 6 _ (omega arith)
 
 made-answers : (b : SnippetBuilder) (r : Bool) (t a : ℕ) → Answers b (withMade b (made.point r t a))

@@ -16,7 +16,7 @@ use Rattle.laws.proofs.Whole.{whole-or-nothing}
 use Rattle.pattern.specs.Calls.{memoryFrom}
 use Rattle.pattern.specs.Demand.{Pattern}
 use Rattle.pattern.proofs.Demand3.{demand3}
-use Rattle.assemble.specs.Lists.{groups_of, answersOf, builtOf, lastPlace, withPlace, firstRefused}
+use Rattle.assemble.specs.Lists.{groupsOf, answersOf, builtOf, lastPlace, withPlace, firstRefused}
 use Rattle.assemble.specs.Items.{imageItem, strictItem, leniently, strictly}
 use Rattle.assemble.specs.Strict.{AllAccepted, Assembled, Strict}
 use Rattle.assemble.proofs.Numbers.{answer-numbers, build-number}
@@ -56,7 +56,7 @@ module _ (buffer calls : List ℕ) where
   bytes = (builtOf calls).item.«data»
 
   abbrev pattern : Pattern
-  pattern = record { acceleration = false; calls = (groups_of calls).memory }
+  pattern = record { acceleration = false; calls = (groupsOf calls).memory }
 
   -- the build is refused, there is no room, or there is
   builds : 0 < n → (leniently buffer calls ≡ n) × (wholeOut buffer (imageItem calls) ≡ buffer)
@@ -96,7 +96,7 @@ module _ (buffer calls : List ℕ) where
         done = (done-leniently, λ w. (room w.0 w.1).0);
         builds = λ h. (builds h).0;
         short = λ e h. (short e h).0;
-        number = one_of (λ h. omega (arith, (builds h).0, build-number (memoryFrom false (groups_of calls).memory))) (λ k h. omega (arith, (short k h).0)) (λ k h. omega (arith, (room k h).0));
+        number = one_of (λ h. omega (arith, (builds h).0, build-number (memoryFrom false (groupsOf calls).memory))) (λ k h. omega (arith, (short k h).0)) (λ k h. omega (arith, (room k h).0));
         kept = kept-leniently;
         image = λ e. (room (done-leniently e).0 (done-leniently e).1).1;
         made = λ e. demand3.laidOut pattern (done-leniently e).0;

@@ -1,7 +1,7 @@
 -- Document 01's checked examples through a list of calls as bytes: each code reaches its own builder call. Then buffers without room.
 use Rattle.std.specs.Prelude.{ℕ, ◌≡◌, List, [], ◌∷◌, ◌++◌, replicate}
 use Rattle.errors.specs.Told.{gives, refuses}
-use Rattle.laws.specs.Whole.{whole, wholeOut, length_of}
+use Rattle.laws.specs.Whole.{whole, wholeOut, lengthOf}
 use Rattle.assemble.specs.Lists.{answersOf, buildersOf}
 use Rattle.assemble.specs.Items.{snippetItem, frameItem, sequenceItem, imageItem, strictItem, leniently, strictly}
 
@@ -57,13 +57,13 @@ pub record Example : Type 0 where
   pub frame : frameItem (call 5 3 0 ++ call 7 1 0 ++ call 8 2 0 ++ call 9 2 0 ++ call 10 44 1) ≡ gives (51 ∷ 150 ∷ 44 ∷ [])
   pub sequence : sequenceItem twoFrames ≡ gives (51 ∷ 150 ∷ 44 ∷ 60 ∷ 168 ∷ [])
   -- "lent nine bytes, got the answer 12 from `Snippet` and printed three stale ones"
-  pub nine : length_of (whole (lent 9) (snippetItem twelve)) ≡ refuses 24
+  pub nine : lengthOf (whole (lent 9) (snippetItem twelve)) ≡ refuses 24
   pub nineKept : wholeOut (lent 9) (snippetItem twelve) ≡ lent 9
-  pub justRoom : length_of (whole (lent 12) (snippetItem twelve)) ≡ gives 12
+  pub justRoom : lengthOf (whole (lent 12) (snippetItem twelve)) ≡ gives 12
   pub moreRoom : wholeOut (lent 3) (snippetItem (call 2 3 10 ++ call 3 1 0)) ≡ 170 ∷ 0 ∷ 238 ∷ []
   -- what is not built is told first: no points, no frame begun, no frames
-  pub noItems : (length_of (whole [] (snippetItem [])) ≡ refuses 9) × (length_of (whole [] (frameItem [])) ≡ refuses 3)
-      × (length_of (whole [] (sequenceItem [])) ≡ refuses 10)
+  pub noItems : (lengthOf (whole [] (snippetItem [])) ≡ refuses 9) × (lengthOf (whole [] (frameItem [])) ≡ refuses 3)
+      × (lengthOf (whole [] (sequenceItem [])) ≡ refuses 10)
   -- an image has room in a hundred bytes
   pub imageShort : (leniently (lent 99) oneOfEach ≡ 24) × (strictly (lent 99) oneOfEach ≡ 24)
   pub imageRoom : (leniently (lent 100) oneOfEach ≡ 0) × (strictly (lent 100) oneOfEach ≡ 0)

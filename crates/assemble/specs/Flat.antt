@@ -28,15 +28,15 @@ lessSnippet b n = record { snippet = leftBy n newSnippet b.snippet; frame = b.fr
 abbrev pub lessSequence : Builders → ℕ → Builders
 lessSequence b n = record { snippet = b.snippet; frame = b.frame; sequence = leftBy n newSequence b.sequence }
 
-abbrev pub on_memory : (ℕ → Builders) → Handed WaveformMemoryBuilder → Handed State
-on_memory left r = record { number = r.number; builder = state (left r.number) r.builder }
+abbrev pub onMemory : (ℕ → Builders) → Handed WaveformMemoryBuilder → Handed State
+onMemory left r = record { number = r.number; builder = state (left r.number) r.builder }
 
 -- a call's number, and the builders after it
 abbrev pub flatCalled : State → Call → Handed State
 flatCalled s (Call.Builder k) =
     record { number = (called s.builders k).number; builder = state (called s.builders k).builder s.memory }
 flatCalled s Call.AddSnippet =
-    on_memory (lessSnippet s.builders) (withBuilt withSnippet s.memory (builtSnippet s.builders.snippet))
+    onMemory (lessSnippet s.builders) (withBuilt withSnippet s.memory (builtSnippet s.builders.snippet))
 flatCalled s Call.AddSequence =
-    on_memory (lessSequence s.builders) (withBuilt withSequence s.memory (builtSequence s.builders.sequence))
+    onMemory (lessSequence s.builders) (withBuilt withSequence s.memory (builtSequence s.builders.sequence))
 flatCalled s Call.Unknown = refused 14 s

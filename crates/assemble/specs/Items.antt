@@ -4,12 +4,12 @@ use Rattle.std.specs.Prelude.{ℕ, ◌≡◌, cond, List, ltb, length}
 use Rattle.errors.specs.Told.{Told, gives, refuses, onTold, toldBy, toldNumber}
 use Rattle.laws.specs.Whole.{whole}
 use Rattle.snippet.specs.Snippet.{snippetBytes, builtSnippet}
-use Rattle.frame.specs.Frame.{bytes_of, frameBytes, builtFrame}
+use Rattle.frame.specs.Frame.{bytesOf, frameBytes, builtFrame}
 use Rattle.sequence.specs.Sequence.{sequenceBytes, builtSequence}
 use Rattle.content.specs.Content.{pointBytes, framesBytes}
 use Rattle.pattern.specs.Calls.{pointsFrom, begunBy, frameFrom, framesFrom}
 use Rattle.calls.specs.Calls.{frameBegun}
-use Rattle.assemble.specs.Lists.{groups_of, answersOf, buildersOf, builtOf, firstRefused}
+use Rattle.assemble.specs.Lists.{groupsOf, answersOf, buildersOf, builtOf, firstRefused}
 
 abbrev pub snippetItem : List ℕ → Told (List ℕ)
 snippetItem calls = let r = builtSnippet (buildersOf calls).snippet in toldBy r.number (snippetBytes r.item)
@@ -37,7 +37,7 @@ strictly buffer calls = toldNumber (whole buffer (strictItem calls))
 
 -- nothing of an item is left out: the points, the fields, the frames that the accepted calls gave it
 pub record WholeItems (calls : List ℕ) : Type 0 where
-  pub snippet : let ps = pointsFrom (groups_of calls).snippet in snippetItem calls ≡ cond (ltb (length ps) 1) (refuses 9) (gives (pointBytes ps))
-  pub frame : let m = (groups_of calls).frame in frameItem calls ≡ onTold (begunBy m.begin) (λ f. gives (bytes_of (frameFrom m))) refuses
-  pub sequence : let fs = framesFrom (groups_of calls).sequence in
+  pub snippet : let ps = pointsFrom (groupsOf calls).snippet in snippetItem calls ≡ cond (ltb (length ps) 1) (refuses 9) (gives (pointBytes ps))
+  pub frame : let m = (groupsOf calls).frame in frameItem calls ≡ onTold (begunBy m.begin) (λ f. gives (bytesOf (frameFrom m))) refuses
+  pub sequence : let fs = framesFrom (groupsOf calls).sequence in
       sequenceItem calls ≡ cond (ltb (length fs) 1) (refuses 10) (gives (framesBytes fs))

@@ -8,16 +8,16 @@ use Rattle.memory.specs.Image.{imageBytes}
 use Rattle.memory.specs.Memory.{imageNumber}
 
 -- how many bytes that takes, for `most` items
-abbrev pub room_for : ℕ → ℕ
-room_for most = 101 + most
+abbrev pub roomFor : ℕ → ℕ
+roomFor most = 101 + most
 
 -- where there is room for the lengths of `most` items
 unfoldable pub kept : ℕ → List (List ℕ) → List ℕ
 kept most items = length items ∷ (map length items ++ replicate (most - length items) 0) ++ copied (replicate 100 0) (joined items)
 
-abbrev pub sum_of : List ℕ → ℕ
-sum_of [] = 0
-sum_of (x ∷ xs) = x + sum_of xs
+abbrev pub sumOf : List ℕ → ℕ
+sumOf [] = 0
+sumOf (x ∷ xs) = x + sumOf xs
 
 -- the index of each item's last byte, by the items' lengths
 abbrev pub ends : ℕ → List ℕ → List ℕ
@@ -43,8 +43,8 @@ addedNumber most full number l = cond (ltb 0 number) number (cond (ltb (get_or l
 -- lengths and bytes of snippets, then of sequences, that fit into an image
 pub record Fits (ls xs ks ys : List ℕ) : Type 0 where
   pub size : length ls + length ks + length xs + length ys ≤ 98
-  pub snippetsLaid : sum_of ls ≡ length xs
-  pub sequencesLaid : sum_of ks ≡ length ys
+  pub snippetsLaid : sumOf ls ≡ length xs
+  pub sequencesLaid : sumOf ks ≡ length ys
 
 -- the image that they make
 abbrev pub imageFrom : List ℕ → List ℕ → List ℕ → List ℕ → List ℕ
@@ -57,8 +57,8 @@ imageFrom ls xs ks ys =
 
 -- bytes that keep snippets and sequences: as long as that takes, and no more of them than there can be
 pub record KeptBoth (l k : List ℕ) : Type 0 where
-  pub snippetsLong : length l ≡ room_for 15
-  pub sequencesLong : length k ≡ room_for 16
+  pub snippetsLong : length l ≡ roomFor 15
+  pub sequencesLong : length k ≡ roomFor 16
   pub snippetsFew : get_or l 0 0 ≤ 15
   pub sequencesFew : get_or k 0 0 ≤ 16
 

@@ -31,16 +31,16 @@ noGroups = groups [] noFrame [] []
 -- ---- one call
 
 -- its number is what its builder answers; what says no call is refused with 14, NotSupported
-abbrev pub number_in : Groups → Call → ℕ
-number_in g (Call.Builder Call.SnippetNew) = 0
-number_in g (Call.Builder (Call.OnSnippet k)) = (snippetStep (snippetFrom g.snippet) k).number
-number_in g (Call.Builder (Call.BeginFrame b)) = toldNumber (begunBy b)
-number_in g (Call.Builder (Call.OnFrame k)) = frameCalled g.frame k
-number_in g (Call.Builder Call.SequenceNew) = 0
-number_in g (Call.Builder Call.AddFrame) = (sequenceStep (sequenceFrom g.sequence) g.frame).number
-number_in g Call.AddSnippet = (memoryStep (memoryFrom false g.memory) (addSnippet g.snippet)).number
-number_in g Call.AddSequence = (memoryStep (memoryFrom false g.memory) (addSequence g.sequence)).number
-number_in g Call.Unknown = 14
+abbrev pub numberIn : Groups → Call → ℕ
+numberIn g (Call.Builder Call.SnippetNew) = 0
+numberIn g (Call.Builder (Call.OnSnippet k)) = (snippetStep (snippetFrom g.snippet) k).number
+numberIn g (Call.Builder (Call.BeginFrame b)) = toldNumber (begunBy b)
+numberIn g (Call.Builder (Call.OnFrame k)) = frameCalled g.frame k
+numberIn g (Call.Builder Call.SequenceNew) = 0
+numberIn g (Call.Builder Call.AddFrame) = (sequenceStep (sequenceFrom g.sequence) g.frame).number
+numberIn g Call.AddSnippet = (memoryStep (memoryFrom false g.memory) (addSnippet g.snippet)).number
+numberIn g Call.AddSequence = (memoryStep (memoryFrom false g.memory) (addSequence g.sequence)).number
+numberIn g Call.Unknown = 14
 
 -- what is added to another builder: with number n, an accepted one is used up, a refused one stays
 module _ {A : Type 0} (n : ℕ) (fresh : A) where
@@ -61,12 +61,12 @@ joining n g Call.AddSequence = groups g.snippet g.frame (leftBy n [] g.sequence)
 joining n g Call.Unknown = g
 
 abbrev pub grouped : Groups → Call → Handed Groups
-grouped g k = handed (number_in g k) (joining (number_in g k) g k)
+grouped g k = handed (numberIn g k) (joining (numberIn g k) g k)
 
 -- ---- a list of calls as bytes
 
-unfoldable pub groups_of : List ℕ → Groups
-groups_of bytes = ran grouped noGroups (callsIn bytes)
+unfoldable pub groupsOf : List ℕ → Groups
+groupsOf bytes = ran grouped noGroups (callsIn bytes)
 
 -- the answer to each call
 unfoldable pub answersOf : List ℕ → List ℕ
@@ -79,11 +79,11 @@ buildersIn g =
     (sequenceFrom g.sequence)
 
 abbrev pub buildersOf : List ℕ → Builders
-buildersOf bytes = buildersIn (groups_of bytes)
+buildersOf bytes = buildersIn (groupsOf bytes)
 
 -- what building the memory answers after the calls
 abbrev pub builtOf : List ℕ → Built WaveformMemory WaveformMemoryBuilder
-builtOf bytes = builtFrom false (groups_of bytes).memory
+builtOf bytes = builtFrom false (groupsOf bytes).memory
 
 -- ---- a list of calls that stops at the first refusal
 

@@ -5,7 +5,7 @@ use Rattle.laws.specs.Whole.{wholeOut}
 use Rattle.laws.specs.Bytes.{All}
 use Rattle.pattern.specs.Calls.{contentFrom}
 use Rattle.pattern.specs.Demand.{ImageOf}
-use Rattle.assemble.specs.Lists.{groups_of, answersOf, builtOf, lastPlace}
+use Rattle.assemble.specs.Lists.{groupsOf, answersOf, builtOf, lastPlace}
 use Rattle.assemble.specs.Items.{imageItem, strictItem, leniently, strictly}
 
 pub record Assembled (buffer calls : List ℕ) : Type 0 where
@@ -19,7 +19,7 @@ pub record Assembled (buffer calls : List ℕ) : Type 0 where
   pub kept : 0 < leniently buffer calls → wholeOut buffer (imageItem calls) ≡ buffer
   pub image : leniently buffer calls ≡ 0 → wholeOut buffer (imageItem calls) ≡ (builtOf calls).item.«data» ++ drop 100 buffer
   -- and that is the image of what the calls added, which the builders admit
-  pub made : leniently buffer calls ≡ 0 → ImageOf (builtOf calls).item.«data» (contentFrom false (groups_of calls).memory)
+  pub made : leniently buffer calls ≡ 0 → ImageOf (builtOf calls).item.«data» (contentFrom false (groupsOf calls).memory)
 
 -- each of these answers accepts its call
 abbrev pub AllAccepted : List ℕ → Type 0

@@ -15,12 +15,12 @@ ghost use Rattle.laws.specs.Whole.{wholeOut};
 ghost use Rattle.errors.specs.Number.{answerNumber};
 ghost use Rattle.errors.specs.Told.{handed, built};
 ghost use Rattle.memory.specs.Memory.{withSnippet, withSequence};
-ghost use Rattle.calls.specs.Calls.{callsIn, call_of};
+ghost use Rattle.calls.specs.Calls.{callsIn, callOf};
 ghost use Rattle.pattern.specs.Calls.{memoryFrom, withBuilt};
-ghost use Rattle.assemble.specs.Lists.{groups_of, answersOf, buildersOf, lastPlace, withPlace, firstRefused};
+ghost use Rattle.assemble.specs.Lists.{groupsOf, answersOf, buildersOf, lastPlace, withPlace, firstRefused};
 ghost use Rattle.assemble.specs.Items.{imageItem, strictItem, leniently, strictly};
 ghost use Rattle.assemble.specs.Flat.{lessSnippet, lessSequence};
-ghost use Rattle.assemble.specs.Kept.{room_for, PushedUnless, addedNumber};
+ghost use Rattle.assemble.specs.Kept.{roomFor, PushedUnless, addedNumber};
 ghost use Rattle.assemble.specs.Holding.{KeepsMemory, StepsSnippets, StepsSequences, StepsMemory};
 
 use calls::{ADD_SEQUENCE, ADD_SNIPPET, Builders, Record, Stepped};
@@ -98,12 +98,12 @@ pub fn assemble_strict(calls: &[u8], image: &mut [u8]) -> u32
 
 // Runs the calls on new builders, the memory's kept in bytes that are zero; the answers go to the front of the buffer, as many as fit.
 fn run(calls: &[u8], answers: &mut [u8], snippets: &mut [u8], sequences: &mut [u8]) -> Ran
-    requires { (snippets.old ≡ replicate (room_for 15) 0) × (sequences.old ≡ replicate (room_for 16) 0) }
+    requires { (snippets.old ≡ replicate (roomFor 15) 0) × (sequences.old ≡ replicate (roomFor 16) 0) }
     ensures builders { result.builders ≡ buildersOf calls.now }
     ensures count { result.count ≡ length (callsIn calls.now) }
     ensures told { result.told ≡ firstRefused 0 (answersOf calls.now) }
     ensures answers { answers.new ≡ copied answers.old (answersOf calls.now) }
-    ensures memory { KeepsMemory (memoryFrom false (groups_of calls.now).memory) snippets.new sequences.new }
+    ensures memory { KeepsMemory (memoryFrom false (groupsOf calls.now).memory) snippets.new sequences.new }
 {
     let mut b = Builders::new();
     let mut at = 0usize;
@@ -128,8 +128,8 @@ fn run(calls: &[u8], answers: &mut [u8], snippets: &mut [u8], sequences: &mut [u
 
 // Makes the call that a record says, on the builders or on the items kept.
 fn step(b: Builders, record: Record, snippets: &mut [u8], sequences: &mut [u8]) -> Stepped
-    requires { (length snippets.old ≡ room_for 15) × (length sequences.old ≡ room_for 16) }
-    ensures { StepsMemory b (call_of «record») snippets.old sequences.old (handed result.number result.builders)
+    requires { (length snippets.old ≡ roomFor 15) × (length sequences.old ≡ roomFor 16) }
+    ensures { StepsMemory b (callOf «record») snippets.old sequences.old (handed result.number result.builders)
         snippets.new sequences.new }
 {
     let code = record.code;
@@ -198,7 +198,7 @@ fn less_sequence(b: Builders, number: u8) -> Stepped
 
 // Puts a snippet behind the others, if it was built.
 fn add_snippet(list: &mut [u8], r: BuiltSnippet) -> u8
-    requires { length list.old ≡ room_for 15 }
+    requires { length list.old ≡ roomFor 15 }
     ensures { StepsSnippets (λ m. withBuilt withSnippet m (built (answerNumber r.answer) r.snippet r.builder))
         list.old result list.new }
 {
@@ -217,7 +217,7 @@ fn add_snippet(list: &mut [u8], r: BuiltSnippet) -> u8
 
 // Puts a sequence behind the others, if it was built.
 fn add_sequence(list: &mut [u8], r: BuiltSequence) -> u8
-    requires { length list.old ≡ room_for 16 }
+    requires { length list.old ≡ roomFor 16 }
     ensures { StepsSequences (λ m. withBuilt withSequence m (built (answerNumber r.answer) r.sequence r.builder))
         list.old result list.new }
 {
@@ -236,7 +236,7 @@ fn add_sequence(list: &mut [u8], r: BuiltSequence) -> u8
 
 // Puts an item behind the others unless it was refused; answers that refusal, or `full` where there is no room.
 fn add(list: &mut [u8], most: usize, full: u8, number: u8, bytes: &[u8]) -> u8
-    requires { (length list.old ≡ room_for most) × (most ≤ 16) × (length bytes.now < 256) }
+    requires { (length list.old ≡ roomFor most) × (most ≤ 16) × (length bytes.now < 256) }
     ensures answer { result ≡ addedNumber most full number list.old }
     ensures list { PushedUnless (ltb 0 number) most bytes.now list.old list.new }
 {

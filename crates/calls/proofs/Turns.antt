@@ -13,7 +13,7 @@ use borrow.Author.Tests.{lt-ltb, le-ltb}
 use Rattle.pattern.specs.Calls.{FrameCall}
 use Rattle.calls.specs.Said.{Call}
 use Rattle.calls.specs.Said as Call
-use Rattle.calls.specs.Calls.{chosen, recordOf, firstRecord, call_of, callsIn}
+use Rattle.calls.specs.Calls.{chosen, recordOf, firstRecord, callOf, callsIn}
 
 -- a whole record
 pub whole-record : (l : List ℕ) (at : ℕ) → at + 4 ≤ length l
@@ -28,7 +28,7 @@ pub short-record : (l : List ℕ) (at : ℕ) → length l - at < 4 → firstReco
 short-record l at h = let n = length-drop at l in simp (lt-ltb (length (drop at l)) 4 (omega arith))
 
 -- the first call and the calls behind it
-next : (l : List ℕ) → 0 < length l → callsIn l ≡ call_of (firstRecord l) ∷ callsIn (drop 4 l)
+next : (l : List ℕ) → 0 < length l → callsIn l ≡ callOf (firstRecord l) ∷ callsIn (drop 4 l)
 unfolding callsIn
 next [] h = absurd (omega arith)
 next (k ∷ []) h = refl
@@ -37,10 +37,10 @@ next (k ∷ a ∷ b ∷ []) h = refl
 next (k ∷ a ∷ b ∷ c ∷ r) h = simp (le-ltb (length (k ∷ a ∷ b ∷ c ∷ r)) 4 (omega arith))
 
 -- the call at an index and the calls behind it
-pub calls-next : (l : List ℕ) (at after : ℕ) → at < length l → after ≡ min (at + 4) (length l) → callsIn (drop at l) ≡ call_of (firstRecord (drop at l)) ∷ callsIn (drop after l)
+pub calls-next : (l : List ℕ) (at after : ℕ) → at < length l → after ≡ min (at + 4) (length l) → callsIn (drop at l) ≡ callOf (firstRecord (drop at l)) ∷ callsIn (drop after l)
 calls-next l at after h e =
     next (drop at l) (rw (length-drop at l) (omega arith))
-    ∙ ap (λ (r : List ℕ). call_of (firstRecord (drop at l)) ∷ callsIn r) (drop-drop 4 at l ∙ go (dec_le (at + 4) (length l)) ∙ ap (λ (n : ℕ). drop n l) (sym e)) where
+    ∙ ap (λ (r : List ℕ). callOf (firstRecord (drop at l)) ∷ callsIn r) (drop-drop 4 at l ∙ go (dec_le (at + 4) (length l)) ∙ ap (λ (n : ℕ). drop n l) (sym e)) where
       go : Dec (at + 4 ≤ length l) → drop (at + 4) l ≡ drop (min (at + 4) (length l)) l
       go (yes k) = ap (λ (n : ℕ). drop n l) (sym (min-eq_left k))
       go (no k) =

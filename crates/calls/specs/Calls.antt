@@ -41,8 +41,8 @@ abbrev pub recordOf : ℕ → ℕ → ℕ → Record
 recordOf code a b = record { code = code; a = a; b = b }
 
 -- any other code says none
-abbrev pub call_of : Record → Call
-call_of r = get_or (callsByCode r.a r.b) r.code Call.Unknown
+abbrev pub callOf : Record → Call
+callOf r = get_or (callsByCode r.a r.b) r.code Call.Unknown
 
 -- the first record of four bytes, the last of which says nothing; a shorter one counts as one of zeros, which says no call
 abbrev pub firstRecord : List ℕ → Record
@@ -54,7 +54,7 @@ callsIn [] = []
 callsIn (code ∷ []) = Call.Unknown ∷ []
 callsIn (code ∷ a ∷ []) = Call.Unknown ∷ []
 callsIn (code ∷ a ∷ b ∷ []) = Call.Unknown ∷ []
-callsIn (code ∷ a ∷ b ∷ last ∷ r) = call_of (recordOf code a b) ∷ callsIn r
+callsIn (code ∷ a ∷ b ∷ last ∷ r) = callOf (recordOf code a b) ∷ callsIn r
 
 -- ---- one call on the three builders
 
@@ -100,8 +100,8 @@ calledBy b Call.Unknown = refused 14 b
 
 -- ---- as the private functions take it
 
-abbrev pub field_of : FieldCall → FrameCall
-field_of (Field.Gain c) = gain (gainAt c)
-field_of (Field.Timebase c) = timebase (timebaseAt c)
-field_of (Field.LoopCount k) = loopCount k
-field_of (Field.FrequencyHz f) = frequencyHz f
+abbrev pub fieldOf : FieldCall → FrameCall
+fieldOf (Field.Gain c) = gain (gainAt c)
+fieldOf (Field.Timebase c) = timebase (timebaseAt c)
+fieldOf (Field.LoopCount k) = loopCount k
+fieldOf (Field.FrequencyHz f) = frequencyHz f

@@ -11,7 +11,7 @@ ghost use Rattle.errors.specs.Told.{toldNumber, handed, accepted, refused};
 ghost use Rattle.frame.specs.Builder.{newTold};
 ghost use Rattle.pattern.specs.Calls.{frameStep};
 ghost use Rattle.calls.specs.Said as Call;
-ghost use Rattle.calls.specs.Calls.{chosen, firstRecord, call_of, called, calledBy, builders, started, underWay, uses, field_of};
+ghost use Rattle.calls.specs.Calls.{chosen, firstRecord, callOf, called, calledBy, builders, started, underWay, uses, fieldOf};
 
 use errors::{Answer, Error};
 use frame::{FrameBuilder, NewFrame, SetFrame};
@@ -108,7 +108,7 @@ impl Builders {
 
     // Makes the call that a record says; one on a memory is none here.
     pub fn apply(self, r: Record) -> Stepped
-        ensures { handed result.number result.builders ≡ calledBy self (call_of r) }
+        ensures { handed result.number result.builders ≡ calledBy self (callOf r) }
     {
         let s = self.snippet;
         let a = r.a;
@@ -158,7 +158,7 @@ impl Builders {
 
     // A choice of four by its code; a code above the last says no call.
     fn choose(self, call: FieldCall, code: u8) -> Stepped
-        ensures { handed result.number result.builders ≡ calledBy self (chosen (field_of call) code) }
+        ensures { handed result.number result.builders ≡ calledBy self (chosen (fieldOf call) code) }
     {
         if LAST_CHOICE < code {
             return self.no_call();
@@ -241,7 +241,7 @@ impl Builders {
     }
 
     fn set(self, call: FieldCall) -> Stepped
-        ensures { handed result.number result.builders ≡ called self (Call.OnFrame (field_of call)) }
+        ensures { handed result.number result.builders ≡ called self (Call.OnFrame (fieldOf call)) }
     {
         let f = self.frame;
         match f {
@@ -291,7 +291,7 @@ impl Builders {
 }
 
 fn with_field(f: FrameBuilder, call: FieldCall) -> SetFrame
-    ensures { handed (answerNumber result.answer) result.builder ≡ frameStep f (field_of call) }
+    ensures { handed (answerNumber result.answer) result.builder ≡ frameStep f (fieldOf call) }
 {
     match call {
         FieldCall::Gain(g) => done(f.gain(frame::Gain::from_code(g))),

@@ -2,7 +2,7 @@
 -- of the two it is, and the value or the refusal (demand 1, "refuses by one of the listed numbers"); and no part of an item is handed out.
 use Rattle.std.specs.Prelude.{ℕ, ◌≡◌, Bool, List}
 use Rattle.laws.specs.Bytes.{Bytes}
-use Rattle.laws.specs.Whole.{whole, length_of, WholeOrNothing}
+use Rattle.laws.specs.Whole.{whole, lengthOf, WholeOrNothing}
 use Rattle.errors.specs.Told.{Told}
 use Rattle.errors.specs.Packed.{packed}
 use Rattle.snippet.specs.Point.{point}
@@ -21,9 +21,9 @@ pub record Telling : Type 0 where
   -- da728x_point
   pub points : Tells 8 (λ (x : Bool × ℕ × ℕ). point x.0 x.1 x.2)
   -- da728x_snippet, da728x_frame and da728x_sequence with any buffer and any calls
-  pub snippets : Tells 16 (λ (x : List ℕ × List ℕ). length_of (whole x.0 (snippetItem x.1)))
-  pub frames : Tells 16 (λ (x : List ℕ × List ℕ). length_of (whole x.0 (frameItem x.1)))
-  pub sequences : Tells 16 (λ (x : List ℕ × List ℕ). length_of (whole x.0 (sequenceItem x.1)))
+  pub snippets : Tells 16 (λ (x : List ℕ × List ℕ). lengthOf (whole x.0 (snippetItem x.1)))
+  pub frames : Tells 16 (λ (x : List ℕ × List ℕ). lengthOf (whole x.0 (frameItem x.1)))
+  pub sequences : Tells 16 (λ (x : List ℕ × List ℕ). lengthOf (whole x.0 (sequenceItem x.1)))
   -- da728x_read_counts, da728x_read_lists with any buffer, da728x_read_point, da728x_read_frame on slices of bytes
   pub counts : Tells 16 (λ (x : (l : List ℕ) × Bytes l). countsAnswer (readImage x.0))
   pub lists : Tells 16 (λ (x : List ℕ × ((l : List ℕ) × Bytes l)). listsAnswer x.0 (readImage x.1.0))

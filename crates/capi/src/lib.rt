@@ -11,16 +11,16 @@ ghost use Rattle.errors.specs.Number.{encodedTold};
 ghost use Rattle.errors.specs.Packed.{packed, Room};
 ghost use Rattle.snippet.specs.Point.{point, pointTold, rampIn, timebasesIn, amplitudeIn};
 ghost use Rattle.laws.specs.Copied.{copied};
-ghost use Rattle.laws.specs.Whole.{whole, wholeOut, length_of};
+ghost use Rattle.laws.specs.Whole.{whole, wholeOut, lengthOf};
 ghost use Rattle.calls.specs.Calls.{callsIn};
 ghost use Rattle.assemble.specs.Lists.{answersOf, buildersOf};
 ghost use Rattle.assemble.specs.Items.{snippetItem, frameItem, sequenceItem, imageItem, strictItem, leniently, strictly};
 ghost use Rattle.content.specs.ReadImage.{readImage};
 ghost use Rattle.readings.specs.Readings.{countsAnswer, pointAnswer, frameAnswer};
 ghost use Rattle.readings.specs.Lists.{listsItem, listsAnswer};
-ghost use Rattle.field.specs.Field.{code_of};
+ghost use Rattle.field.specs.Field.{codeOf};
 ghost use Rattle.field.specs.Layout.{readings, replacements};
-ghost use Rattle.registers.specs.Table.{interrupts, actuator, control, trigger, read_only, addresses};
+ghost use Rattle.registers.specs.Table.{interrupts, actuator, control, trigger, readOnly, addresses};
 
 use calls::UnderWay;
 use errors::{Encoded, Error};
@@ -53,7 +53,7 @@ pub extern "C" fn da728x_point(ramp: u8, timebases: u8, amplitude: u8) -> u16
 
 #[unsafe(no_mangle)]
 pub extern "C" fn da728x_point_is_ramp(byte: u8) -> u8
-    ensures { result ≡ code_of (rampIn byte) }
+    ensures { result ≡ codeOf (rampIn byte) }
 {
     PwlPoint::from_byte(byte).is_ramp() as u8
 }
@@ -86,7 +86,7 @@ fn length_word(r: Encoded) -> u32
 // Builds the snippet and encodes it into the front of `out`; answers its length, or the refusal, and then `out` stays.
 #[unsafe(no_mangle)]
 pub extern "C" fn da728x_snippet(calls: &[u8], out: &mut [u8]) -> u32
-    ensures answer { result ≡ packed 16 (length_of (whole out.old (snippetItem calls.now))) }
+    ensures answer { result ≡ packed 16 (lengthOf (whole out.old (snippetItem calls.now))) }
     ensures out { out.new ≡ wholeOut out.old (snippetItem calls.now) }
 {
     let b = assemble::builders(calls);
@@ -104,7 +104,7 @@ pub extern "C" fn da728x_snippet(calls: &[u8], out: &mut [u8]) -> u32
 // Builds the frame and encodes it into the front of `out`; answers its length, or the refusal, and then `out` stays.
 #[unsafe(no_mangle)]
 pub extern "C" fn da728x_frame(calls: &[u8], out: &mut [u8]) -> u32
-    ensures answer { result ≡ packed 16 (length_of (whole out.old (frameItem calls.now))) }
+    ensures answer { result ≡ packed 16 (lengthOf (whole out.old (frameItem calls.now))) }
     ensures out { out.new ≡ wholeOut out.old (frameItem calls.now) }
 {
     let b = assemble::builders(calls);
@@ -118,7 +118,7 @@ pub extern "C" fn da728x_frame(calls: &[u8], out: &mut [u8]) -> u32
 // Builds the sequence and encodes it into the front of `out`; answers its length, or the refusal, and then `out` stays.
 #[unsafe(no_mangle)]
 pub extern "C" fn da728x_sequence(calls: &[u8], out: &mut [u8]) -> u32
-    ensures answer { result ≡ packed 16 (length_of (whole out.old (sequenceItem calls.now))) }
+    ensures answer { result ≡ packed 16 (lengthOf (whole out.old (sequenceItem calls.now))) }
     ensures out { out.new ≡ wholeOut out.old (sequenceItem calls.now) }
 {
     let b = assemble::builders(calls);
@@ -224,8 +224,8 @@ pub extern "C" fn da728x_read_interrupts(byte: u8, out: &mut [u8]) -> usize
 #[unsafe(no_mangle)]
 pub extern "C" fn da728x_replace_interrupts(byte: u8, value: u8, out: &mut [u8]) -> usize
     ensures value { result
-        ≡ min (length (replacements read_only interrupts byte value)) (length out.old) }
-    ensures out_after { out.new ≡ copied out.old (replacements read_only interrupts byte value) }
+        ≡ min (length (replacements readOnly interrupts byte value)) (length out.old) }
+    ensures out_after { out.new ≡ copied out.old (replacements readOnly interrupts byte value) }
 {
     let bytes = registers_interrupts::replaced(byte, value);
     laws::copy_into(out, &bytes)
@@ -243,8 +243,8 @@ pub extern "C" fn da728x_read_actuator(byte: u8, out: &mut [u8]) -> usize
 #[unsafe(no_mangle)]
 pub extern "C" fn da728x_replace_actuator(byte: u8, value: u8, out: &mut [u8]) -> usize
     ensures value { result
-        ≡ min (length (replacements read_only actuator byte value)) (length out.old) }
-    ensures out_after { out.new ≡ copied out.old (replacements read_only actuator byte value) }
+        ≡ min (length (replacements readOnly actuator byte value)) (length out.old) }
+    ensures out_after { out.new ≡ copied out.old (replacements readOnly actuator byte value) }
 {
     let bytes = registers_actuator::replaced(byte, value);
     laws::copy_into(out, &bytes)
@@ -262,8 +262,8 @@ pub extern "C" fn da728x_read_control(byte: u8, out: &mut [u8]) -> usize
 #[unsafe(no_mangle)]
 pub extern "C" fn da728x_replace_control(byte: u8, value: u8, out: &mut [u8]) -> usize
     ensures value { result
-        ≡ min (length (replacements read_only control byte value)) (length out.old) }
-    ensures out_after { out.new ≡ copied out.old (replacements read_only control byte value) }
+        ≡ min (length (replacements readOnly control byte value)) (length out.old) }
+    ensures out_after { out.new ≡ copied out.old (replacements readOnly control byte value) }
 {
     let bytes = registers_control::replaced(byte, value);
     laws::copy_into(out, &bytes)
@@ -281,8 +281,8 @@ pub extern "C" fn da728x_read_trigger(byte: u8, out: &mut [u8]) -> usize
 #[unsafe(no_mangle)]
 pub extern "C" fn da728x_replace_trigger(byte: u8, value: u8, out: &mut [u8]) -> usize
     ensures value { result
-        ≡ min (length (replacements read_only trigger byte value)) (length out.old) }
-    ensures out_after { out.new ≡ copied out.old (replacements read_only trigger byte value) }
+        ≡ min (length (replacements readOnly trigger byte value)) (length out.old) }
+    ensures out_after { out.new ≡ copied out.old (replacements readOnly trigger byte value) }
 {
     let bytes = registers_trigger::replaced(byte, value);
     laws::copy_into(out, &bytes)

@@ -11,14 +11,14 @@ use lib.Seq.{take_at}
 use borrow.Author.Tests.{eq-eqb, ne_eqb, le-ltb, ltb-true}
 use Rattle.laws.proofs.Tests.{choice}
 use Rattle.laws.specs.Bytes.{Bytes}
-use Rattle.field.specs.Field.{code_of}
+use Rattle.field.specs.Field.{codeOf}
 use Rattle.exchange.specs.declared.Exchange.{Exchange}
 use Rattle.exchange.specs.declared.Step.{Step}
 use Rattle.exchange.specs.declared.Step.TheVariants.{Write, Read, Update, Match, Chunk, Store}
 use Rattle.exchange.specs.declared.Reply.TheVariants.{Done, Byte, Failed}
 use Rattle.exchange.specs.State.{isBegun, madeIn, countIn, purposeIn, imageIn, left, noneLeft, completed}
-use Rattle.exchange.specs.Turn.{pendingFor, pendingOf, wanted, resized, fitsNext, fitOf, effect_of, stateAfter, reportOf}
-use Rattle.exchange.specs.Session.{AnswerCall, taken, after_call, sent}
+use Rattle.exchange.specs.Turn.{pendingFor, pendingOf, wanted, resized, fitsNext, fitOf, effectOf, stateAfter, reportOf}
+use Rattle.exchange.specs.Session.{AnswerCall, taken, afterCall, sent}
 use Rattle.exchange.proofs.Moves.{left-counts}
 use Rattle.exchange.proofs.Session.{session}
 use Rattle.exchange.proofs.Takes.{sends}
@@ -57,11 +57,11 @@ ended st = go (left st)
     go (x ∷ xs) = ne_eqb (exchangeWord (pendingFor st (x ∷ xs))) 0 (λ e. omega (arith, e, ltb-true 0 (pendingFor st (x ∷ xs)).len (sends st x)))
 
 -- what bytes can say
-byte_of : (l : List ℕ) (i : ℕ) → Bytes l → get_or l i 0 < 256
-byte_of [] zero h = omega arith
-byte_of [] (suc i) h = omega arith
-byte_of (x ∷ xs) zero h = h.0
-byte_of (x ∷ xs) (suc i) h = byte_of xs i h.1
+byteOf : (l : List ℕ) (i : ℕ) → Bytes l → get_or l i 0 < 256
+byteOf [] zero h = omega arith
+byteOf [] (suc i) h = omega arith
+byteOf (x ∷ xs) zero h = h.0
+byteOf (x ∷ xs) (suc i) h = byteOf xs i h.1
 
 pick : (p a b c : ℕ) → a < 16777216 → b < 16777216 → c < 16777216 → get_or (0 ∷ 0 ∷ 0 ∷ a ∷ b ∷ c ∷ []) p 0 < 16777216
 pick zero a b c f g h = omega arith
@@ -76,7 +76,7 @@ counted : (st : List ℕ) → Bytes st → countIn st < 256
 counted st h = go (isBegun st)
   where
     go : (k : Bool) → cond k (madeIn st) 0 < 256
-    go true = byte_of st 2 h
+    go true = byteOf st 2 h
     go false = omega arith
 
 bounded : (st : List ℕ) → Bytes st → ((outcomeOf st).value < 16777216) × ((outcomeOf st).made < 256)
@@ -85,7 +85,7 @@ bounded st h = (value (completed st), counted st h)
   where
     value : (k : Bool) → cond k (valueIn st) 0 < 16777216
     value false = omega arith
-    value true = pick (purposeIn st) _ _ _ (omega (arith, byte_of st 3 h)) (omega (arith, byte_of st 3 h, byte_of st 4 h, byte_of st 5 h)) (omega arith)
+    value true = pick (purposeIn st) _ _ _ (omega (arith, byteOf st 3 h)) (omega (arith, byteOf st 3 h, byteOf st 4 h, byteOf st 5 h)) (omega arith)
 
 -- an exchange sends at most 33 bytes
 bounded-exchange : (st : List ℕ) → Bytes st → ((pendingOf st).len < 256) × ((pendingOf st).address < 256)
@@ -93,12 +93,12 @@ bounded-exchange st h = go (left st)
   where
     go : (l : List Step) → ((pendingFor st l).len < 256) × ((pendingFor st l).address < 256)
     go [] = (omega arith, omega arith)
-    go (Write r v ∷ xs) = (omega arith, byte_of st 0 h)
-    go (Read r ∷ xs) = (omega arith, byte_of st 0 h)
-    go (Update r s w v ∷ xs) = (omega arith, byte_of st 0 h)
-    go (Match r v ∷ xs) = (omega arith, byte_of st 0 h)
-    go (Chunk i n ∷ xs) = (omega (arith, length-take (min n 32) (drop i (imageIn st))), byte_of st 0 h)
-    go (Store i ∷ xs) = (omega arith, byte_of st 0 h)
+    go (Write r v ∷ xs) = (omega arith, byteOf st 0 h)
+    go (Read r ∷ xs) = (omega arith, byteOf st 0 h)
+    go (Update r s w v ∷ xs) = (omega arith, byteOf st 0 h)
+    go (Match r v ∷ xs) = (omega arith, byteOf st 0 h)
+    go (Chunk i n ∷ xs) = (omega (arith, length-take (min n 32) (drop i (imageIn st))), byteOf st 0 h)
+    go (Store i ∷ xs) = (omega arith, byteOf st 0 h)
 
 -- what is told of an answer, by how it fits
 module _ (st : List ℕ) (kind byte n : ℕ) (h : Bytes st) (b : byte < 256) where
@@ -107,14 +107,14 @@ module _ (st : List ℕ) (kind byte n : ℕ) (h : Bytes st) (b : byte < 256) whe
   told = go (resized st n) (left st) kind
     where
       go : (k : Bool) (l : List Step) (m : ℕ) →
-          ((effect_of (cond k (fitsNext [] Done) (fitsNext l (replyOf m byte)))).number < 256) × ((effect_of (cond k (fitsNext [] Done) (fitsNext l (replyOf m byte)))).code < 256)
+          ((effectOf (cond k (fitsNext [] Done) (fitsNext l (replyOf m byte)))).number < 256) × ((effectOf (cond k (fitsNext [] Done) (fitsNext l (replyOf m byte)))).code < 256)
       go true l m = (omega arith, omega arith)
       go false [] m = (omega arith, omega arith)
-      go false (x ∷ xs) zero = choice (λ f. ((effect_of f).number < 256) × ((effect_of f).code < 256)) (eqb (wanted x) 0) _ _ (omega arith, omega arith) (omega arith, omega arith)
+      go false (x ∷ xs) zero = choice (λ f. ((effectOf f).number < 256) × ((effectOf f).code < 256)) (eqb (wanted x) 0) _ _ (omega arith, omega arith) (omega arith, omega arith)
       go false (Write r v ∷ xs) (suc zero) = (omega arith, omega arith)
       go false (Read r ∷ xs) (suc zero) = (omega arith, omega arith)
       go false (Update r s w v ∷ xs) (suc zero) = (omega arith, omega arith)
-      go false (Match r v ∷ xs) (suc zero) = choice (λ f. ((effect_of f).number < 256) × ((effect_of f).code < 256)) (eqb byte v) _ _ (omega arith, omega arith) (omega arith, omega arith)
+      go false (Match r v ∷ xs) (suc zero) = choice (λ f. ((effectOf f).number < 256) × ((effectOf f).code < 256)) (eqb byte v) _ _ (omega arith, omega arith) (omega arith, omega arith)
       go false (Chunk i m ∷ xs) (suc zero) = (omega arith, omega arith)
       go false (Store i ∷ xs) (suc zero) = (omega arith, omega arith)
       go false (x ∷ xs) (suc (suc m)) = (omega arith, b)
@@ -127,15 +127,15 @@ module _ (st : List ℕ) (kind byte n : ℕ) (h : Bytes st) (b : byte < 256) whe
   one-sent = choice (λ (es : List Exchange). length (es ++ []) ≤ 1) (taken st call.reply (length call.buffer)) (pendingOf st ∷ []) [] (omega arith) (omega arith)
 
   -- one more is counted where a step is left
-  more : countIn (after_call st call) < 256
+  more : countIn (afterCall st call) < 256
   more = go (left st) refl
     where
-      go : (l : List Step) → left st ≡ l → countIn (after_call st call) < 256
+      go : (l : List Step) → left st ≡ l → countIn (afterCall st call) < 256
       go [] e = omega (arith, session.count st (call ∷ []), session.within st (call ∷ []), ap length e, counted st h)
       go (x ∷ xs) e = omega (arith, session.count st (call ∷ []), one-sent, choice (λ (m : ℕ). m < 125) (isBegun st) (madeIn st) 0 (left-counts st x xs e).1 (omega arith))
 
   made : (reportOf st (replyOf kind byte) n).made < 256
-  unfolding reportOf after_call
+  unfolding reportOf afterCall
   made = let k = ap (λ (m : ℕ). countIn (stateAfter st (replyOf kind byte) m)) (length-replicate {A = ℕ} n 0) in omega (arith, k, more)
 
   bounded-report : ((reportOf st (replyOf kind byte) n).number < 256) × ((reportOf st (replyOf kind byte) n).code < 256) × ((reportOf st (replyOf kind byte) n).made < 256)
@@ -181,10 +181,10 @@ telling = record {
   ended = ended;
   reports = λ st kind byte n h b.
       let t = reportOf st (replyOf kind byte) n in
-      let k = bounded-report st kind byte n h b in four t.number t.code t.made (code_of t.ended) k.0 k.1 k.2;
+      let k = bounded-report st kind byte n h b in four t.number t.code t.made (codeOf t.ended) k.0 k.1 k.2;
   records = records;
   spared = spared;
-  results = λ st h. let k = bounded st h in wide (outcomeOf st).value (outcomeOf st).made (code_of (outcomeOf st).completed) k.0 k.1;
+  results = λ st h. let k = bounded st h in wide (outcomeOf st).value (outcomeOf st).made (codeOf (outcomeOf st).completed) k.0 k.1;
   replies = replies;
   full = upload-refused;
   uploads = uploads;

@@ -2,7 +2,7 @@
 -- The record that an answer writes is the changed one, and an upload is that of the bytes that were handed in.
 use Rattle.std.specs.Prelude.{ℕ, ◌-◌, ◌^◌, ◌/◌, ◌%◌, ◌≤◌, ◌<◌, ◌≡◌, Bool, ◌⊎◌, List, ◌++◌, eqb, length, take, replicate}
 use Rattle.laws.specs.Bytes.{Bytes}
-use Rattle.field.specs.Field.{code_of}
+use Rattle.field.specs.Field.{codeOf}
 use Rattle.memory.specs.Memory.{memory}
 use Rattle.exchange.specs.declared.Reply.TheVariants.{Done, Byte, Failed}
 use Rattle.exchange.specs.State.{left, noneLeft}
@@ -22,7 +22,7 @@ pub record Telling : Type 0 where
   pub ended : (st : List ℕ) → eqb (exchangeWord (pendingOf st)) 0 ≡ noneLeft (left st)
   -- da728x_answer
   pub reports : (st : List ℕ) (kind byte n : ℕ) → Bytes st → byte < 256 → let t = reportOf st (replyOf kind byte) n in let word = reportWord t in
-      (word % 256 ≡ t.number) × (word / 256 % 256 ≡ t.code) × (word / 65536 % 256 ≡ t.made) × (word / 2 ^ 24 ≡ code_of t.ended)
+      (word % 256 ≡ t.number) × (word / 256 % 256 ≡ t.code) × (word / 65536 % 256 ≡ t.made) × (word / 2 ^ 24 ≡ codeOf t.ended)
   -- what the bus answered: 0 done, 1 a byte, any other kind a failure with its code
   pub replies : (kind byte : ℕ) → (replyOf 0 byte ≡ Done) × (replyOf 1 byte ≡ Byte byte) × (2 ≤ kind → replyOf kind byte ≡ Failed byte)
   -- the record that it writes: 37 bytes then hold what the change makes of the record in them; other lengths stay, and one that is left keeps its bytes
@@ -30,7 +30,7 @@ pub record Telling : Type 0 where
   pub spared : (l : List ℕ) (c : Change) → (¬ (length l ≡ 37)) ⊎ (c ≡ Same) → recordOut l c ≡ l
   -- da728x_result
   pub results : (st : List ℕ) → Bytes st → let o = outcomeOf st in let word = resultWord o in
-      (word % 2 ^ 24 ≡ o.value) × (word / 2 ^ 24 % 256 ≡ o.made) × (word / 2 ^ 32 ≡ code_of o.completed)
+      (word % 2 ^ 24 ≡ o.value) × (word / 2 ^ 24 % 256 ≡ o.made) × (word / 2 ^ 32 ≡ codeOf o.completed)
   -- da728x_upload_waveform_memory: 8 for more than a hundred bytes; else the driver's upload of a memory that shows just these
   pub full : (r : DA728x) (image : List ℕ) (lockAfter : Bool) → 100 < length image → uploadOf r image lockAfter ≡ declines 8
   pub uploads : (r : DA728x) (image : List ℕ) (lockAfter : Bool) → length image ≤ 100 → let m = memory (image ++ replicate (100 - length image) 0) (length image) 0 0 in

@@ -1,7 +1,7 @@
 -- What the functions exported for C answer as one number, and how they take what the bus answered and the bytes to upload: document 01,
 -- "functions exported for C on numbers and byte slices"; "The count of exchanges made stands in every session result"; "8 also for `from_bytes`".
 use Rattle.std.specs.Prelude.{ℕ, ◌+◌, ◌-◌, ◌*◌, Bool, cond, List, [], ◌∷◌, ◌++◌, eqb, length, get_or, replicate}
-use Rattle.field.specs.Field.{code_of}
+use Rattle.field.specs.Field.{codeOf}
 use Rattle.memory.specs.Memory.{loaded}
 use Rattle.da728x.specs.declared.DA728x.{DA728x}
 use Rattle.da728x.specs.Record.{recordBytes}
@@ -24,7 +24,7 @@ replyOf kind byte = get_or (Done ∷ Byte byte ∷ []) kind (Failed byte)
 
 -- the number of the refusal, the bus's own code, the count, and whether the session has ended
 unfoldable pub reportWord : Report → ℕ
-reportWord t = t.number + 256 * t.code + 65536 * t.made + 16777216 * code_of t.ended
+reportWord t = t.number + 256 * t.code + 65536 * t.made + 16777216 * codeOf t.ended
 
 -- the caller's record afterwards: bytes of another length stay as they are
 abbrev pub recordOut : List ℕ → Change → List ℕ
@@ -33,7 +33,7 @@ recordOut l (To r) = cond (eqb (length l) 37) (recordBytes r) l
 
 -- what the operation answers, the count, and whether every exchange was made
 unfoldable pub resultWord : Outcome → ℕ
-resultWord o = o.value + 16777216 * o.made + 4294967296 * code_of o.completed
+resultWord o = o.value + 16777216 * o.made + 4294967296 * codeOf o.completed
 
 -- an upload of bytes: refused as `from_bytes` refuses them, with 8 for more than a hundred
 unfoldable pub uploadOf : DA728x → List ℕ → Bool → Start

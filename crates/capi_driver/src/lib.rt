@@ -9,8 +9,8 @@
 
 ghost use Rattle.std.specs.Prelude.{◌≡◌, ltb, length, take};
 ghost use Rattle.laws.specs.Copied.{copied};
-ghost use Rattle.field.specs.Field.{code_of};
-ghost use Rattle.config.specs.Codes.{variant_at};
+ghost use Rattle.field.specs.Field.{codeOf};
+ghost use Rattle.config.specs.Codes.{variantAt};
 ghost use Rattle.memory.specs.Timebase.{memoryTimebaseAt};
 ghost use Rattle.da728x.specs.Record.{recordAt, actuatorConfigAt, deviceConfigAt};
 ghost use Rattle.exchange.specs.Turn.{pendingOf, reportOf, turnReport, stateAfter, bufferAfter};
@@ -33,8 +33,8 @@ const BYTE: u8 = 1;
 
 #[unsafe(no_mangle)]
 pub extern "C" fn da728x_new(address: u8, variant: u8, session: &mut [u8]) -> u8
-    ensures value { result ≡ spec.startNumber (spec.new address (variant_at variant)).start }
-    ensures session_after { session.new ≡ spec.startedIn session.old (spec.new address (variant_at variant)).start }
+    ensures value { result ≡ spec.startNumber (spec.new address (variantAt variant)).start }
+    ensures session_after { session.new ≡ spec.startedIn session.old (spec.new address (variantAt variant)).start }
 {
     driver::new(address, Variant::from_code(variant), session).number()
 }
@@ -335,7 +335,7 @@ fn word(t: Turn) -> u32
 }
 
 fn flag(on: bool) -> u8
-    ensures { result ≡ code_of on }
+    ensures { result ≡ codeOf on }
 {
     on as u8
 }

@@ -17,10 +17,10 @@ failsAt k [] = false
 failsAt zero (c ∷ cs) = c.0
 failsAt (suc k) (c ∷ cs) = failsAt k cs
 
-abbrev pub number_at : ℕ → List Check → ℕ
-number_at k [] = 0
-number_at zero (c ∷ cs) = c.1
-number_at (suc k) (c ∷ cs) = number_at k cs
+abbrev pub numberAt : ℕ → List Check → ℕ
+numberAt k [] = 0
+numberAt zero (c ∷ cs) = c.1
+numberAt (suc k) (c ∷ cs) = numberAt k cs
 
 head-is : (n : ℕ) (b : Bool) (c : Check) (cs : List Check) → n ≡ firstFailing (c ∷ cs) → c.0 ≡ b → n ≡ cond b c.1 (firstFailing cs)
 head-is n b c cs p e = p ∙ ap (λ (f : Bool). cond f c.1 (firstFailing cs)) e
@@ -33,17 +33,17 @@ skip n zero (c ∷ cs) p e = head-is n false c cs p e
 skip n (suc k) (c ∷ cs) p e = skip n k cs p e
 
 -- check k fails: the answer is its number
-pub stop : (n k : ℕ) (l : List Check) → n ≡ firstFailing (drop k l) → failsAt k l ≡ true → number_at k l ≡ n
+pub stop : (n k : ℕ) (l : List Check) → n ≡ firstFailing (drop k l) → failsAt k l ≡ true → numberAt k l ≡ n
 stop n zero [] p e = sym p
 stop n (suc k) [] p e = sym p
 stop n zero (c ∷ cs) p e = sym (head-is n true c cs p e)
 stop n (suc k) (c ∷ cs) p e = stop n k cs p e
 
 -- one of two checks with the same number fails
-pub stop-either : (n k : ℕ) (l : List Check) → n ≡ firstFailing (drop k l) → number_at (suc k) l ≡ number_at k l → (failsAt k l || failsAt (suc k) l) ≡ true → number_at k l ≡ n
+pub stop-either : (n k : ℕ) (l : List Check) → n ≡ firstFailing (drop k l) → numberAt (suc k) l ≡ numberAt k l → (failsAt k l || failsAt (suc k) l) ≡ true → numberAt k l ≡ n
 stop-either n k l p same e = go (failsAt k l) refl e
   where
-    go : (b : Bool) → failsAt k l ≡ b → (b || failsAt (suc k) l) ≡ true → number_at k l ≡ n
+    go : (b : Bool) → failsAt k l ≡ b → (b || failsAt (suc k) l) ≡ true → numberAt k l ≡ n
     go true t o = stop n k l p t
     go false f o = sym same ∙ stop n (suc k) l (skip n k l p f) o
 

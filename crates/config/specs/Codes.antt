@@ -59,5 +59,5 @@ variantCode DA7280 = 0
 variantCode DA7281 = 1
 variantCode DA7282 = 2
 
-abbrev pub variant_at : ℕ → Variant
-variant_at code = get_or (DA7280 ∷ DA7281 ∷ []) code DA7282
+abbrev pub variantAt : ℕ → Variant
+variantAt code = get_or (DA7280 ∷ DA7281 ∷ []) code DA7282

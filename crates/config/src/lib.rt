@@ -5,7 +5,7 @@
 #![tactic(auto)]
 
 ghost use Rattle.std.specs.Prelude.{◌≡◌};
-ghost use Rattle.config.specs.Codes.{actuatorCode, triggerModeCode, polarityCode, operationCode, drivingCode, variantCode, actuatorAt, triggerModeAt, polarityAt, operationAt, drivingAt, variant_at};
+ghost use Rattle.config.specs.Codes.{actuatorCode, triggerModeCode, polarityCode, operationCode, drivingCode, variantCode, actuatorAt, triggerModeAt, polarityAt, operationAt, drivingAt, variantAt};
 
 #[derive(Clone, Copy)]
 pub struct ActuatorConfig {
@@ -214,7 +214,7 @@ impl Variant {
     }
 
     pub fn from_code(code: u8) -> Variant
-        ensures { result ≡ variant_at code }
+        ensures { result ≡ variantAt code }
     {
         match code {
             0 => Variant::DA7280,

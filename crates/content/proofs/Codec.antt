@@ -9,7 +9,7 @@ use Prim.Native.Nat.{ℕ, zero, suc, ◌≤◌}
 use native.Mathlib.Omega.{arith}
 use lib.ListN.{length}
 use Rattle.laws.specs.Bytes.{All}
-use Rattle.content.specs.ReadImage.{and_then, every}
+use Rattle.content.specs.ReadImage.{andThen, every}
 
 module _ {A : Type 0} where
   pub none-some : {X : Type 0} (a : A) → none ≡ some a → X
@@ -29,7 +29,7 @@ module _ {A : Type 0} where
   cons-eq p q = λ i. p i ∷ q i
 
 module _ {A B : Type 0} where
-  pub then_some : (m : Option A) (f : A → Option B) {b : B} → and_then m f ≡ some b → (a : A) × (m ≡ some a) × (f a ≡ some b)
+  pub then_some : (m : Option A) (f : A → Option B) {b : B} → andThen m f ≡ some b → (a : A) × (m ≡ some a) × (f a ≡ some b)
   then_some none f {b} e = none-some b e
   then_some (some a) f e = (a, refl, e)
 
@@ -61,7 +61,7 @@ module _ {A B : Type 0} (Fit : A → Type 0) (read : A → Option B) (write : B 
   every-sound [] [] h e = (tt, refl)
   every-sound [] (y ∷ ys) h e = let z : ◌≡◌ {A = ℕ} 0 1 = cc in absurd (omega arith)
   every-sound (x ∷ xs) ys h e =
-      let (y, p, e₁) = then_some (read x) (λ y. and_then (every read xs) (λ ys. some (y ∷ ys))) e in
+      let (y, p, e₁) = then_some (read x) (λ y. andThen (every read xs) (λ ys. some (y ∷ ys))) e in
       let (zs, q, e₂) = then_some (every read xs) (λ ys. some (y ∷ ys)) e₁ in
       let r : y ∷ zs ≡ ys = cc in
       let s = k.sound x y h.0 p in

@@ -14,9 +14,9 @@ use Rattle.laws.specs.Lists.{joined}
 use Rattle.frame.specs.declared.FrameBuilder.{FrameBuilder}
 use Rattle.frame.proofs.Canon.{canon}
 use Rattle.memory.specs.Image.{endPointers, imageSize, imageBytes}
-use Rattle.content.specs.Content.{Point, Content, pointBytes, framesBytes, image_of, Admitted, Same}
+use Rattle.content.specs.Content.{Point, Content, pointBytes, framesBytes, imageOf, Admitted, Same}
 use Rattle.content.proofs.Admits.{SnippetAdmitted, SequenceAdmitted}
-use Rattle.content.specs.ReadImage.{and_then, every, readSnippet, readSequence, Items, readItems, contentIn, readImage}
+use Rattle.content.specs.ReadImage.{andThen, every, readSnippet, readSequence, Items, readItems, contentIn, readImage}
 use Rattle.content.proofs.Codec.{Codec, every-codec, refuses, same, write-canon, good-canon, then_some, some_inj, map-id}
 use Rattle.content.proofs.Points.{snippet-codec, snippet-long}
 use Rattle.content.proofs.Sequences.{sequence-codec, sequence-long}
@@ -64,8 +64,8 @@ outer-bytes r g h =
 
 -- ---- the content of an image
 
-abbrev items_of : Content → Items
-items_of c = record { snippets = map pointBytes c.snippets; sequences = map framesBytes c.sequences }
+abbrev itemsOf : Content → Items
+itemsOf c = record { snippets = map pointBytes c.snippets; sequences = map framesBytes c.sequences }
 
 snippets-codec : Codec (All Bytes) (every readSnippet) (map pointBytes) (All SnippetAdmitted) (map (λ ps. ps))
 snippets-codec = every-codec Bytes readSnippet pointBytes SnippetAdmitted (λ ps. ps) snippet-codec
@@ -73,7 +73,7 @@ snippets-codec = every-codec Bytes readSnippet pointBytes SnippetAdmitted (λ ps
 sequences-codec : Codec (All Bytes) (every readSequence) (map framesBytes) (All SequenceAdmitted) (map (map canon))
 sequences-codec = every-codec Bytes readSequence framesBytes SequenceAdmitted (map canon) sequence-codec
 
-items-good : (c : Content) → Admitted c → Good (items_of c)
+items-good : (c : Content) → Admitted c → Good (itemsOf c)
 items-good c a =
     let ns = length-map c.snippets pointBytes in
     let nq = length-map c.sequences framesBytes in
@@ -90,12 +90,12 @@ items-good c a =
 
 whole : (l : List ℕ) (r : Items) (s : List (List Point)) (q : List (List FrameBuilder)) → Good r → written r ≡ l
     → All SnippetAdmitted s × (map pointBytes s ≡ r.snippets) → All SequenceAdmitted q × (map framesBytes q ≡ r.sequences)
-    → Admitted (record { snippets = s; sequences = q }) × (image_of (record { snippets = s; sequences = q }) ≡ l)
-unfolding image_of
+    → Admitted (record { snippets = s; sequences = q }) × (imageOf (record { snippets = s; sequences = q }) ≡ l)
+unfolding imageOf
 whole l r s q g w gs gq =
     let c : Content = record { snippets = s; sequences = q } in
-    let p : r ≡ items_of c = λ i. record { snippets = sym gs.1 i; sequences = sym gq.1 i } in
-    let h : Good (items_of c) = subst Good p g in
+    let p : r ≡ itemsOf c = λ i. record { snippets = sym gs.1 i; sequences = sym gq.1 i } in
+    let h : Good (itemsOf c) = subst Good p g in
     let ns = length-map s pointBytes in
     let nq = length-map q framesBytes in (
       record {
@@ -106,7 +106,7 @@ whole l r s q g w gs gq =
       ap written (sym p) ∙ w,
     )
 
-image-sound : (l : List ℕ) (c : Content) → Bytes l → readImage l ≡ some c → Admitted c × (image_of c ≡ l)
+image-sound : (l : List ℕ) (c : Content) → Bytes l → readImage l ≡ some c → Admitted c × (imageOf c ≡ l)
 unfolding readImage
 image-sound l c h e =
     let (r, e₁, e₂) = then_some (readItems l) contentIn e in
@@ -116,43 +116,43 @@ image-sound l c h e =
     let b = inner-bytes r (subst Bytes (sym g.1) h) in
     let gs = snippets-codec.sound r.snippets s (all_left Bytes r.snippets r.sequences b) e₃ in
     let gq = sequences-codec.sound r.sequences q (all_right Bytes r.snippets r.sequences b) e₅ in
-    subst (λ (x : Content). Admitted x × (image_of x ≡ l)) (some_inj e₆) (whole l r s q g.0 g.1 gs gq)
+    subst (λ (x : Content). Admitted x × (imageOf x ≡ l)) (some_inj e₆) (whole l r s q g.0 g.1 gs gq)
 
-image-complete : (c : Content) → Admitted c → readImage (image_of c) ≡ some (canonical c)
-unfolding readImage image_of canonical
+image-complete : (c : Content) → Admitted c → readImage (imageOf c) ≡ some (canonical c)
+unfolding readImage imageOf canonical
 image-complete c a =
     rw (
-      items-complete (items_of c) (items-good c a),
+      items-complete (itemsOf c) (items-good c a),
       snippets-codec.complete c.snippets a.snippets.each,
       sequences-codec.complete c.sequences a.sequences.each,
       map-id c.snippets,
     )
 
-pub image-bytes : (c : Content) → Admitted c → Bytes (image_of c)
-unfolding image_of
+pub image-bytes : (c : Content) → Admitted c → Bytes (imageOf c)
+unfolding imageOf
 image-bytes c a =
-    outer-bytes (items_of c) (items-good c a)
+    outer-bytes (itemsOf c) (items-good c a)
     (all_append Bytes (map pointBytes c.snippets) (map framesBytes c.sequences) (snippets-codec.fit c.snippets a.snippets.each) (sequences-codec.fit c.sequences a.sequences.each))
 
-pub image-codec : Codec Bytes readImage image_of Admitted canonical
+pub image-codec : Codec Bytes readImage imageOf Admitted canonical
 image-codec = record { sound = image-sound; complete = image-complete; fit = image-bytes }
 
-pub image-length : (c : Content) → Admitted c → length (image_of c) ≡ 100
-unfolding image_of
-image-length c a = hundred (items_of c) (items-good c a)
+pub image-length : (c : Content) → Admitted c → length (imageOf c) ≡ 100
+unfolding imageOf
+image-length c a = hundred (itemsOf c) (items-good c a)
 
 -- "equal exactly when they have equally many snippets ..": demand 3's first sentence, for admitted contents
-pub same-image : (c d : Content) → Admitted c → Admitted d → (image_of c ≡ image_of d) ↔ Same c d
+pub same-image : (c d : Content) → Admitted c → Admitted d → (imageOf c ≡ imageOf d) ↔ Same c d
 same-image c d a b =
-    let s = same Bytes readImage image_of Admitted canonical image-codec c d a b in
+    let s = same Bytes readImage imageOf Admitted canonical image-codec c d a b in
     (λ e. canonical-same c d (s.0 e), λ x. s.1 (same-canonical c d x))
 
 -- "refuses exactly when there are no such lists"
-pub refuses-image : (l : List ℕ) → Bytes l → (readImage l ≡ none) ↔ ¬ ((c : Content) × (Admitted c × (image_of c ≡ l)))
-refuses-image = refuses Bytes readImage image_of Admitted canonical image-codec
+pub refuses-image : (l : List ℕ) → Bytes l → (readImage l ≡ none) ↔ ¬ ((c : Content) × (Admitted c × (imageOf c ≡ l)))
+refuses-image = refuses Bytes readImage imageOf Admitted canonical image-codec
 
 -- an admitted content is the same as what its image is read back to
 pub read_same : (c : Content) → Admitted c → Same c (canonical c)
 read_same c a =
-    (same-image c (canonical c) a (good-canon Bytes readImage image_of Admitted canonical image-codec c a)).0
-    (sym (write-canon Bytes readImage image_of Admitted canonical image-codec c a))
+    (same-image c (canonical c) a (good-canon Bytes readImage imageOf Admitted canonical image-codec c a)).0
+    (sym (write-canon Bytes readImage imageOf Admitted canonical image-codec c a))

@@ -13,7 +13,7 @@ use lib.Seq.{take_at, drop_at, length-take-le}
 use Rattle.laws.specs.Bytes.{All}
 use Rattle.laws.specs.Lists.{joined}
 use Rattle.memory.specs.Image.{endPointers, imageSize, imageBytes}
-use Rattle.content.specs.ReadImage.{and_then, Cut, cut, allZero, Items, countsFit, itemsFrom, readItems}
+use Rattle.content.specs.ReadImage.{andThen, Cut, cut, allZero, Items, countsFit, itemsFrom, readItems}
 use Rattle.content.proofs.Codec.{cond-some, cond-on, some_inj, none-some, then_some, cons-eq}
 
 abbrev pub NotEmpty : List ℕ → Type 0
@@ -153,7 +153,7 @@ items-complete r g =
     let n : length xs ≡ s + q = length-append r.snippets r.sequences in
     let m : length (endPointers (1 + s + q) xs) ≡ s + q = length-pointers (1 + s + q) xs ∙ n in
     let a = append_assoc (endPointers (1 + s + q) xs) (joined xs) tail in
-    let z : and_then (cut (1 + s + q) (take (s + q) (endPointers (1 + s + q) xs ++ joined xs ++ tail)) (drop (s + q) (endPointers (1 + s + q) xs ++ joined xs ++ tail))) (itemsFrom s) ≡ some r =
+    let z : andThen (cut (1 + s + q) (take (s + q) (endPointers (1 + s + q) xs ++ joined xs ++ tail)) (drop (s + q) (endPointers (1 + s + q) xs ++ joined xs ++ tail))) (itemsFrom s) ≡ some r =
     rw (a, take_at (endPointers (1 + s + q) xs) (joined xs ++ tail) (s + q) m, drop_at (endPointers (1 + s + q) xs) (joined xs ++ tail) (s + q) m, cut-complete (1 + s + q) xs tail g.full)
     (cond-on _ _ (zero-complete (100 - (2 + s + q + length (joined xs))))
     ∙ rw (take_at r.snippets r.sequences s refl, drop_at r.snippets r.sequences s refl)) in

@@ -12,7 +12,7 @@ use lib.ListN.{length, length-map}
 use Rattle.laws.specs.Bytes.{All, Bytes}
 use Rattle.snippet.specs.Point.{pointByte, PointAdmitted}
 use Rattle.snippet.proofs.Points.{ramp-back, timebases-back, amplitude-back, byte-back, byte-admitted}
-use Rattle.content.specs.Content.{Point, byte_of, pointBytes}
+use Rattle.content.specs.Content.{Point, byteOf, pointBytes}
 use Rattle.content.specs.ReadImage.{pointIn, readSnippet}
 use Rattle.content.proofs.Admits.{SnippetAdmitted, pointsIn}
 use Rattle.content.proofs.Codec.{Codec, cond-some, cond-on, some_inj, cons-eq}
@@ -33,7 +33,7 @@ pub points-there : (bs : List ℕ) → Bytes bs → pointBytes (pointsIn bs) ≡
 points-there [] h = refl
 points-there (b ∷ bs) h = cons-eq (byte-back b h.0) (points-there bs h.1)
 
-point-back : (p : Point) → Good p → pointIn (byte_of p) ≡ p
+point-back : (p : Point) → Good p → pointIn (byteOf p) ≡ p
 point-back p g =
     let r = ramp-back p.timebases p.amplitude g p.ramp in
     let t = timebases-back p.timebases p.amplitude g p.ramp in
@@ -66,7 +66,7 @@ snippet-sound bs ps h e =
 snippet-complete : (ps : List Point) → SnippetAdmitted ps → readSnippet (pointBytes ps) ≡ some ps
 unfolding readSnippet
 snippet-complete ps g =
-    let n = length-map ps byte_of in
+    let n = length-map ps byteOf in
     cond-on _ _ ((and-eq-true_iff _ _).1 (le-leb 1 (length (pointBytes ps)) (omega (arith, g.nonempty)), le-leb (length (pointBytes ps)) 16 (omega (arith, g.few))))
     ∙ ap some (points-back ps g.each)
 
@@ -74,4 +74,4 @@ pub snippet-codec : Codec Bytes readSnippet pointBytes SnippetAdmitted (λ ps. p
 snippet-codec = record { sound = snippet-sound; complete = snippet-complete; fit = λ ps g. points-bytes ps g.each }
 
 pub snippet-long : (ps : List Point) → SnippetAdmitted ps → 1 ≤ length (pointBytes ps)
-snippet-long ps g = omega (arith, length-map ps byte_of, g.nonempty)
+snippet-long ps g = omega (arith, length-map ps byteOf, g.nonempty)

@@ -13,7 +13,7 @@ use Rattle.laws.proofs.Lists.{all_append, all_right}
 use Rattle.laws.specs.Bytes.{All, Bytes}
 use Rattle.frame.specs.declared.FrameBuilder.{FrameBuilder}
 use Rattle.frame.specs.Agreement.{FrameAdmitted}
-use Rattle.frame.specs.Frame.{bytes_of}
+use Rattle.frame.specs.Frame.{bytesOf}
 use Rattle.frame.specs.Read.{Parsed, readFrame}
 use Rattle.frame.proofs.Canon.{canon}
 use Rattle.frame.proofs.Reading.{first_small, Starts, complete}
@@ -21,7 +21,7 @@ use Rattle.frame.proofs.Written.{sound}
 use Rattle.frame.proofs.Frames.{frame-bytes}
 use Rattle.content.specs.Content.{framesBytes}
 use Rattle.content.proofs.Admits.{SequenceAdmitted}
-use Rattle.content.specs.ReadImage.{and_then, readFrames, readSequence}
+use Rattle.content.specs.ReadImage.{andThen, readFrames, readSequence}
 use Rattle.content.proofs.Codec.{Codec, cond-some, cond-on, some_inj, none-some, then_some}
 
 frames-sound : (k : ℕ) (bs : List ℕ) (fs : List FrameBuilder) → Bytes bs → readFrames k bs ≡ some fs
@@ -33,15 +33,15 @@ frames-sound (suc k) (b ∷ bs) fs h e =
     let (p, e₁, e₂) = then_some (readFrame (b ∷ bs)) _ e in
     let (gs, e₃, e₄) = then_some (readFrames k p.rest) _ e₂ in
     let s = sound (b ∷ bs) p h e₁ in
-    let t = frames-sound k p.rest gs (all_right (λ b. b < 256) (bytes_of p.frame) p.rest (subst Bytes (sym s.1) h)) e₃ in
-    rw (← some_inj e₄) (suc-le-suc t.0, (s.0, t.1), ap (λ (l : List ℕ). bytes_of p.frame ++ l) t.2 ∙ s.1)
+    let t = frames-sound k p.rest gs (all_right (λ b. b < 256) (bytesOf p.frame) p.rest (subst Bytes (sym s.1) h)) e₃ in
+    rw (← some_inj e₄) (suc-le-suc t.0, (s.0, t.1), ap (λ (l : List ℕ). bytesOf p.frame ++ l) t.2 ∙ s.1)
 
 frames-start : (fs : List FrameBuilder) → Starts (framesBytes fs)
 frames-start [] = tt
 frames-start (f ∷ fs) = first_small f
 
-frames-step : (k : ℕ) (f : FrameBuilder) (r : List ℕ) (p : Parsed) → readFrame (bytes_of f ++ r) ≡ some p
-    → readFrames (suc k) (bytes_of f ++ r) ≡ and_then (readFrames k p.rest) (λ fs. some (p.frame ∷ fs))
+frames-step : (k : ℕ) (f : FrameBuilder) (r : List ℕ) (p : Parsed) → readFrame (bytesOf f ++ r) ≡ some p
+    → readFrames (suc k) (bytesOf f ++ r) ≡ andThen (readFrames k p.rest) (λ fs. some (p.frame ∷ fs))
 frames-step k f r p e = rw e
 
 frames-complete : (k : ℕ) (fs : List FrameBuilder) → length fs ≤ k → All FrameAdmitted fs → readFrames k (framesBytes fs) ≡ some (map canon fs)
@@ -54,7 +54,7 @@ frames-complete (suc k) (f ∷ fs) h g =
 
 frames-fit : (fs : List FrameBuilder) → Bytes (framesBytes fs)
 frames-fit [] = tt
-frames-fit (f ∷ fs) = all_append (λ b. b < 256) (bytes_of f) (framesBytes fs) (frame-bytes f) (frames-fit fs)
+frames-fit (f ∷ fs) = all_append (λ b. b < 256) (bytesOf f) (framesBytes fs) (frame-bytes f) (frames-fit fs)
 
 -- a sequence has frames exactly where it has bytes
 pub long : (fs : List FrameBuilder) → 1 ≤ length fs → 1 ≤ length (framesBytes fs)

@@ -13,13 +13,13 @@ onOption none absent given = absent
 onOption (some a) absent given = given a
 
 -- what follows where the first is there
-abbrev pub and_then : {A B : Type 0} → Option A → (A → Option B) → Option B
-and_then o f = onOption o none f
+abbrev pub andThen : {A B : Type 0} → Option A → (A → Option B) → Option B
+andThen o f = onOption o none f
 
 -- each of a list, if every one is there
 abbrev pub every : {A B : Type 0} → (A → Option B) → List A → Option (List B)
 every f [] = some []
-every f (x ∷ xs) = and_then (f x) (λ y. and_then (every f xs) (λ ys. some (y ∷ ys)))
+every f (x ∷ xs) = andThen (f x) (λ y. andThen (every f xs) (λ ys. some (y ∷ ys)))
 
 -- ---- an item's bytes
 
@@ -35,7 +35,7 @@ abbrev pub readFrames : ℕ → List ℕ → Option (List FrameBuilder)
 readFrames zero [] = some []
 readFrames zero (b ∷ bs) = none
 readFrames (suc k) [] = some []
-readFrames (suc k) (b ∷ bs) = and_then (readFrame (b ∷ bs)) (λ p. and_then (readFrames k p.rest) (λ fs. some (p.frame ∷ fs)))
+readFrames (suc k) (b ∷ bs) = andThen (readFrame (b ∷ bs)) (λ p. andThen (readFrames k p.rest) (λ fs. some (p.frame ∷ fs)))
 
 -- 1 to 32 frames
 unfoldable pub readSequence : List ℕ → Option (List FrameBuilder)
@@ -52,7 +52,7 @@ abbrev pub cut : ℕ → List ℕ → List ℕ → Option Cut
 cut before [] l = some (record { items = []; left = l })
 cut before (e ∷ es) l =
     cond (ltb before e && leb (e - before) (length l))
-    (and_then (cut e es (drop (e - before) l)) (λ c. some (record { items = take (e - before) l ∷ c.items; left = c.left }))) none
+    (andThen (cut e es (drop (e - before) l)) (λ c. some (record { items = take (e - before) l ∷ c.items; left = c.left }))) none
 
 abbrev pub allZero : List ℕ → Bool
 allZero [] = true
@@ -73,13 +73,13 @@ unfoldable pub readItems : List ℕ → Option Items
 readItems [] = none
 readItems (s ∷ []) = none
 readItems (s ∷ q ∷ l) =
-    cond (eqb (length l) 98 && countsFit s q) (and_then (cut (1 + s + q) (take (s + q) l) (drop (s + q) l)) (itemsFrom s)) none
+    cond (eqb (length l) 98 && countsFit s q) (andThen (cut (1 + s + q) (take (s + q) l) (drop (s + q) l)) (itemsFrom s)) none
 
 -- ---- the whole
 
 abbrev pub contentIn : Items → Option Content
 contentIn r =
-    and_then (every readSnippet r.snippets) (λ s. and_then (every readSequence r.sequences) (λ q. some (record { snippets = s; sequences = q })))
+    andThen (every readSnippet r.snippets) (λ s. andThen (every readSequence r.sequences) (λ q. some (record { snippets = s; sequences = q })))
 
 unfoldable pub readImage : List ℕ → Option Content
-readImage l = and_then (readItems l) contentIn
+readImage l = andThen (readItems l) contentIn

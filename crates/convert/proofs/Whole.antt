@@ -9,7 +9,7 @@ use lib.Dec.{leb, ltb}
 use lib.ListN.{get_or}
 use borrow.Author.Tests.{ltb-true, le-ltb}
 use Rattle.convert.specs.Convert.{voltageByte, imaxCode, v2iWord, periodWord, highPart}
-use Rattle.convert.specs.Trim.{TrimRow, up_to, trimRows, row_at, capCode, column, resistanceCode}
+use Rattle.convert.specs.Trim.{TrimRow, upTo, trimRows, rowAt, capCode, column, resistanceCode}
 use Rattle.convert.proofs.Sizes.{scaled, period-bits}
 
 pub period-is : (hz : ℕ) → 25 ≤ hz → periodWord hz ≡ 100000000000 / (133332 * hz)
@@ -32,21 +32,21 @@ low [] = true
 low (x ∷ xs) = ltb x 4 && low xs
 
 abbrev lowRows : List TrimRow → Bool
-lowRows [] = low (row_at 0 [])
-lowRows (up_to n codes ∷ rs) = low codes && lowRows rs
+lowRows [] = low (rowAt 0 [])
+lowRows (upTo n codes ∷ rs) = low codes && lowRows rs
 
 code_below : (xs : List ℕ) (i : ℕ) → So (low xs) → get_or xs i 0 < 4
 code_below [] i t = omega arith
 code_below (x ∷ xs) zero t = ltb-true x 4 ((and-eq-true_iff (ltb x 4) (low xs)).0 t).0
 code_below (x ∷ xs) (suc i) t = code_below xs i ((and-eq-true_iff (ltb x 4) (low xs)).0 t).1
 
-row_low : (rs : List TrimRow) (ohms : ℕ) → So (lowRows rs) → So (low (row_at ohms rs))
+row_low : (rs : List TrimRow) (ohms : ℕ) → So (lowRows rs) → So (low (rowAt ohms rs))
 row_low [] ohms t = t
-row_low (up_to n codes ∷ rs) ohms t =
+row_low (upTo n codes ∷ rs) ohms t =
     let both = (and-eq-true_iff (low codes) (lowRows rs)).0 t in
     go (leb ohms n) both.0 (row_low rs ohms both.1)
   where
-    go : (b : Bool) → So (low codes) → So (low (row_at ohms rs)) → So (low (cond b codes (row_at ohms rs)))
+    go : (b : Bool) → So (low codes) → So (low (rowAt ohms rs)) → So (low (cond b codes (rowAt ohms rs)))
     go true h k = h
     go false h k = k
 
@@ -69,4 +69,4 @@ cap-bits uH =
     cond_below (leb uH 17) _ _ (omega arith) (cond_below (leb uH 27) _ _ (omega arith) (cond_below (leb uH 40) _ _ (omega arith) (omega arith)))
 
 pub resistance-bits : (mOhm uH : ℕ) → resistanceCode mOhm uH < 4
-resistance-bits mOhm uH = code_below (row_at (mOhm / 1000) trimRows) (column uH) (row_low trimRows (mOhm / 1000) refl)
+resistance-bits mOhm uH = code_below (rowAt (mOhm / 1000) trimRows) (column uH) (row_low trimRows (mOhm / 1000) refl)

@@ -7,7 +7,7 @@ use native.Mathlib.Omega.{arith}
 use lib.Dec.{ltb}
 use lib.ListN.{length, get_or}
 use borrow.Author.Tests.{eq-eqb}
-use Rattle.field.specs.Field.{code_of}
+use Rattle.field.specs.Field.{codeOf}
 use Rattle.config.specs.declared.ActuatorConfig.{ActuatorConfig}
 use Rattle.config.specs.declared.DeviceConfig.{DeviceConfig}
 use Rattle.config.specs.declared.Pid.{Pid}
@@ -26,7 +26,7 @@ use Rattle.config.specs.declared.DrivingMode.{DrivingMode}
 use Rattle.config.specs.declared.DrivingMode.TheVariants.{FREQUENCY_TRACK, WIDEBAND, CUSTOM_WAVEFORM}
 use Rattle.config.specs.declared.Variant.{Variant}
 use Rattle.config.specs.declared.Variant.TheVariants.{DA7280, DA7281, DA7282}
-use Rattle.config.specs.Codes.{actuatorCode, actuatorAt, operationCode, operationAt, drivingCode, drivingAt, polarityCode, polarityAt, triggerModeCode, triggerModeAt, variantCode, variant_at}
+use Rattle.config.specs.Codes.{actuatorCode, actuatorAt, operationCode, operationAt, drivingCode, drivingAt, polarityCode, polarityAt, triggerModeCode, triggerModeAt, variantCode, variantAt}
 use Rattle.da728x.specs.declared.DA728x.{DA728x}
 use Rattle.da728x.specs.declared.Settings.{Settings}
 use Rattle.da728x.specs.declared.Settings.TheVariants.{Absent, Given}
@@ -59,12 +59,12 @@ driving-kept FREQUENCY_TRACK = refl
 driving-kept WIDEBAND = refl
 driving-kept CUSTOM_WAVEFORM = refl
 
-pub variant-kept : (v : Variant) → variant_at (variantCode v) ≡ v
+pub variant-kept : (v : Variant) → variantAt (variantCode v) ≡ v
 variant-kept DA7280 = refl
 variant-kept DA7281 = refl
 variant-kept DA7282 = refl
 
-flag-kept : (b : Bool) → ltb 0 (code_of b) ≡ b
+flag-kept : (b : Bool) → ltb 0 (codeOf b) ≡ b
 flag-kept true = refl
 flag-kept false = refl
 
@@ -128,7 +128,7 @@ actuator-config-kept a r =
 
 device-kept : (d : DeviceConfig) → deviceConfigAt (deviceBytes d) 0 ≡ d
 device-kept d =
-    let flags = code_of d.acceleration ∷ code_of d.rapid_stop ∷ [] in
+    let flags = codeOf d.acceleration ∷ codeOf d.rapid_stop ∷ [] in
     let third = triggerBytes d.gpi_trigger_2 ++ flags in
     let second = triggerBytes d.gpi_trigger_1 ++ third in
     let flag : (i : ℕ) → get_or (triggerBytes d.gpi_trigger_0 ++ second) (later (later (later i))) 0 ≡ get_or flags i 0 =

@@ -8,7 +8,7 @@
 --   a trigger: given, sequence number, polarity, mode
 use Rattle.std.specs.Prelude.{ℕ, ◌+◌, ◌*◌, ◌/◌, ◌%◌, cond, List, [], ◌∷◌, ◌++◌, ltb, eqb, length, replicate}
 use Rattle.laws.specs.Lists.{at}
-use Rattle.field.specs.Field.{code_of}
+use Rattle.field.specs.Field.{codeOf}
 use Rattle.config.specs.declared.ActuatorConfig.{ActuatorConfig}
 use Rattle.config.specs.declared.DeviceConfig.{DeviceConfig}
 use Rattle.config.specs.declared.TriggerConfig.{TriggerConfig}
@@ -17,7 +17,7 @@ use Rattle.config.specs.declared.Pid.TheVariants as pid
 use Rattle.config.specs.declared.Trigger.{Trigger}
 use Rattle.config.specs.declared.Trigger.TheVariants as trigger
 use Rattle.config.specs.declared.Variant.TheVariants.{DA7280}
-use Rattle.config.specs.Codes.{actuatorCode, actuatorAt, operationCode, operationAt, drivingCode, drivingAt, polarityCode, polarityAt, triggerModeCode, triggerModeAt, variantCode, variant_at}
+use Rattle.config.specs.Codes.{actuatorCode, actuatorAt, operationCode, operationAt, drivingCode, drivingAt, polarityCode, polarityAt, triggerModeCode, triggerModeAt, variantCode, variantAt}
 use Rattle.da728x.specs.declared.DA728x.{DA728x}
 use Rattle.da728x.specs.declared.Settings.{Settings}
 use Rattle.da728x.specs.declared.Settings.TheVariants.{Absent, Given}
@@ -43,7 +43,7 @@ actuatorBytes a =
 abbrev pub deviceBytes : DeviceConfig → List ℕ
 deviceBytes d =
     operationCode d.operation_mode ∷ drivingCode d.driving_mode ∷ (triggerBytes d.gpi_trigger_0
-    ++ (triggerBytes d.gpi_trigger_1 ++ (triggerBytes d.gpi_trigger_2 ++ (code_of d.acceleration ∷ code_of d.rapid_stop ∷ []))))
+    ++ (triggerBytes d.gpi_trigger_1 ++ (triggerBytes d.gpi_trigger_2 ++ (codeOf d.acceleration ∷ codeOf d.rapid_stop ∷ []))))
 
 abbrev pub settingsBytes : Settings → List ℕ
 settingsBytes Absent = 1 ∷ replicate 34 0
@@ -96,7 +96,7 @@ settingsAt l = cond (ltb 1 (at l 2)) (Given (actuatorConfigAt l 3) (deviceConfig
 
 unfoldable pub recordAt : List ℕ → DA728x
 recordAt l =
-    cond (eqb (length l) 37) (record { address = at l 0; variant = variant_at (at l 1); settings = settingsAt l })
+    cond (eqb (length l) 37) (record { address = at l 0; variant = variantAt (at l 1); settings = settingsAt l })
     (record { address = 0; variant = DA7280; settings = Absent })
 
 -- its chip alone: address and variant

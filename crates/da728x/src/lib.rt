@@ -28,6 +28,7 @@ pub struct DA728x {
 }
 
 impl DA728x {
+    #[tactic(auto, unfolding(crate::specs::Record::recordBytes))]
     pub fn to_bytes(self) -> [u8; RECORD_SIZE]
         ensures { result ≡ recordBytes self }
     {
@@ -39,6 +40,7 @@ impl DA728x {
         }
     }
 
+    #[tactic(auto, unfolding(crate::specs::Record::recordAt))]
     pub fn from_bytes(bytes: &[u8]) -> DA728x
         ensures { result ≡ recordAt bytes.now }
     {
@@ -58,6 +60,7 @@ impl DA728x {
 }
 
 // The chip of a record's bytes, for what looks at no settings.
+#[tactic(auto, unfolding(crate::specs::Record::recordAt))]
 pub fn chip(bytes: &[u8]) -> DA728x
     ensures { result ≡ chipAt bytes.now }
 {

@@ -12,7 +12,7 @@ use Rattle.config.specs.declared.OperationMode.TheVariants.{INACTIVE}
 use Rattle.checks.specs.Checks.{firstFailing, configureNumber, outsideBand}
 use Rattle.exchange.specs.declared.Step.{Step}
 use Rattle.exchange.specs.declared.Step.TheVariants.{Write, Read}
-use Rattle.registers.specs.Table.{address_of}
+use Rattle.registers.specs.Table.{addressOf}
 use Rattle.exchange.specs.State.{isSession, Begun, begunIn}
 use Rattle.exchange.specs.Session.{exchangesOf}
 use Rattle.plans.specs.Configure.{configureSteps, frequencySteps}
@@ -30,7 +30,7 @@ use Rattle.driver.specs.Operations as operation
 use Rattle.outcome.specs.Outcome.{bigEndian, changeFor}
 use Rattle.driver.specs.Operations.{Start, declines, begins, startedIn, unless, withSettings, runs, Operation, overrideChecks, numberChecks}
 use Rattle.driver.specs.Theorems.{Others, Each, Course, Answers, allSteps}
-use Rattle.driver.proofs.Begun.{Fits, Holds, holds, no-image, no_record, value_of, answered, counted, within, all_made}
+use Rattle.driver.proofs.Begun.{Fits, Holds, holds, no-image, no_record, valueOf, answered, counted, within, all_made}
 use Rattle.exchange.proofs.Latest.{bytesWanted}
 use Rattle.driver.proofs.Mismatch.{AllPlain, all_plain, frequency-plain, configure-plain, send-plain, never}
 use Rattle.driver.proofs.Starts.{configured}
@@ -55,7 +55,7 @@ by-settings Q (Given a d) f q = q a d
 -- its session answers as its result says
 abbrev Gives : (List ℕ → ℕ) → Begun → List Step → Type 0
 Gives result b xs = (bytes : List ℕ) → length bytes ≡ bytesWanted (exchangesOf b.address 0 b.image (allSteps b xs) bytes) →
-    value_of b.purpose bytes (min b.reads 100) ≡ result bytes
+    valueOf b.purpose bytes (min b.reads 100) ≡ result bytes
 
 abbrev Sound : ℕ → (List ℕ → ℕ) → Begun → List Step → Type 0
 Sound address result b xs = Fits b xs × Gives result b xs × (b.address ≡ address)
@@ -85,12 +85,12 @@ one_byte : (r : DA728x) (xs : List Step) → length xs ≤ 25 → AllPlain xs �
     By (Quiet r.address (bigEndian 0)) (begins (blank 3 r.address) xs)
 one_byte r xs h p w = ((h, omega arith, no-image, no_record), λ bytes e. go bytes (w bytes e), refl, λ next s. refl, p)
   where
-    go : (bytes : List ℕ) → length bytes ≡ 1 → value_of 3 bytes (min 0 100) ≡ bigEndian 0 bytes
+    go : (bytes : List ℕ) → length bytes ≡ 1 → valueOf 3 bytes (min 0 100) ≡ bigEndian 0 bytes
     go [] e = absurd (omega (arith, e))
     go (b ∷ []) e = omega arith
     go (b ∷ c ∷ bytes) e = absurd (omega (arith, e))
 
-three-bytes : (bytes : List ℕ) → length bytes ≡ 3 → value_of 4 bytes (min 0 100) ≡ bigEndian 0 bytes
+three-bytes : (bytes : List ℕ) → length bytes ≡ 3 → valueOf 4 bytes (min 0 100) ≡ bigEndian 0 bytes
 three-bytes [] e = absurd (omega (arith, e))
 three-bytes (a ∷ []) e = absurd (omega (arith, e))
 three-bytes (a ∷ b ∷ []) e = absurd (omega (arith, e))
@@ -99,17 +99,17 @@ three-bytes (a ∷ b ∷ c ∷ d ∷ bytes) e = absurd (omega (arith, e))
 
 pub quiet : Others QuietOperation
 quiet = record {
-  get-chip-rev = λ r. one_byte r (Read (address_of "CHIP_REV") ∷ []) (omega arith) (tt, tt) (λ bytes e. e);
+  get-chip-rev = λ r. one_byte r (Read (addressOf "CHIP_REV") ∷ []) (omega arith) (tt, tt) (λ bytes e. e);
   get-events = λ r. ((omega arith, omega arith, no-image, no_record), λ bytes e. three-bytes bytes e, refl, λ next s. refl, (tt, (tt, (tt, (tt, tt)))));
-  get-status = λ r. one_byte r (Read (address_of "IRQ_STATUS1") ∷ []) (omega arith) (tt, tt) (λ bytes e. e);
+  get-status = λ r. one_byte r (Read (addressOf "IRQ_STATUS1") ∷ []) (omega arith) (tt, tt) (λ bytes e. e);
   set-frequency = λ r hz. by-settings _ r.settings _ (λ a d.
       by-unless _ (firstFailing ((outsideBand d.driving_mode hz, 23) ∷ [])) _
       (quiet-runs r (frequencySteps hz) (omega (arith, frequency hz)) (frequency-plain hz)));
   set-override-value = λ r value. by-settings _ r.settings _ (λ a d.
-      by-unless _ (firstFailing (overrideChecks d value)) _ (quiet-runs r (Write (address_of "TOP_CTL2") (overrideByte value) ∷ []) (omega arith) (tt, tt)));
+      by-unless _ (firstFailing (overrideChecks d value)) _ (quiet-runs r (Write (addressOf "TOP_CTL2") (overrideByte value) ∷ []) (omega arith) (tt, tt)));
   set-timebase = λ r timebase.
       quiet-runs r (updated "SEQ_CTL1" (put "FREQ_WAVEFORM_TIMEBASE" (timebaseBit timebase))) (omega arith) (tt, (tt, tt));
-  enable = λ r. by-settings _ r.settings _ (λ a d. quiet-runs r (Write (address_of "TOP_CTL1") (enabled d.operation_mode) ∷ []) (omega arith) (tt, tt));
+  enable = λ r. by-settings _ r.settings _ (λ a d. quiet-runs r (Write (addressOf "TOP_CTL1") (enabled d.operation_mode) ∷ []) (omega arith) (tt, tt));
   disable = λ r. by-settings _ r.settings _ (λ a d.
       quiet-runs r (updated "TOP_CTL1" (put "OPERATION_MODE" (operationCode INACTIVE))) (omega arith) (tt, (tt, tt)));
   set-custom-drive-waveform = λ r. by-settings _ r.settings _ (λ a d. tt);

@@ -119,8 +119,8 @@ length-exchanges (x ∷ xs) address last image bytes = ap suc (length-exchanges 
 abbrev shown : List ℕ → List ℕ
 shown bytes = take 3 (reverse bytes ++ (0 ∷ 0 ∷ 0 ∷ []))
 
-abbrev pub value_of : ℕ → List ℕ → ℕ → ℕ
-value_of purpose bytes reads =
+abbrev pub valueOf : ℕ → List ℕ → ℕ → ℕ
+valueOf purpose bytes reads =
     let l = shown bytes in
     get_or (0 ∷ 0 ∷ 0 ∷ get_or l 0 0 ∷ bigEndian 0 (get_or l 2 0 ∷ get_or l 1 0 ∷ get_or l 0 0 ∷ []) ∷ reads ∷ []) purpose 0
 
@@ -161,7 +161,7 @@ module _ {s : List ℕ} {b : Begun} {xs : List Step} (h : Holds s b xs) (cs : Li
       ∙ ap bytesWanted (all-sent e)
 
   -- what the session answers
-  pub value_as : valueIn (final s cs) ≡ value_of b.purpose (came s cs) (min b.reads 100)
+  pub value_as : valueIn (final s cs) ≡ valueOf b.purpose (came s cs) (min b.reads 100)
   value_as =
       let k = keeps cs s h.session in
       let l : at (final s cs) 3 ∷ at (final s cs) 4 ∷ at (final s cs) 5 ∷ [] ≡ shown (came s cs) =
@@ -170,7 +170,7 @@ module _ {s : List ℕ} {b : Begun} {xs : List Step} (h : Holds s b xs) (cs : Li
 
   -- all of it, where the result is this
   pub answered : (result : List ℕ → ℕ) →
-      ((bytes : List ℕ) → length bytes ≡ bytesWanted (exchangesOf b.address 0 b.image xs bytes) → value_of b.purpose bytes (min b.reads 100) ≡ result bytes) →
+      ((bytes : List ℕ) → length bytes ≡ bytesWanted (exchangesOf b.address 0 b.image xs bytes) → valueOf b.purpose bytes (min b.reads 100) ≡ result bytes) →
       Course s b.address b.image xs result cs
   unfolding outcomeOf
   answered result g = record {

@@ -13,7 +13,7 @@ use Rattle.exchange.specs.declared.Reply.{Reply}
 use Rattle.exchange.specs.declared.Reply.TheVariants.{Done, Byte, Failed}
 use Rattle.exchange.specs.State.{left, completed}
 use Rattle.exchange.specs.Turn.{pendingFor, resized, reportOf}
-use Rattle.exchange.specs.Session.{AnswerCall, fitsExchange, taken, number_at, replyBytes, breaks, after_call, final, came}
+use Rattle.exchange.specs.Session.{AnswerCall, fitsExchange, taken, numberAt, replyBytes, breaks, afterCall, final, came}
 use Rattle.exchange.proofs.Cases.{Case, same, broken, went, case, idle-state}
 use Rattle.exchange.proofs.Session.{session}
 use Rattle.driver.proofs.Records.{idle, unfinished, finished}
@@ -30,12 +30,12 @@ taken_none st a n e = ap (λ (l : List Step). fitsExchange (pendingFor st l) a &
 came-none : (cs : List AnswerCall) (st : List ℕ) → left st ≡ [] → came st cs ≡ []
 came-none [] st e = refl
 came-none (c ∷ cs) st e =
-    ap (λ (k : Bool). cond k (replyBytes c.reply) [] ++ came (after_call st c) cs) (taken_none st c.reply (length c.buffer) e)
+    ap (λ (k : Bool). cond k (replyBytes c.reply) [] ++ came (afterCall st c) cs) (taken_none st c.reply (length c.buffer) e)
     ∙ ap (λ (t : List ℕ). came t cs) (idle-state st c e) ∙ came-none cs st e
 
 -- an answer that is not taken back leaves the session
-untaken : (st : List ℕ) (c : AnswerCall) → taken st c.reply (length c.buffer) ≡ false → after_call st c ≡ st
-unfolding after_call
+untaken : (st : List ℕ) (c : AnswerCall) → taken st c.reply (length c.buffer) ≡ false → afterCall st c ≡ st
+unfolding afterCall
 untaken st c h = (session.refused st c.reply c.buffer (eqb-true _ _ (session.takes st c.reply (length c.buffer) ∙ ap not h))).0
 
 -- whether one byte came, and is this
@@ -48,7 +48,7 @@ module _ (register value : ℕ) where
 
   module _ (c : AnswerCall) (cs : List AnswerCall) (later : Creates cs) (st : List ℕ) (e : left st ≡ Match register value ∷ []) where
     abbrev t : List ℕ
-    t = after_call st c
+    t = afterCall st c
 
     abbrev Created : List ℕ → Type 0
     Created bytes = completed (final t cs) ≡ cameOnly (bytes ++ came t cs) value
@@ -60,12 +60,12 @@ module _ (register value : ℕ) where
         ∙ ap (λ (m : List ℕ). cameOnly m value) (sym (ap (λ (m : List ℕ). bytes ++ m) (came-none cs t l) ∙ n))
 
     -- broken off
-    off : (bytes : List ℕ) → breaks (number_at st c) ≡ true → cameOnly bytes value ≡ false → (bytes ++ [] ≡ bytes) → Created bytes
-    unfolding after_call
+    off : (bytes : List ℕ) → breaks (numberAt st c) ≡ true → cameOnly bytes value ≡ false → (bytes ++ [] ≡ bytes) → Created bytes
+    unfolding afterCall
     off bytes h k n = let w = session.ends st c.reply (length c.buffer) h in over bytes false w.0 w.1 k n
 
     -- gone on, to the end
-    on : (bytes : List ℕ) → eqb (number_at st c) 0 ≡ true → cameOnly bytes value ≡ true → (bytes ++ [] ≡ bytes) → Created bytes
+    on : (bytes : List ℕ) → eqb (numberAt st c) 0 ≡ true → cameOnly bytes value ≡ true → (bytes ++ [] ≡ bytes) → Created bytes
     on bytes h k n = go (case st c)
       where
         go : Case st c → Created bytes
@@ -79,7 +79,7 @@ module _ (register value : ℕ) where
             tail [] = []
             tail (x ∷ xs) = xs
 
-    byte : (b : ℕ) (q : Bool) → eqb b value ≡ q → number_at st c ≡ cond q 0 16 → Created (b ∷ [])
+    byte : (b : ℕ) (q : Bool) → eqb b value ≡ q → numberAt st c ≡ cond q 0 16 → Created (b ∷ [])
     byte b true p h = on (b ∷ []) (ap (λ (n : ℕ). eqb n 0) h) p refl
     byte b false p h = off (b ∷ []) (ap breaks h) p refl
 

@@ -25,7 +25,7 @@ use Rattle.exchange.specs.declared.Reply.{Reply}
 use Rattle.exchange.specs.declared.Reply.TheVariants.{Done, Byte, Failed}
 use Rattle.exchange.specs.State.{indexed, left, Begun}
 use Rattle.exchange.specs.Turn.{pendingFor, resized, reportOf}
-use Rattle.exchange.specs.Session.{AnswerCall, fitsExchange, taken, number_at, final, sent, brokenOff}
+use Rattle.exchange.specs.Session.{AnswerCall, fitsExchange, taken, numberAt, final, sent, brokenOff}
 use Rattle.exchange.proofs.Session.{session}
 use Rattle.plans.specs.Configure.{featureSteps, limitSteps, calibrationSteps, pidSteps, frequencySteps, rapidStopSteps, phaseSteps, customSteps, drivingSteps, gpiSteps, givenSteps, triggerSteps, configureSteps}
 use Rattle.sessions.specs.Sessions.{chunkStep, chunkSteps, lockSteps, sendSteps}
@@ -140,7 +140,7 @@ unmatched st l p q a n e = go l p q a e (on (taken st a n) (ap (λ (m : ℕ). eq
     go (x ∷ xs) p q (Byte b) e t = omega (arith, e, session.reads st x xs b n p (plain x q.0) t)
 
 -- at no time in a session that has such steps
-pub never : {s : List ℕ} {b : Begun} {xs : List Step} → Holds s b xs → AllPlain xs → (cs : List AnswerCall) (c : AnswerCall) → ¬ (number_at (final s cs) c ≡ 16)
+pub never : {s : List ℕ} {b : Begun} {xs : List Step} → Holds s b xs → AllPlain xs → (cs : List AnswerCall) (c : AnswerCall) → ¬ (numberAt (final s cs) c ≡ 16)
 never {s} {b} {xs} h p cs c =
     let k = subst AllPlain (sym h.steps) p in
     unmatched (final s cs) _ (session.end s cs) (choice AllPlain (brokenOff s cs) [] _ tt (dropped (length (sent s cs)) (left s) k)) c.reply (length c.buffer)

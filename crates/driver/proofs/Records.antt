@@ -10,7 +10,7 @@ use Rattle.exchange.specs.declared.Step.{Step}
 use Rattle.exchange.specs.declared.Reply.{Reply}
 use Rattle.exchange.specs.State.{isSession, isUnbroken, left, noneLeft, completed, purposeIn, recordIn}
 use Rattle.exchange.specs.Turn.{stateAfter, reportOf}
-use Rattle.exchange.specs.Session.{AnswerCall, after_call, final, sent, brokenOff}
+use Rattle.exchange.specs.Session.{AnswerCall, afterCall, final, sent, brokenOff}
 use Rattle.exchange.proofs.Cases.{Case, same, broken, went, case, idle-state, idle-number}
 use Rattle.exchange.proofs.Keeps.{keeps}
 use Rattle.exchange.proofs.Moves.{left-going, going-open}
@@ -26,8 +26,8 @@ use Rattle.driver.specs.Theorems.{recordFinal}
 -- ---- one answer
 
 -- what a session makes of a record in the end
-abbrev pub made_of : List ℕ → DA728x → DA728x
-made_of st r = recordBy r (changeFor (purposeIn st) (recordAt (recordIn st)) r)
+abbrev pub madeOf : List ℕ → DA728x → DA728x
+madeOf st r = recordBy r (changeFor (purposeIn st) (recordAt (recordIn st)) r)
 
 -- what an answer does to a record, by whether it is of a session, ends it, and is accepted
 abbrev changeIf : List ℕ → DA728x → Bool → Bool → Bool → Change
@@ -64,7 +64,7 @@ module _ (st : List ℕ) (a : Reply) (n : ℕ) (r : DA728x) where
       ∙ ap (λ (e : Bool). changeIf t r (isSession t) e (eqb (reportOf st a n).number 0)) h
       ∙ stays-before t r (isSession t) (eqb (reportOf st a n).number 0)
 
-  made : isSession t ≡ true → (reportOf st a n).ended ≡ true → eqb (reportOf st a n).number 0 ≡ true → recordAfter st a n r ≡ made_of t r
+  made : isSession t ≡ true → (reportOf st a n).ended ≡ true → eqb (reportOf st a n).number 0 ≡ true → recordAfter st a n r ≡ madeOf t r
   made s e k = ap (recordBy r) (change-as st a n r ∙ (λ i. changeIf t r (s i) (e i) (k i)))
 
   -- a session that is for no record
@@ -100,42 +100,42 @@ finished st o e = session.completes st [] o ∙ ap noneLeft e
 -- where a step is left, the record changes exactly if the session is completed
 abbrev Settles : List AnswerCall → Type 0
 Settles cs = (st : List ℕ) (x : Step) (xs : List Step) → isSession st ≡ true → left st ≡ x ∷ xs → (r : DA728x) →
-    recordFinal st cs r ≡ cond (completed (final st cs)) (made_of st r) r
+    recordFinal st cs r ≡ cond (completed (final st cs)) (madeOf st r) r
 
 module _ (c : AnswerCall) (cs : List AnswerCall) (later : Settles cs) (st : List ℕ) (x : Step) (xs : List Step) (s : isSession st ≡ true) (e : left st ≡ x ∷ xs) (r : DA728x) where
   -- the state after the first answer, and the record
   abbrev next-state : List ℕ
-  next-state = after_call st c
+  next-state = afterCall st c
 
   abbrev next-record : DA728x
   next-record = recordAfter st c.reply (length c.buffer) r
 
   abbrev Settled : Type 0
-  Settled = recordFinal next-state cs next-record ≡ cond (completed (final next-state cs)) (made_of st r) r
+  Settled = recordFinal next-state cs next-record ≡ cond (completed (final next-state cs)) (madeOf st r) r
 
   -- it is a session, for the same
   is-session : isSession next-state ≡ true
   is-session = (keeps (c ∷ []) st s).session
 
-  same-made : made_of next-state r ≡ made_of st r
+  same-made : madeOf next-state r ≡ madeOf st r
   same-made = let k = keeps (c ∷ []) st s in λ i. recordBy r (changeFor (k.purpose i) (recordAt (k.«record» i)) r)
 
   -- whether it has ended
   ended-as : (reportOf st c.reply (length c.buffer)).ended ≡ noneLeft (left next-state)
-  unfolding after_call
+  unfolding afterCall
   ended-as = (session.tells st c.reply (length c.buffer)).1
 
   -- the last answer makes the record
   next-made : isSession next-state ≡ true → (reportOf st c.reply (length c.buffer)).ended ≡ true → eqb (reportOf st c.reply (length c.buffer)).number 0 ≡ true →
-      next-record ≡ made_of next-state r
-  unfolding after_call
+      next-record ≡ madeOf next-state r
+  unfolding afterCall
   next-made p q k = made st c.reply (length c.buffer) r p q k
 
   settled-went : (ys : List Step) → left next-state ≡ ys → isUnbroken next-state ≡ true → eqb (reportOf st c.reply (length c.buffer)).number 0 ≡ true → Settled
   settled-went [] h o n =
       let m = next-made is-session (ended-as ∙ ap noneLeft h) n ∙ same-made in
       ended cs next-state next-record h ∙ m
-      ∙ ap (λ (b : Bool). cond b (made_of st r) r) (sym (ap completed (idle cs next-state h) ∙ finished next-state o h))
+      ∙ ap (λ (b : Bool). cond b (madeOf st r) r) (sym (ap completed (idle cs next-state h) ∙ finished next-state o h))
   settled-went (y ∷ ys) h o n =
       ap (λ (m : Change). recordFinal next-state cs (recordBy r m)) (before st c.reply (length c.buffer) r (ended-as ∙ ap noneLeft h))
       ∙ later next-state y ys is-session h r
@@ -149,11 +149,11 @@ module _ (c : AnswerCall) (cs : List AnswerCall) (later : Settles cs) (st : List
   settled-by (broken y ys h k n q) =
       ap (λ (m : Change). recordFinal next-state cs (recordBy r m)) (refused st c.reply (length c.buffer) r n)
       ∙ ended cs next-state r k
-      ∙ ap (λ (b : Bool). cond b (made_of st r) r) (sym (
+      ∙ ap (λ (b : Bool). cond b (madeOf st r) r) (sym (
       session.completes st (c ∷ cs) (going-open _ _ (left-going st x xs e))
       ∙ ap (λ (b : Bool). not (b || brokenOff next-state cs) && noneLeft (drop (length (sent st (c ∷ cs))) (left st))) q))
   settled-by (went y ys h k o n) = settled-went ys k o n
 
 pub settles : (cs : List AnswerCall) → Settles cs
-settles [] st x xs s e r = ap (λ (b : Bool). cond b (made_of st r) r) (sym (unfinished st x xs e))
+settles [] st x xs s e r = ap (λ (b : Bool). cond b (madeOf st r) r) (sym (unfinished st x xs e))
 settles (c ∷ cs) st x xs s e r = settled-by c cs (settles cs) st x xs s e r (case st c)

@@ -7,15 +7,15 @@ use mathlib.Core.List.{List, [], ◌∷◌, append-nil}
 use lib.ListN.{length}
 use lib.Dec.{eqb}
 use borrow.Author.Tests.{eq-eqb, eqb-true}
-use Rattle.registers.specs.Table.{address_of}
+use Rattle.registers.specs.Table.{addressOf}
 use Rattle.config.specs.declared.ActuatorConfig.{ActuatorConfig}
 use Rattle.config.specs.declared.DeviceConfig.{DeviceConfig}
 use Rattle.config.specs.declared.Variant.{Variant}
-use Rattle.config.specs.Codes.{variantCode, variant_at}
+use Rattle.config.specs.Codes.{variantCode, variantAt}
 use Rattle.exchange.specs.declared.Step.{Step}
 use Rattle.exchange.specs.declared.Step.TheVariants.{Match}
 use Rattle.exchange.specs.State.{completed, Begun, begunIn}
-use Rattle.exchange.specs.Session.{AnswerCall, after_call, final}
+use Rattle.exchange.specs.Session.{AnswerCall, afterCall, final}
 use Rattle.exchange.proofs.Cases.{idle-state, idle-number}
 use Rattle.exchange.proofs.Keeps.{keeps}
 use Rattle.plans.proofs.Lengths.{at_least}
@@ -51,7 +51,7 @@ module _ {s : List ℕ} {b : Begun} (cs : List AnswerCall) (r : DA728x) where
   -- one that is for no record never does
   stays : (xs : List Step) → Holds s b xs → ((next r : DA728x) → changeFor b.purpose next r ≡ Same) → (c : AnswerCall) →
       changeAfter (final s cs) c.reply (length c.buffer) r ≡ Same
-  unfolding after_call
+  unfolding afterCall
   stays xs h k c =
       let p = keeps cs s h.session in
       let q = keeps (c ∷ []) (final s cs) p.session in
@@ -73,7 +73,7 @@ module _ (r : DA728x) (a : ActuatorConfig) (d : DeviceConfig) where
       go false = refl
 
 same_variant : (v w : Variant) → eqb (variantCode v) (variantCode w) ≡ true → v ≡ w
-same_variant v w e = sym (variant-kept v) ∙ ap variant_at (eqb-true (variantCode v) (variantCode w) e) ∙ variant-kept w
+same_variant v w e = sym (variant-kept v) ∙ ap variantAt (eqb-true (variantCode v) (variantCode w) e) ∙ variant-kept w
 
 module _ (r lent : DA728x) where
   own-to : isChipOf r lent ≡ true → (r.address ≡ lent.address) × (r.variant ≡ lent.variant)
@@ -92,10 +92,10 @@ stored = record {
   declined = λ s number st e. ap (startedIn st) e;
   creates = λ address variant st cs r s.
       let b = carrying 1 (newRecord address variant) in
-      let h = holds st b (Match (address_of "CHIP_REV") (revision variant) ∷ []) s (fits-new address variant).0 in
+      let h = holds st b (Match (addressOf "CHIP_REV") (revision variant) ∷ []) s (fits-new address variant).0 in
       settled cs r _ h (omega arith)
-      ∙ ap (λ (next : DA728x). cond (completed (final (begunIn st b (Match (address_of "CHIP_REV") (revision variant) ∷ [])) cs)) next r) (record-kept (newRecord address variant))
-      ∙ ap (λ (k : Bool). cond k (newRecord address variant) r) (creates (address_of "CHIP_REV") (revision variant) cs _ h.steps);
+      ∙ ap (λ (next : DA728x). cond (completed (final (begunIn st b (Match (addressOf "CHIP_REV") (revision variant) ∷ [])) cs)) next r) (record-kept (newRecord address variant))
+      ∙ ap (λ (k : Bool). cond k (newRecord address variant) r) (creates (addressOf "CHIP_REV") (revision variant) cs _ h.steps);
   configures = λ r lent a d st cs none e.
       let h = holds-configure r a d st none e in
       settled cs lent _ h (omega (arith, at_least a d, ap length (append-nil (configureSteps a d))))

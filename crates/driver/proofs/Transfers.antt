@@ -14,7 +14,7 @@ use Rattle.exchange.specs.Session.{AnswerCall, exchangesOf, final, sent, came}
 use Rattle.exchange.proofs.Fills.{fills}
 use Rattle.exchange.proofs.Keeps.{keeps}
 use Rattle.exchange.proofs.Latest.{bytesWanted}
-use Rattle.registers.specs.Table.{address_of}
+use Rattle.registers.specs.Table.{addressOf}
 use Rattle.memory.specs.declared.WaveformMemory.{WaveformMemory}
 use Rattle.da728x.specs.declared.DA728x.{DA728x}
 use Rattle.sessions.specs.Sessions.{noImage, blankRecord}
@@ -55,7 +55,7 @@ module _ (r : DA728x) (m : WaveformMemory) (lockAfter : Bool) (st : List ℕ) (c
   abbrev s : List ℕ
   s = begunIn st u (uploadSteps m lockAfter)
 
-  sent-whole : completed (final s cs) ≡ true → payload (sent s cs) ≡ addressed (address_of "SNP_MEM_0") (take m.len m.«data»)
+  sent-whole : completed (final s cs) ≡ true → payload (sent s cs) ≡ addressed (addressOf "SNP_MEM_0") (take m.len m.«data»)
   sent-whole done =
       ap payload (all-sent (holds st u (uploadSteps m lockAfter) e (few m lockAfter, omega arith, l, no_record)) cs done
       ∙ ap (λ (xs : List Step). exchangesOf r.address 0 m.«data» xs (came s cs)) (append-nil (uploadSteps m lockAfter)))

@@ -11,7 +11,7 @@ use lib.ListN.{length, take, drop, replicate, length-append, length-take, length
 use lib.Seq.{take-add, take_at, drop-drop}
 use borrow.Author.Tests.{ltb-false, le-leb}
 use Rattle.laws.proofs.Lists.{take-shown}
-use Rattle.registers.specs.Table.{address_of}
+use Rattle.registers.specs.Table.{addressOf}
 use Rattle.memory.specs.declared.WaveformMemory.{WaveformMemory}
 use Rattle.da728x.specs.declared.DA728x.{DA728x}
 use Rattle.exchange.specs.declared.Step.{Step}
@@ -103,7 +103,7 @@ module _ (address : ℕ) (image bytes : List ℕ) where
 
 -- what the memory shows
 pub shown : (r : DA728x) (m : WaveformMemory) (lockAfter : Bool) (bytes : List ℕ) → length m.«data» ≡ 100 →
-    payload (exchangesOf r.address 0 m.«data» (uploadSteps m lockAfter) bytes) ≡ addressed (address_of "SNP_MEM_0") (take m.len m.«data»)
+    payload (exchangesOf r.address 0 m.«data» (uploadSteps m lockAfter) bytes) ≡ addressed (addressOf "SNP_MEM_0") (take m.len m.«data»)
 unfolding sendSteps chunkSteps
 shown r m lockAfter bytes e =
     let image = m.«data» in

@@ -1,7 +1,7 @@
 -- Every operation of lib.rs: what it refuses before its first exchange, else its steps, and what it answers once they are made.
 -- Document 01, 'Settings to registers', 'Exchanges' and 'Who can cause which answer'.
 use Rattle.std.specs.Prelude.{ℕ, zero, suc, min, Bool, true, false, cond, not, ◌&&◌, List, [], ◌∷◌, ltb, eqb, ℤ, pos, negsuc}
-use Rattle.registers.specs.Table.{address_of}
+use Rattle.registers.specs.Table.{addressOf}
 use Rattle.config.specs.declared.ActuatorConfig.{ActuatorConfig}
 use Rattle.config.specs.declared.DeviceConfig.{DeviceConfig}
 use Rattle.config.specs.declared.DrivingMode.TheVariants.{CUSTOM_WAVEFORM}
@@ -92,22 +92,22 @@ abbrev pub newRecord : ℕ → Variant → DA728x
 newRecord address variant = record { address = address; variant = variant; settings = Absent }
 
 abbrev pub new : ℕ → Variant → Operation
-new address variant = plain (begins (carrying 1 (newRecord address variant)) (Match (address_of "CHIP_REV") (revision variant) ∷ []))
+new address variant = plain (begins (carrying 1 (newRecord address variant)) (Match (addressOf "CHIP_REV") (revision variant) ∷ []))
 
 abbrev pub configure : DA728x → ActuatorConfig → DeviceConfig → Operation
 configure r a d =
     plain (unless (configureNumber r.variant a d) (begins (carrying 2 (record { address = r.address; variant = r.variant; settings = Given a d })) (configureSteps a d)))
 
 abbrev pub getChipRev : DA728x → Operation
-getChipRev r = asking 3 r (Read (address_of "CHIP_REV") ∷ [])
+getChipRev r = asking 3 r (Read (addressOf "CHIP_REV") ∷ [])
 
 -- three reads, then a write of FF that clears them
 abbrev pub getEvents : DA728x → Operation
 getEvents r =
-    asking 4 r (Read (address_of "IRQ_EVENT1") ∷ Read (address_of "IRQ_EVENT_WARNING_DIAG") ∷ Read (address_of "IRQ_EVENT_SEQ_DIAG") ∷ written "IRQ_EVENT1" 0xFF ∷ [])
+    asking 4 r (Read (addressOf "IRQ_EVENT1") ∷ Read (addressOf "IRQ_EVENT_WARNING_DIAG") ∷ Read (addressOf "IRQ_EVENT_SEQ_DIAG") ∷ written "IRQ_EVENT1" 0xFF ∷ [])
 
 abbrev pub getStatus : DA728x → Operation
-getStatus r = asking 3 r (Read (address_of "IRQ_STATUS1") ∷ [])
+getStatus r = asking 3 r (Read (addressOf "IRQ_STATUS1") ∷ [])
 
 -- 15, then 23, document 02: "a frequency, also in `set_frequency`, 23"
 abbrev pub setFrequency : DA728x → ℕ → Operation

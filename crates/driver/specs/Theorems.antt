@@ -11,14 +11,14 @@ use Rattle.memory.specs.declared.WaveformMemoryTimebase.{WaveformMemoryTimebase}
 use Rattle.laws.specs.Bytes.{All}
 use Rattle.laws.specs.Copied.{over}
 use Rattle.laws.specs.Lists.{at}
-use Rattle.registers.specs.Table.{address_of}
+use Rattle.registers.specs.Table.{addressOf}
 use Rattle.exchange.specs.declared.Step.{Step}
 use Rattle.exchange.specs.declared.Step.TheVariants.{Store}
 use Rattle.exchange.specs.declared.Exchange.{Exchange}
 use Rattle.exchange.specs.declared.Reply.{Reply}
 use Rattle.exchange.specs.State.{isSession, countIn, completed, indexed, left, Begun, begunIn}
 use Rattle.exchange.specs.Turn.{resized, reportOf}
-use Rattle.exchange.specs.Session.{AnswerCall, number_at, after_call, final, sent, came, brokenOff, exchangesOf, lending, filled}
+use Rattle.exchange.specs.Session.{AnswerCall, numberAt, afterCall, final, sent, came, brokenOff, exchangesOf, lending, filled}
 use Rattle.checks.specs.Checks.{configureNumber}
 use Rattle.checks.specs.Blames.{OutOfBand, Fault, faults, OfFirst}
 use Rattle.da728x.specs.declared.DA728x.{DA728x}
@@ -84,7 +84,7 @@ AnswersAs address o = (b : Begun) (xs : List Step) → o.start ≡ begins b xs �
 -- no answer to a session that it begins is told by 16
 abbrev pub NoMismatch : ℕ → Operation → Type 0
 NoMismatch address o = (b : Begun) (xs : List Step) → o.start ≡ begins b xs → (st : List ℕ) → isSession st ≡ true → (cs : List AnswerCall) (c : AnswerCall) →
-    ¬ (number_at (final (begunIn st b xs) cs) c ≡ 16)
+    ¬ (numberAt (final (begunIn st b xs) cs) c ≡ 16)
 
 pub record Answers : Type 0 where
   pub courses : Each AnswersAs
@@ -138,7 +138,7 @@ pub record Refusals : Type 0 where
 -- the record after these answers, where it was lent with each
 abbrev pub recordFinal : List ℕ → List AnswerCall → DA728x → DA728x
 recordFinal st [] r = r
-recordFinal st (c ∷ cs) r = recordFinal (after_call st c) cs (recordAfter st c.reply (length c.buffer) r)
+recordFinal st (c ∷ cs) r = recordFinal (afterCall st c) cs (recordAfter st c.reply (length c.buffer) r)
 
 -- for every record lent and every list of answers; the first four for every session's bytes (old, foreign, forged)
 pub record Stored : Type 0 where
@@ -146,7 +146,7 @@ pub record Stored : Type 0 where
   pub refused : (st : List ℕ) (a : Reply) (n : ℕ) (r : DA728x) → eqb (reportOf st a n).number 0 ≡ false → changeAfter st a n r ≡ Same
   pub before : (st : List ℕ) (a : Reply) (n : ℕ) (r : DA728x) → (reportOf st a n).ended ≡ false → changeAfter st a n r ≡ Same
   -- so does every answer to a session that has ended, that was never begun, or of another length; such a session stays
-  pub ended : (st : List ℕ) (c : AnswerCall) (r : DA728x) → left st ≡ [] → (changeAfter st c.reply (length c.buffer) r ≡ Same) × (after_call st c ≡ st)
+  pub ended : (st : List ℕ) (c : AnswerCall) (r : DA728x) → left st ≡ [] → (changeAfter st c.reply (length c.buffer) r ≡ Same) × (afterCall st c ≡ st)
   -- a start that is refused leaves the session's bytes
   pub declined : (s : Start) (number : ℕ) (st : List ℕ) → s ≡ declines number → startedIn st s ≡ st
   -- `new` makes a record exactly if the one byte that came from CHIP_REV is the variant's
@@ -172,14 +172,14 @@ addressed address (b ∷ bytes) = (address, b) ∷ addressed (suc address) bytes
 -- what exchanges write into the waveform memory: the first byte sent is an address there, and the others go to it and those behind it
 abbrev pub payload : List Exchange → List (ℕ × ℕ)
 payload [] = []
-payload (e ∷ es) = cond (leb (address_of "SNP_MEM_0") (at e.bytes 0)) (addressed (at e.bytes 0) (drop 1 (take e.len e.bytes))) [] ++ payload es
+payload (e ∷ es) = cond (leb (addressOf "SNP_MEM_0") (at e.bytes 0)) (addressed (at e.bytes 0) (drop 1 (take e.len e.bytes))) [] ++ payload es
 
 pub record Transfers : Type 0 where
   -- "Upload sends what `WaveformMemory::as_bytes` shows .. from address 84 (hexadecimal)": once completed, each byte to its own address; no other goes
   -- into the memory
   pub shown : (r : DA728x) (m : WaveformMemory) (lockAfter : Bool) (st : List ℕ) (cs : List AnswerCall) → length m.«data» ≡ 100 → isSession st ≡ true →
       let s = startedIn st (operation.uploadWaveformMemory r m lockAfter).start in
-      completed (final s cs) ≡ true → payload (sent s cs) ≡ addressed (address_of "SNP_MEM_0") (take m.len m.«data»)
+      completed (final s cs) ≡ true → payload (sent s cs) ≡ addressed (addressOf "SNP_MEM_0") (take m.len m.«data»)
   -- a read fills the front of the buffer with the bytes that came, and changes no other byte
   pub reads : (r : DA728x) (len : ℕ) (buffer : List ℕ) (st : List ℕ) (replies : List Reply) → isSession st ≡ true → length buffer < 2 ^ 64 →
       let s = startedIn st (operation.readWaveformMemory r len (length buffer)).start in

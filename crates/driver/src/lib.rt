@@ -11,7 +11,7 @@
 
 ghost use Rattle.std.specs.Prelude.{◌≡◌, ◌&&◌, ◌∷◌, eqb, length};
 ghost use Rattle.errors.specs.Number.{answerNumber};
-ghost use Rattle.registers.specs.Table.{address_of};
+ghost use Rattle.registers.specs.Table.{addressOf};
 ghost use Rattle.config.specs.Codes.{operationCode};
 ghost use Rattle.config.specs.declared.OperationMode.TheVariants.{DRO_MODE};
 ghost use Rattle.exchange.specs.declared.Step.TheVariants.{Write};
@@ -404,7 +404,7 @@ pub fn play_sequence(driver: DA728x, sequence_id: u8, loops: u8, session: &mut [
 }
 
 fn play(session: &mut [u8], address: u8, value: u8)
-    ensures { session.new ≡ begunIn session.old (blank 0 address) (Write (address_of "SEQ_CTL2") value ∷ startSteps) }
+    ensures { session.new ≡ begunIn session.old (blank 0 address) (Write (addressOf "SEQ_CTL2") value ∷ startSteps) }
 {
     sessions::run(
         session,

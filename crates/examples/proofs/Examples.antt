@@ -6,7 +6,7 @@ use Rattle.da728x.specs.Record.{recordAt}
 use Rattle.plans.specs.Configure.{featureSteps, limitSteps, calibrationSteps, pidSteps, frequencySteps, rapidStopSteps, phaseSteps, customSteps, drivingSteps, gpiByte, gpiSteps, givenSteps, triggerSteps}
 use Rattle.exchange.specs.State.{begunIn, left, completed}
 use Rattle.exchange.specs.Turn.{fitOf, stateAfter}
-use Rattle.exchange.specs.Session.{after_call}
+use Rattle.exchange.specs.Session.{afterCall}
 use Rattle.outcome.specs.Outcome.{outcomeOf}
 use Rattle.sessions.specs.Sessions.{noImage, blankRecord, enabled, seqCtl2, memCtl2, chunkStep, chunkSteps, lockSteps, sendSteps}
 use Rattle.examples.specs.Rows.{Hold, checkedExamples}
@@ -17,7 +17,7 @@ unfolding builtMemory withOf
 checked = (refl, (refl, (refl, (refl, (refl, (refl, (refl, (refl, (refl, (refl, (refl, (refl, (refl, (refl, (refl, (refl, (refl, (refl, (refl, (refl, (refl, (refl, (refl, (refl, (refl, tt)))))))))))))))))))))))))
 
 wired : Hold wireExamples
-unfolding withOf recordAt featureSteps limitSteps calibrationSteps pidSteps frequencySteps rapidStopSteps phaseSteps customSteps drivingSteps gpiByte gpiSteps givenSteps triggerSteps noImage blankRecord begunIn left completed fitOf stateAfter after_call outcomeOf enabled seqCtl2 memCtl2 chunkStep chunkSteps lockSteps sendSteps
+unfolding withOf recordAt featureSteps limitSteps calibrationSteps pidSteps frequencySteps rapidStopSteps phaseSteps customSteps drivingSteps gpiByte gpiSteps givenSteps triggerSteps noImage blankRecord begunIn left completed fitOf stateAfter afterCall outcomeOf enabled seqCtl2 memCtl2 chunkStep chunkSteps lockSteps sendSteps
 wired = (refl, (refl, (refl, (refl, (refl, (refl, (refl, (refl, (refl, (refl, (refl, (refl, (refl, (refl, (refl, (refl, (refl, (refl, (refl, (refl, (refl, (refl, (refl, (refl, (refl, (refl, (refl, (refl, (refl, (refl, (refl, (refl, (refl, (refl, (refl, (refl, (refl, (refl, (refl, (refl, (refl, (refl, (refl, (refl, (refl, (refl, (refl, (refl, (refl, (refl, tt))))))))))))))))))))))))))))))))))))))))))))))))))
 
 pub examples : Examples

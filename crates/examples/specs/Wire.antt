@@ -3,7 +3,7 @@
 -- Then a session that runs, what goes into a buffer, codes and TRIM4. Worked out by hand from registers.rs, lib.rs and document 01.
 use Rattle.std.specs.Prelude.{ℕ, ◌+◌, true, false, List, [], ◌∷◌, ◌++◌, map, length, take, drop, set, replicate, ℤ, pos, negsuc}
 use Rattle.laws.specs.Copied.{copied}
-use Rattle.config.specs.Codes.{variant_at}
+use Rattle.config.specs.Codes.{variantAt}
 use Rattle.config.specs.declared.Variant.{Variant}
 use Rattle.config.specs.declared.Variant.TheVariants.{DA7280, DA7281, DA7282}
 use Rattle.convert.specs.Trim.{capCode, resistanceCode}
@@ -135,7 +135,7 @@ wireExamples =
     -- a session that runs, with a buffer lent; what goes into a buffer; codes that C hands in
     ∷ (outcomeOf (final (startedIn (replicate 279 0) (operation.getStatus chip).start) (record { reply = Byte 9; buffer = 0 ∷ [] } ∷ [])) is record { made = 1; completed = true; value = 9 })
     ∷ (copied (1 ∷ 2 ∷ 3 ∷ []) (8 ∷ 9 ∷ []) is (8 ∷ 9 ∷ 3 ∷ [])) ∷ (copied (1 ∷ []) (8 ∷ 9 ∷ []) is (8 ∷ []))
-    ∷ (map memoryTimebaseAt (0 ∷ 1 ∷ []) is (TIMEBASE_544_2176_4352_8704 ∷ TIMEBASE_136_544_2176_4352 ∷ [])) ∷ (map variant_at (0 ∷ 1 ∷ 2 ∷ []) is (DA7280 ∷ DA7281 ∷ DA7282 ∷ []))
+    ∷ (map memoryTimebaseAt (0 ∷ 1 ∷ []) is (TIMEBASE_544_2176_4352_8704 ∷ TIMEBASE_136_544_2176_4352 ∷ [])) ∷ (map variantAt (0 ∷ 1 ∷ 2 ∷ []) is (DA7280 ∷ DA7281 ∷ DA7282 ∷ []))
     -- TRIM4's codes: inductances around each limit of the cap code; whole ohms at 25 and at 113 µH; columns at 18 ohms
     ∷ (map capCode (17 ∷ 18 ∷ 27 ∷ 28 ∷ 40 ∷ 41 ∷ []) is (3 ∷ 2 ∷ 2 ∷ 1 ∷ 1 ∷ 0 ∷ [])) ∷ (map (λ mOhm. resistanceCode mOhm 25) (5999 ∷ 6000 ∷ 9999 ∷ 10000 ∷ []) is (2 ∷ 1 ∷ 1 ∷ 0 ∷ []))
     ∷ (map (λ mOhm. resistanceCode mOhm 113) (45999 ∷ 46000 ∷ []) is (3 ∷ 2 ∷ [])) ∷ (map (resistanceCode 18000) (62 ∷ 63 ∷ 237 ∷ 238 ∷ 65535 ∷ []) is (0 ∷ 1 ∷ 2 ∷ 3 ∷ 3 ∷ [])) ∷ refusedExamples

@@ -4,22 +4,22 @@ use Prim.Native.Nat.{ℕ, ◌+◌, ◌-◌, ◌*◌, ◌^◌, ◌≤◌, ◌<◌
 use native.Mathlib.Omega.{arith}
 use native.Mathlib.Nat.{min-eq_left}
 use mathlib.Core.Path.{◌≡◌, refl, sym, ◌∙◌, ap}
-use mathlib.Core.Bool.{Bool, true, cond}
+use mathlib.Core.Bool.{true}
 use mathlib.Core.List.{List, [], ◌∷◌, ◌++◌, map, append_assoc}
 use lib.ListN.{length, take, drop, replicate, length-append, length-replicate}
 use lib.Seq.{take_at, drop_at, drop-drop}
 use borrow.Author.Tests.{eq-eqb}
-use Rattle.laws.specs.Lists.{joined, low_bytes}
+use Rattle.laws.specs.Lists.{joined, lowBytes}
 use Rattle.exchange.specs.declared.Step.{Step}
 use Rattle.exchange.specs.declared.Step.TheVariants.{Store}
 use Rattle.exchange.specs.Steps.{stepBytes}
-use Rattle.exchange.specs.State.{isSession, isUnbroken, addressIn, countIn, readCount, purposeIn, word_at, roomIn, imageIn, recordIn, indexed, plan, left, Begun, begunBytes, begunIn}
+use Rattle.exchange.specs.State.{isSession, isUnbroken, addressIn, countIn, readCount, purposeIn, wordAt, roomIn, imageIn, recordIn, indexed, plan, left, Begun, begunBytes, begunIn}
 use Rattle.exchange.proofs.Latest.{bytesRead}
 use Rattle.exchange.proofs.Moves.{going-left}
 use Rattle.exchange.proofs.Plan.{stepAt, length-joined, joined-steps, plan-parts}
 
 -- a number below 2 to the 64 is its eight bytes
-low_again : (n : ℕ) → n < 2 ^ 64 → word_at (low_bytes 8 n) 0 + 4294967296 * word_at (low_bytes 8 n) 4 ≡ n
+low_again : (n : ℕ) → n < 2 ^ 64 → wordAt (lowBytes 8 n) 0 + 4294967296 * wordAt (lowBytes 8 n) 4 ≡ n
 low_again n h = omega arith
 
 module _ (b : Begun) (xs : List Step) (few : length xs ≤ 25) (image : length b.image ≡ 100) (recorded : length b.«record» ≡ 37) where

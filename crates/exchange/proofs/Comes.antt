@@ -1,9 +1,9 @@
 -- As many bytes come as the exchanges made want, where no answer broke the session off.
 -- Assumes nothing.
-use Prim.Native.Nat.{ℕ, ◌+◌}
+use Prim.Native.Nat.{ℕ}
 use native.Mathlib.Omega.{arith}
 use mathlib.Core.Path.{◌≡◌, refl, sym, ap, ◌∙◌}
-use mathlib.Core.Bool.{Bool, true, false, cond, ◌||◌, true≢false}
+use mathlib.Core.Bool.{Bool, false, cond, ◌||◌, true≢false}
 use mathlib.Core.List.{List, [], ◌∷◌, ◌++◌}
 use lib.Dec.{eqb}
 use lib.ListN.{length}
@@ -13,8 +13,8 @@ use Rattle.exchange.specs.declared.Fit.{Fit}
 use Rattle.exchange.specs.declared.Fit.TheVariants.{Unfit, Broke, Went, Got, Kept, Wrong}
 use Rattle.exchange.specs.Steps.{exchangeFor}
 use Rattle.exchange.specs.State.{left}
-use Rattle.exchange.specs.Turn.{pendingOf, pendingFor, wanted, fitOf, effect_of}
-use Rattle.exchange.specs.Session.{AnswerCall, after_call, sent, came, brokenOff}
+use Rattle.exchange.specs.Turn.{pendingOf, pendingFor, wanted, fitOf, effectOf}
+use Rattle.exchange.specs.Session.{AnswerCall, afterCall, sent, came, brokenOff}
 use Rattle.exchange.proofs.Latest.{bytesWanted}
 use Rattle.exchange.proofs.Effects.{made-taken, came-taken, stage-breaks}
 use Rattle.exchange.proofs.Turns.{Turned, turned}
@@ -33,8 +33,8 @@ pending-wants st x xs n e h = ap (λ (l : List Step). (pendingFor st l).wanted) 
 
 -- by how the first answer fits
 comes-by : (f : Fit) (st t : List ℕ) (cs : List AnswerCall) → Turned f st t →
-    (brokenOff t cs ≡ false → length (came t cs) ≡ bytesWanted (sent t cs)) → eqb (effect_of f).stage 2 || brokenOff t cs ≡ false →
-    length ((effect_of f).came ++ came t cs) ≡ bytesWanted (cond (effect_of f).counts (pendingOf st ∷ []) [] ++ sent t cs)
+    (brokenOff t cs ≡ false → length (came t cs) ≡ bytesWanted (sent t cs)) → eqb (effectOf f).stage 2 || brokenOff t cs ≡ false →
+    length ((effectOf f).came ++ came t cs) ≡ bytesWanted (cond (effectOf f).counts (pendingOf st ∷ []) [] ++ sent t cs)
 comes-by Unfit st t cs g k h = k h
 comes-by (Broke code) st t cs g k h = absurd (true≢false h)
 comes-by Went st t cs g k h = omega (arith, k h, pending-wants st _ _ _ g.before g.reads)
@@ -48,7 +48,7 @@ comes [] st h = refl
 comes (c ∷ cs) st h =
     let b = c.reply in
     let n = length c.buffer in
-    let t = after_call st c in
+    let t = afterCall st c in
     let k = comes-by (fitOf st b n) st t cs (turned st c) (comes cs t) (ap (λ (q : Bool). q || brokenOff t cs) (sym (stage-breaks st b n)) ∙ h) in
     ap (λ (l : List ℕ). length (l ++ came t cs)) (came-taken st b n)
     ∙ k

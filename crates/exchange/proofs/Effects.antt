@@ -12,8 +12,8 @@ use Rattle.exchange.specs.declared.Reply.TheVariants.{Done, Byte, Failed}
 use Rattle.exchange.specs.declared.Fit.{Fit}
 use Rattle.exchange.specs.declared.Fit.TheVariants.{Unfit, Broke, Went, Got, Kept, Wrong}
 use Rattle.exchange.specs.State.{left, completed}
-use Rattle.exchange.specs.Turn.{wanted, fitsNext, resized, fitOf, effect_of, stateAfter, reportOf}
-use Rattle.exchange.specs.Session.{AnswerCall, taken, replyBytes, breaks}
+use Rattle.exchange.specs.Turn.{wanted, fitsNext, resized, fitOf, effectOf, stateAfter, reportOf}
+use Rattle.exchange.specs.Session.{taken, replyBytes, breaks}
 use Rattle.exchange.proofs.Left.{closed}
 use Rattle.exchange.proofs.Moves.{stateBy}
 use Rattle.exchange.proofs.Takes.{takes}
@@ -26,11 +26,11 @@ not_same false true e = absurd (true≢false e)
 not_same false false e = refl
 
 -- whether it counts
-pub made-taken : (st : List ℕ) (a : Reply) (n : ℕ) → taken st a n ≡ (effect_of (fitOf st a n)).counts
+pub made-taken : (st : List ℕ) (a : Reply) (n : ℕ) → taken st a n ≡ (effectOf (fitOf st a n)).counts
 unfolding reportOf
 made-taken st a n = not_same _ _ (sym (takes st a n) ∙ go (fitOf st a n))
   where
-    go : (f : Fit) → eqb (effect_of f).number 19 ≡ not (effect_of f).counts
+    go : (f : Fit) → eqb (effectOf f).number 19 ≡ not (effectOf f).counts
     go Unfit = refl
     go (Broke code) = refl
     go Went = refl
@@ -39,13 +39,13 @@ made-taken st a n = not_same _ _ (sym (takes st a n) ∙ go (fitOf st a n))
     go (Wrong b) = refl
 
 -- the byte that comes with it
-came-by : (k : Bool) (l : List Step) (a : Reply) → cond (effect_of (cond k Unfit (fitsNext l a))).counts (replyBytes a) [] ≡ (effect_of (cond k Unfit (fitsNext l a))).came
+came-by : (k : Bool) (l : List Step) (a : Reply) → cond (effectOf (cond k Unfit (fitsNext l a))).counts (replyBytes a) [] ≡ (effectOf (cond k Unfit (fitsNext l a))).came
 came-by true l a = refl
 came-by false [] a = refl
 came-by false (x ∷ xs) (Failed code) = refl
 came-by false (x ∷ xs) Done = go (eqb (wanted x) 0)
   where
-    go : (w : Bool) → cond (effect_of (cond w Went Unfit)).counts [] [] ≡ (effect_of (cond w Went Unfit)).came
+    go : (w : Bool) → cond (effectOf (cond w Went Unfit)).counts [] [] ≡ (effectOf (cond w Went Unfit)).came
     go true = refl
     go false = refl
 came-by false (Write r v ∷ xs) (Byte b) = refl
@@ -53,22 +53,22 @@ came-by false (Read r ∷ xs) (Byte b) = refl
 came-by false (Update r s w v ∷ xs) (Byte b) = refl
 came-by false (Match r v ∷ xs) (Byte b) = go (eqb b v)
   where
-    go : (q : Bool) → cond (effect_of (cond q (Got b) (Wrong b))).counts (b ∷ []) [] ≡ (effect_of (cond q (Got b) (Wrong b))).came
+    go : (q : Bool) → cond (effectOf (cond q (Got b) (Wrong b))).counts (b ∷ []) [] ≡ (effectOf (cond q (Got b) (Wrong b))).came
     go true = refl
     go false = refl
 came-by false (Chunk i n ∷ xs) (Byte b) = refl
 came-by false (Store i ∷ xs) (Byte b) = refl
 
-pub came-taken : (st : List ℕ) (a : Reply) (n : ℕ) → cond (taken st a n) (replyBytes a) [] ≡ (effect_of (fitOf st a n)).came
+pub came-taken : (st : List ℕ) (a : Reply) (n : ℕ) → cond (taken st a n) (replyBytes a) [] ≡ (effectOf (fitOf st a n)).came
 unfolding fitOf
 came-taken st a n = ap (λ (k : Bool). cond k (replyBytes a) []) (made-taken st a n) ∙ came-by (resized st n) (left st) a
 
 -- whether it breaks the session off
-pub stage-breaks : (st : List ℕ) (a : Reply) (n : ℕ) → breaks (reportOf st a n).number ≡ eqb (effect_of (fitOf st a n)).stage 2
+pub stage-breaks : (st : List ℕ) (a : Reply) (n : ℕ) → breaks (reportOf st a n).number ≡ eqb (effectOf (fitOf st a n)).stage 2
 unfolding reportOf
 stage-breaks st a n = go (fitOf st a n)
   where
-    go : (f : Fit) → breaks (effect_of f).number ≡ eqb (effect_of f).stage 2
+    go : (f : Fit) → breaks (effectOf f).number ≡ eqb (effectOf f).stage 2
     go Unfit = refl
     go (Broke code) = refl
     go Went = refl
@@ -81,7 +81,7 @@ pub quiet : (st : List ℕ) (a : Reply) (n : ℕ) → eqb (reportOf st a n).numb
 unfolding reportOf
 quiet st a n = go (fitOf st a n)
   where
-    go : (f : Fit) → eqb (effect_of f).number 17 ≡ false → (effect_of f).code ≡ 0
+    go : (f : Fit) → eqb (effectOf f).number 17 ≡ false → (effectOf f).code ≡ 0
     go Unfit e = refl
     go (Broke code) e = absurd (true≢false e)
     go Went e = refl
@@ -94,8 +94,8 @@ pub ends : (st : List ℕ) (a : Reply) (n : ℕ) → breaks (reportOf st a n).nu
 unfolding reportOf stateAfter fitOf
 ends st a n = go (cond (resized st n) Unfit (fitsNext (left st) a)) (turned_by st (resized st n) (left st) refl a)
   where
-    go : (f : Fit) → Turned f st (stateBy st (effect_of f)) → breaks (effect_of f).number ≡ true →
-        (left (stateBy st (effect_of f)) ≡ []) × (completed (stateBy st (effect_of f)) ≡ false)
+    go : (f : Fit) → Turned f st (stateBy st (effectOf f)) → breaks (effectOf f).number ≡ true →
+        (left (stateBy st (effectOf f)) ≡ []) × (completed (stateBy st (effectOf f)) ≡ false)
     go Unfit m h = absurd (true≢false (sym h))
     go (Broke code) m h = closed _ m.opened
     go Went m h = absurd (true≢false (sym h))

@@ -16,8 +16,8 @@ use Rattle.exchange.specs.declared.Reply.TheVariants.{Done, Byte, Failed}
 use Rattle.exchange.specs.declared.Fit.{Fit}
 use Rattle.exchange.specs.declared.Fit.TheVariants.{Unfit}
 use Rattle.exchange.specs.State.{indexed, left}
-use Rattle.exchange.specs.Turn.{fitsNext, resized, fitOf, effect_of, stateAfter, bufferAfter}
-use Rattle.exchange.specs.Session.{after_call, came, lending, filled}
+use Rattle.exchange.specs.Turn.{fitsNext, resized, fitOf, effectOf, stateAfter, bufferAfter}
+use Rattle.exchange.specs.Session.{afterCall, came, lending, filled}
 use Rattle.exchange.proofs.Effects.{came-taken}
 use Rattle.exchange.proofs.Moves.{left-moved, left-broken, stateBy}
 
@@ -40,7 +40,7 @@ Filled st buffer i replies = filled st buffer replies ≡ over buffer i (came st
 -- the same, where the first answer fits so
 abbrev FilledBy : Fit → List ℕ → List ℕ → ℕ → List Reply → Type 0
 FilledBy f st buffer i replies =
-    let e = effect_of f in
+    let e = effectOf f in
     let t = stateBy st e in
     filled t (e.buffer buffer) replies ≡ over buffer i (e.came ++ came t (lending t (e.buffer buffer) replies))
 
@@ -59,7 +59,7 @@ module _ (replies : List Reply) (ih : (st : List ℕ) (i n : ℕ) (buffer : List
 
 -- every run of memory reads
 pub fills : (replies : List Reply) (st : List ℕ) (i n : ℕ) (buffer : List ℕ) → left st ≡ indexed Store i n → i + n ≤ length buffer → Filled st buffer i replies
-unfolding fitOf after_call stateAfter bufferAfter
+unfolding fitOf afterCall stateAfter bufferAfter
 fills [] st i n buffer e h = over_none buffer i
 fills (a ∷ replies) st i n buffer e h =
     let k = resized st (length buffer) in

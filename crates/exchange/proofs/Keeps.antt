@@ -10,8 +10,8 @@ use lib.Seq.{take-take}
 use Rattle.exchange.specs.declared.Fit.{Fit}
 use Rattle.exchange.specs.declared.Fit.TheVariants.{Unfit, Broke, Went, Got, Kept, Wrong}
 use Rattle.exchange.specs.State.{isSession, readCount, purposeIn, roomIn, recordIn}
-use Rattle.exchange.specs.Turn.{fitOf, effect_of, moved, stateAfter}
-use Rattle.exchange.specs.Session.{AnswerCall, after_call, final, came}
+use Rattle.exchange.specs.Turn.{fitOf, effectOf, moved, stateAfter}
+use Rattle.exchange.specs.Session.{AnswerCall, afterCall, final, came}
 use Rattle.exchange.proofs.Latest.{bytesRead}
 use Rattle.exchange.proofs.Effects.{came-taken}
 use Rattle.exchange.proofs.Moves.{latest, moves, stateBy}
@@ -50,7 +50,7 @@ module _ (st : List ℕ) (s : isSession st ≡ true) where
       record { session = m.session; purpose = m.purpose; «record» = m.«record»; reads = m.reads; room = m.room; shows = m.shows ∙ e }
 
   -- by how the answer fits
-  keeps-by : (f : Fit) → Keeps st (stateBy st (effect_of f)) (effect_of f).came
+  keeps-by : (f : Fit) → Keeps st (stateBy st (effectOf f)) (effectOf f).came
   keeps-by Unfit = keeps-all
   keeps-by (Broke code) = keeps-moved 2 [] (rw s)
   keeps-by Went = keeps-moved 1 [] (rw s)
@@ -65,11 +65,11 @@ came-more (b ∷ first) bytes earlier = came-more first bytes (b ∷ earlier)
 
 -- every list of answers
 pub keeps : (cs : List AnswerCall) (st : List ℕ) → isSession st ≡ true → Keeps st (final st cs) (came st cs)
-unfolding after_call stateAfter
+unfolding afterCall stateAfter
 keeps [] st s = keeps-all st s
 keeps (c ∷ cs) st s =
-    let first = (effect_of (fitOf st c.reply (length c.buffer))).came in
-    let t = after_call st c in
+    let first = (effectOf (fitOf st c.reply (length c.buffer))).came in
+    let t = afterCall st c in
     let k = keeps-by st s (fitOf st c.reply (length c.buffer)) in
     let m = keeps cs t k.session in
     record {

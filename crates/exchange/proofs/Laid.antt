@@ -1,20 +1,18 @@
 -- Bytes laid over a list, and what they make there: the 33 bytes of an exchange, the 279 of a session. Assumes nothing.
-use Prim.Native.Nat.{ℕ, suc, zero, ◌+◌, ◌-◌, ◌*◌, ◌≤◌, ◌<◌, min}
+use Prim.Native.Nat.{ℕ, suc, zero, ◌+◌, ◌-◌, ◌≤◌, min}
 use mathlib.Core.Path.{◌≡◌, refl, sym, ap, ap₂, ◌∙◌}
 use mathlib.Core.Bool.{Bool, cond}
 use mathlib.Core.List.{List, [], ◌∷◌, ◌++◌, append-nil}
 use native.Mathlib.Decide.{dec_le}
 use native.Mathlib.Omega.{arith}
-use lib.ListN.{length, take, drop, set, replicate, length-append, length-take, length-drop, drop_of_length-le}
+use lib.ListN.{length, take, drop, replicate, length-append, length-take, length-drop, drop_of_length-le}
 use Rattle.laws.specs.Copied.{over}
 use Rattle.laws.proofs.Copies.{over-behind}
 use Rattle.laws.proofs.Lists.{take-shown}
-use Rattle.laws.specs.Lists.{at}
-use borrow.Author.Tests.{lt-ltb, eq-eqb}
-use Rattle.exchange.specs.declared.Step.{Step}
+use borrow.Author.Tests.{eq-eqb}
 use Rattle.exchange.specs.declared.Exchange.{Exchange}
-use Rattle.exchange.specs.Steps.{exchange, memoryAddress, chunk, stepBytes}
-use Rattle.exchange.specs.State.{head_of, Begun, begunBytes, begunIn, pushed}
+use Rattle.exchange.specs.Steps.{exchange, memoryAddress, chunk}
+use Rattle.exchange.specs.State.{headOf, Begun, begunBytes, begunIn}
 
 -- four parts laid over a list that they fill
 pub over-filled : (l a b c d : List ℕ) (i j k : ℕ) → length a ≡ i → i + length b ≡ j → j + length c ≡ k → length l ≡ k + length d
@@ -83,20 +81,14 @@ uploaded address first start n offset len image part bytes e a f g p q i =
 
 -- its four parts laid one behind the other are a session without steps
 pub begun-laid : (st : List ℕ) (b : Begun) (first second third fourth : List ℕ) → length st ≡ 279 → length b.image ≡ 100 → length b.«record» ≡ 37
-    → first ≡ over st 0 (head_of b 0) → second ≡ over first 17 b.image
+    → first ≡ over st 0 (headOf b 0) → second ≡ over first 17 b.image
     → third ≡ over second 117 b.«record» → fourth ≡ over third 154 (replicate 125 0)
     → fourth ≡ begunIn st b []
 unfolding begunIn
 begun-laid st b first second third fourth l m n p q r s =
-    let head : List ℕ = head_of b 0 in
+    let head : List ℕ = headOf b 0 in
     let none : List ℕ = replicate 125 0 in
     s ∙ ap (λ (x : List ℕ). over x 154 none) (r ∙ ap (λ (x : List ℕ). over x 117 b.«record») (q ∙ ap (λ (x : List ℕ). over x 17 b.image) p))
     ∙ over-filled st head b.image b.«record» none 17 117 154 refl (omega arith) (omega arith) l
     ∙ ap (λ (x : List ℕ). x ++ none) (sym (append-nil (head ++ b.image ++ b.«record»)))
     ∙ sym (ap (λ (t : Bool). cond t (begunBytes b []) st) (eq-eqb _ _ l))
-
--- a step pushed where there is room
-pub pushed_more : (st : List ℕ) (x : Step) → length st ≡ 279 → at st 6 < 25
-    → pushed st x ≡ over (set st 6 (at st 6 + 1)) (154 + 5 * at st 6) (stepBytes x)
-unfolding pushed
-pushed_more st x l h = simp (eq-eqb _ _ l, lt-ltb _ _ h)

@@ -12,7 +12,7 @@ use Rattle.exchange.specs.declared.Step.{Step}
 use Rattle.exchange.specs.declared.Step.TheVariants.{Store}
 use Rattle.exchange.specs.declared.Slot.{Slot}
 use Rattle.exchange.specs.declared.Slot.TheVariants.{Idle, At}
-use Rattle.exchange.specs.State.{isSession, isUnbroken, madeIn, stepCount, readCount, encodedStep, stepIn, indexed, plan, left, completed, slot_of}
+use Rattle.exchange.specs.State.{isSession, isUnbroken, madeIn, stepCount, readCount, encodedStep, stepIn, indexed, plan, left, completed, slotOf}
 
 -- ---- `indexed`
 
@@ -67,22 +67,22 @@ module _ (st : List ℕ) (o : isUnbroken st ≡ true) where
       ∙ indexed-same (stepIn st) (madeIn st) (madeIn st) (stepCount st + readCount st - madeIn st) (suc (stepCount st + readCount st - suc (madeIn st))) refl (omega arith)
 
   -- an encoded step comes next, or a memory read
-  pub slot-encoded : madeIn st < stepCount st → At (encodedStep st (madeIn st)) ≡ slot_of (left st)
-  slot-encoded k = sym (ap slot_of (left-next (omega (arith, k))) ∙ ap (λ (t : Bool). At (cond t (encodedStep st (madeIn st)) (Store (madeIn st - stepCount st)))) (lt-ltb _ _ k))
+  pub slot-encoded : madeIn st < stepCount st → At (encodedStep st (madeIn st)) ≡ slotOf (left st)
+  slot-encoded k = sym (ap slotOf (left-next (omega (arith, k))) ∙ ap (λ (t : Bool). At (cond t (encodedStep st (madeIn st)) (Store (madeIn st - stepCount st)))) (lt-ltb _ _ k))
 
-  pub slot-store : stepCount st ≤ madeIn st → madeIn st < stepCount st + readCount st → At (Store (madeIn st - stepCount st)) ≡ slot_of (left st)
-  slot-store k n = sym (ap slot_of (left-next n) ∙ ap (λ (t : Bool). At (cond t (encodedStep st (madeIn st)) (Store (madeIn st - stepCount st)))) (le-ltb _ _ k))
+  pub slot-store : stepCount st ≤ madeIn st → madeIn st < stepCount st + readCount st → At (Store (madeIn st - stepCount st)) ≡ slotOf (left st)
+  slot-store k n = sym (ap slotOf (left-next n) ∙ ap (λ (t : Bool). At (cond t (encodedStep st (madeIn st)) (Store (madeIn st - stepCount st)))) (le-ltb _ _ k))
 
 -- ---- where a session stands
 
-pub idle-none : (xs : List Step) → slot_of xs ≡ Idle → xs ≡ []
+pub idle-none : (xs : List Step) → slotOf xs ≡ Idle → xs ≡ []
 idle-none [] e = refl
-idle-none (x ∷ xs) e = absurd (subst is_at e tt) where
-  is_at : Slot → Type 0
-  is_at Idle = ⊥
-  is_at (At y) = Unit
+idle-none (x ∷ xs) e = absurd (subst isAt e tt) where
+  isAt : Slot → Type 0
+  isAt Idle = ⊥
+  isAt (At y) = Unit
 
-pub at_some : (xs : List Step) (x : Step) → slot_of xs ≡ At x → xs ≡ x ∷ drop 1 xs
+pub at_some : (xs : List Step) (x : Step) → slotOf xs ≡ At x → xs ≡ x ∷ drop 1 xs
 at_some [] x e = absurd (subst isIdle e tt) where
   isIdle : Slot → Type 0
   isIdle Idle = Unit

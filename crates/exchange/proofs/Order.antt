@@ -15,8 +15,8 @@ use Rattle.exchange.specs.declared.Fit.{Fit}
 use Rattle.exchange.specs.declared.Fit.TheVariants.{Unfit, Broke, Went, Got, Kept, Wrong}
 use Rattle.exchange.specs.Steps.{exchangeFor}
 use Rattle.exchange.specs.State.{isUnbroken, addressIn, countIn, imageIn, left}
-use Rattle.exchange.specs.Turn.{pendingOf, wanted, fitOf, effect_of}
-use Rattle.exchange.specs.Session.{exchangesOf, taken, AnswerCall, replyBytes, breaks, number_at, after_call, final, sent, came, brokenOff}
+use Rattle.exchange.specs.Turn.{pendingOf, wanted, fitOf, effectOf}
+use Rattle.exchange.specs.Session.{exchangesOf, taken, AnswerCall, replyBytes, breaks, numberAt, afterCall, final, sent, came, brokenOff}
 use Rattle.exchange.proofs.Effects.{made-taken, came-taken, stage-breaks}
 use Rattle.exchange.proofs.Moves.{latest}
 use Rattle.exchange.proofs.Turns.{Gone, Ended, Turned, turned}
@@ -92,7 +92,7 @@ module _ (st t : List ℕ) (cs : List AnswerCall) (k : Follows t cs) where
 
 -- by how the first answer fits
 run_by : (f : Fit) (st t : List ℕ) (cs : List AnswerCall) → Turned f st t → Follows t cs →
-    let e = effect_of f in
+    let e = effectOf f in
     RunFrom st (cond e.counts (pendingOf st ∷ []) [] ++ sent t cs) (e.came ++ came t cs) (eqb e.stage 2 || brokenOff t cs) (final t cs)
 run_by Unfit st t cs e k = rw e (rw e at k)
 run_by (Broke code) st t cs m k = run-ended st t cs k _ _ m
@@ -113,11 +113,11 @@ follows [] st = record {
 follows (c ∷ cs) st =
     let b = c.reply in
     let n = length c.buffer in
-    let t = after_call st c in
-    subst (λ (k : Bool). RunFrom st (cond k (pendingOf st ∷ []) [] ++ sent t cs) (cond (taken st c.reply (length c.buffer)) (replyBytes b) [] ++ came t cs) (breaks (number_at st c) || brokenOff t cs) (final t cs))
+    let t = afterCall st c in
+    subst (λ (k : Bool). RunFrom st (cond k (pendingOf st ∷ []) [] ++ sent t cs) (cond (taken st c.reply (length c.buffer)) (replyBytes b) [] ++ came t cs) (breaks (numberAt st c) || brokenOff t cs) (final t cs))
     (sym (made-taken st b n))
-    (subst (λ (l : List ℕ). RunFrom st (cond (effect_of (fitOf st b n)).counts (pendingOf st ∷ []) [] ++ sent t cs) (l ++ came t cs) (breaks (number_at st c) || brokenOff t cs) (final t cs))
+    (subst (λ (l : List ℕ). RunFrom st (cond (effectOf (fitOf st b n)).counts (pendingOf st ∷ []) [] ++ sent t cs) (l ++ came t cs) (breaks (numberAt st c) || brokenOff t cs) (final t cs))
     (sym (came-taken st b n))
-    (subst (λ (k : Bool). RunFrom st (cond (effect_of (fitOf st b n)).counts (pendingOf st ∷ []) [] ++ sent t cs) ((effect_of (fitOf st b n)).came ++ came t cs) (k || brokenOff t cs) (final t cs))
+    (subst (λ (k : Bool). RunFrom st (cond (effectOf (fitOf st b n)).counts (pendingOf st ∷ []) [] ++ sent t cs) ((effectOf (fitOf st b n)).came ++ came t cs) (k || brokenOff t cs) (final t cs))
     (sym (stage-breaks st b n))
     (run_by (fitOf st b n) st t cs (turned st c) (follows cs t))))

@@ -12,7 +12,7 @@ use borrow.Author.Tests.{lt-ltb, le-ltb}
 use Rattle.laws.specs.Lists.{joined, at}
 use Rattle.exchange.specs.declared.Step.{Step}
 use Rattle.exchange.specs.declared.Step.TheVariants.{Write, Read, Update, Match, Chunk, Store}
-use Rattle.exchange.specs.Steps.{step_of, stepBytes}
+use Rattle.exchange.specs.Steps.{stepOf, stepBytes}
 use Rattle.exchange.specs.State.{stepCount, readCount, encodedStep, stepIn, indexed, plan}
 
 -- ---- numbered steps
@@ -48,11 +48,11 @@ length-indexed f i (suc n) = ap suc (length-indexed f (suc i) n)
 
 -- the step that the i-th five bytes are
 abbrev pub stepAt : List ℕ → ℕ → Step
-stepAt l i = step_of (at l (5 * i)) (at l (1 + 5 * i)) (at l (2 + 5 * i)) (at l (3 + 5 * i)) (at l (4 + 5 * i))
+stepAt l i = stepOf (at l (5 * i)) (at l (1 + 5 * i)) (at l (2 + 5 * i)) (at l (3 + 5 * i)) (at l (4 + 5 * i))
 
 -- five bytes of a list are five bytes of the list's end from n on
 step-drop : (l : List ℕ) (n i a b c d e : ℕ) → a ≡ n + 5 * i → b ≡ n + (1 + 5 * i) → c ≡ n + (2 + 5 * i) → d ≡ n + (3 + 5 * i) → e ≡ n + (4 + 5 * i) →
-    step_of (at l a) (at l b) (at l c) (at l d) (at l e) ≡ stepAt (drop n l) i
+    stepOf (at l a) (at l b) (at l c) (at l d) (at l e) ≡ stepAt (drop n l) i
 step-drop l n i a b c d e p q r s t = simp (get_or-drop, p, q, r, s, t)
 
 -- the first five bytes of a step's bytes and others are the step

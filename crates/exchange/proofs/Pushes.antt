@@ -13,7 +13,7 @@ use Rattle.laws.proofs.Copies.{over-at}
 use Rattle.laws.specs.Lists.{joined}
 use Rattle.exchange.specs.declared.Step.{Step}
 use Rattle.exchange.specs.Steps.{stepBytes}
-use Rattle.exchange.specs.State.{isSession, head_of, Begun, begunBytes, begunIn, pushed, pushedAll}
+use Rattle.exchange.specs.State.{isSession, headOf, Begun, begunBytes, begunIn, pushed, pushedAll}
 use Rattle.exchange.proofs.Plan.{length-step, length-joined}
 use Rattle.exchange.proofs.Begins.{size}
 
@@ -45,7 +45,7 @@ push-none (y ∷ ys) st s = rw s (push-none ys st s)
 module _ (b : Begun) (image : length b.image ≡ 100) (recorded : length b.«record» ≡ 37) where
   -- what stands before the steps, where there are n
   abbrev front : ℕ → List ℕ
-  front n = head_of b n ++ b.image ++ b.«record»
+  front n = headOf b n ++ b.image ++ b.«record»
 
   -- one step more
   push-one : (xs : List Step) (x : Step) → length xs < 25 → pushed (begunBytes b xs) x ≡ begunBytes b (xs ++ (x ∷ []))

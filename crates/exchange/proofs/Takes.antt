@@ -14,7 +14,7 @@ use Rattle.exchange.specs.declared.Reply.TheVariants.{Done, Byte, Failed}
 use Rattle.exchange.specs.declared.Fit.{Fit}
 use Rattle.exchange.specs.declared.Fit.TheVariants.{Unfit, Went, Got, Kept, Wrong}
 use Rattle.exchange.specs.State.{countIn, left, noneLeft}
-use Rattle.exchange.specs.Turn.{pendingFor, wanted, byteFit, fittingOf, fitsNext, resized, fitOf, effect_of, stateAfter, bufferAfter, reportOf}
+use Rattle.exchange.specs.Turn.{pendingFor, wanted, byteFit, fittingOf, fitsNext, resized, fitOf, effectOf, stateAfter, bufferAfter, reportOf}
 use Rattle.exchange.specs.Session.{fitsExchange, taken}
 
 -- every step sends something
@@ -28,7 +28,7 @@ sends st (Store i) = refl
 
 -- by whether the buffer's length changed, the steps left, and the answer
 takes-by : (st : List ℕ) (k : Bool) (l : List Step) (a : Reply) →
-    eqb (effect_of (cond k Unfit (fitsNext l a))).number 19 ≡ not (fitsExchange (pendingFor st l) a && not k)
+    eqb (effectOf (cond k Unfit (fitsNext l a))).number 19 ≡ not (fitsExchange (pendingFor st l) a && not k)
 takes-by st true l a = ap not (sym (and-false (fitsExchange (pendingFor st l) a)))
 takes-by st false [] Done = refl
 takes-by st false [] (Byte b) = refl
@@ -44,7 +44,7 @@ takes-by st false (Read r ∷ xs) (Byte b) = refl
 takes-by st false (Update r s w v ∷ xs) (Byte b) = refl
 takes-by st false (Match r v ∷ xs) (Byte b) = go (eqb b v)
   where
-    go : (q : Bool) → eqb (effect_of (cond q (Got b) (Wrong b))).number 19 ≡ false
+    go : (q : Bool) → eqb (effectOf (cond q (Got b) (Wrong b))).number 19 ≡ false
     go true = refl
     go false = refl
 takes-by st false (Chunk i n ∷ xs) (Byte b) = ap (λ (b : Bool). not (b && false && true)) (sym (sends st (Chunk i n)))
@@ -63,7 +63,7 @@ unfolding reportOf fitOf
 fails st code n h = go (resized st n) (left st) h
   where
     go : (k : Bool) (l : List Step) → fitsExchange (pendingFor st l) (Failed code) && not k ≡ true →
-        ((effect_of (cond k Unfit (fitsNext l (Failed code)))).number ≡ 17) × ((effect_of (cond k Unfit (fitsNext l (Failed code)))).code ≡ code)
+        ((effectOf (cond k Unfit (fitsNext l (Failed code)))).number ≡ 17) × ((effectOf (cond k Unfit (fitsNext l (Failed code)))).code ≡ code)
     go true l h = absurd (true≢false (sym h ∙ and-false (fitsExchange (pendingFor st l) (Failed code))))
     go false [] h = absurd (true≢false (sym h))
     go false (x ∷ xs) h = (refl, refl)
@@ -73,24 +73,24 @@ pub done : (st : List ℕ) (n : ℕ) → taken st Done n ≡ true → (reportOf 
 unfolding reportOf fitOf
 done st n h = go (resized st n) (left st) (takes st Done n ∙ ap not h)
   where
-    wanting : (w : Bool) → eqb (effect_of (cond w Went Unfit)).number 19 ≡ false → (effect_of (cond w Went Unfit)).number ≡ 0
+    wanting : (w : Bool) → eqb (effectOf (cond w Went Unfit)).number 19 ≡ false → (effectOf (cond w Went Unfit)).number ≡ 0
     wanting true e = refl
     wanting false e = absurd (true≢false e)
 
-    go : (k : Bool) (l : List Step) → eqb (effect_of (cond k Unfit (fitsNext l Done))).number 19 ≡ false → (effect_of (cond k Unfit (fitsNext l Done))).number ≡ 0
+    go : (k : Bool) (l : List Step) → eqb (effectOf (cond k Unfit (fitsNext l Done))).number 19 ≡ false → (effectOf (cond k Unfit (fitsNext l Done))).number ≡ 0
     go true l e = absurd (true≢false e)
     go false [] e = absurd (true≢false e)
     go false (x ∷ xs) e = wanting (eqb (wanted x) 0) e
 
 -- a byte that is taken back is told as the step makes of it
 byte-told : (st : List ℕ) (x : Step) (xs : List Step) (b n : ℕ) → left st ≡ x ∷ xs → taken st (Byte b) n ≡ true →
-    (reportOf st (Byte b) n).number ≡ (effect_of (byteFit x b)).number
+    (reportOf st (Byte b) n).number ≡ (effectOf (byteFit x b)).number
 unfolding reportOf fitOf
 byte-told st x xs b n l h =
-    let p = ap (λ (l : List Step). (effect_of (cond (resized st n) Unfit (fitsNext l (Byte b)))).number) l in
+    let p = ap (λ (l : List Step). (effectOf (cond (resized st n) Unfit (fitsNext l (Byte b)))).number) l in
     p ∙ go (resized st n) (byteFit x b) (ap (λ (m : ℕ). eqb m 19) (sym p) ∙ takes st (Byte b) n ∙ ap not h)
   where
-    go : (k : Bool) (f : Fit) → eqb (effect_of (cond k Unfit f)).number 19 ≡ false → (effect_of (cond k Unfit f)).number ≡ (effect_of f).number
+    go : (k : Bool) (f : Fit) → eqb (effectOf (cond k Unfit f)).number 19 ≡ false → (effectOf (cond k Unfit f)).number ≡ (effectOf f).number
     go true f e = absurd (true≢false e)
     go false f e = refl
 
@@ -101,7 +101,7 @@ reads st x xs b n l m h =
     let p = byte-told st x xs b n l h in
     p ∙ go x m (ap (λ (m : ℕ). eqb m 19) (sym p) ∙ takes st (Byte b) n ∙ ap not h)
   where
-    go : (x : Step) → ((register value : ℕ) → x ≡ Match register value → ⊥) → eqb (effect_of (byteFit x b)).number 19 ≡ false → (effect_of (byteFit x b)).number ≡ 0
+    go : (x : Step) → ((register value : ℕ) → x ≡ Match register value → ⊥) → eqb (effectOf (byteFit x b)).number 19 ≡ false → (effectOf (byteFit x b)).number ≡ 0
     go (Write r v) m e = absurd (true≢false e)
     go (Read r) m e = refl
     go (Update r s w v) m e = absurd (true≢false e)
@@ -114,7 +114,7 @@ pub matches : (st : List ℕ) (xs : List Step) (register value b n : ℕ) → le
     (reportOf st (Byte b) n).number ≡ cond (eqb b value) 0 16
 matches st xs register value b n l h = byte-told st _ xs b n l h ∙ go (eqb b value)
   where
-    go : (q : Bool) → (effect_of (cond q (Got b) (Wrong b))).number ≡ cond q 0 16
+    go : (q : Bool) → (effectOf (cond q (Got b) (Wrong b))).number ≡ cond q 0 16
     go true = refl
     go false = refl
 
@@ -129,17 +129,17 @@ pub spares : (st : List ℕ) (x : Step) (xs : List Step) (a : Reply) (buffer : L
     bufferAfter st a buffer ≡ buffer
 unfolding bufferAfter fitOf
 spares st x xs a buffer l m =
-    ap (λ (l : List Step). (effect_of (cond (resized st (length buffer)) Unfit (fitsNext l a))).buffer buffer) l ∙ go (resized st (length buffer)) x a m
+    ap (λ (l : List Step). (effectOf (cond (resized st (length buffer)) Unfit (fitsNext l a))).buffer buffer) l ∙ go (resized st (length buffer)) x a m
   where
-    wanting : (w : Bool) → (effect_of (cond w Went Unfit)).buffer buffer ≡ buffer
+    wanting : (w : Bool) → (effectOf (cond w Went Unfit)).buffer buffer ≡ buffer
     wanting true = refl
     wanting false = refl
 
-    test : (q : Bool) (b : ℕ) → (effect_of (cond q (Got b) (Wrong b))).buffer buffer ≡ buffer
+    test : (q : Bool) (b : ℕ) → (effectOf (cond q (Got b) (Wrong b))).buffer buffer ≡ buffer
     test true b = refl
     test false b = refl
 
-    go : (k : Bool) (x : Step) (a : Reply) → ((i : ℕ) → x ≡ Store i → ⊥) → (effect_of (cond k Unfit (fittingOf x a))).buffer buffer ≡ buffer
+    go : (k : Bool) (x : Step) (a : Reply) → ((i : ℕ) → x ≡ Store i → ⊥) → (effectOf (cond k Unfit (fittingOf x a))).buffer buffer ≡ buffer
     go true x a m = refl
     go false x (Failed code) m = refl
     go false x Done m = wanting (eqb (wanted x) 0)
@@ -156,10 +156,10 @@ pub stores : (st : List ℕ) (xs : List Step) (i b : ℕ) (buffer : List ℕ) �
 unfolding bufferAfter fitOf
 stores st xs i b buffer l h =
     let n = length buffer in
-    let p = ap (λ (l : List Step). (effect_of (cond (resized st n) Unfit (fitsNext l (Byte b)))).buffer buffer) l in
+    let p = ap (λ (l : List Step). (effectOf (cond (resized st n) Unfit (fitsNext l (Byte b)))).buffer buffer) l in
     p ∙ go (resized st n) (ap (λ (l : List Step). fitsExchange (pendingFor st l) (Byte b) && not (resized st n)) (sym l) ∙ h)
   where
-    go : (k : Bool) → fitsExchange (pendingFor st (Store i ∷ xs)) (Byte b) && not k ≡ true → (effect_of (cond k Unfit (Kept i b))).buffer buffer ≡ set buffer i b
+    go : (k : Bool) → fitsExchange (pendingFor st (Store i ∷ xs)) (Byte b) && not k ≡ true → (effectOf (cond k Unfit (Kept i b))).buffer buffer ≡ set buffer i b
     go true e = absurd (true≢false (sym e ∙ and-false (fitsExchange (pendingFor st (Store i ∷ xs)) (Byte b))))
     go false e = refl
 
@@ -168,7 +168,7 @@ pub unstored : (st : List ℕ) (code : ℕ) (buffer : List ℕ) → bufferAfter 
 unfolding bufferAfter fitOf
 unstored st code buffer = go (resized st (length buffer)) (left st)
   where
-    go : (k : Bool) (l : List Step) → (effect_of (cond k Unfit (fitsNext l (Failed code)))).buffer buffer ≡ buffer
+    go : (k : Bool) (l : List Step) → (effectOf (cond k Unfit (fitsNext l (Failed code)))).buffer buffer ≡ buffer
     go true l = refl
     go false [] = refl
     go false (x ∷ xs) = refl

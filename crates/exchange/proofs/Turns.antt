@@ -14,8 +14,8 @@ use Rattle.exchange.specs.declared.Reply.TheVariants.{Done, Byte, Failed}
 use Rattle.exchange.specs.declared.Fit.{Fit}
 use Rattle.exchange.specs.declared.Fit.TheVariants.{Unfit, Broke, Went, Got, Kept, Wrong}
 use Rattle.exchange.specs.State.{countIn, isUnbroken, left}
-use Rattle.exchange.specs.Turn.{wanted, fitsNext, resized, fitOf, effect_of, moved, stateAfter, bufferAfter, reportOf}
-use Rattle.exchange.specs.Session.{AnswerCall, after_call}
+use Rattle.exchange.specs.Turn.{wanted, fitsNext, resized, fitOf, effectOf, moved, stateAfter, bufferAfter, reportOf}
+use Rattle.exchange.specs.Session.{AnswerCall, afterCall}
 use Rattle.exchange.proofs.Moves.{counts-more, Moved, moves, left-going, going-open, goes_on, left-moved, breaks-off, left-broken, stateBy}
 
 -- a step was made, and the session goes on to the next
@@ -49,7 +49,7 @@ Turned (Kept i b) st t = Gone st t (b ∷ [])
 Turned (Wrong b) st t = Ended st t (b ∷ [])
 
 abbrev TurnedBy : List ℕ → Fit → Type 0
-TurnedBy st f = Turned f st (stateBy st (effect_of f))
+TurnedBy st f = Turned f st (stateBy st (effectOf f))
 
 module _ (st : List ℕ) (x : Step) (xs : List Step) (e : left st ≡ x ∷ xs) where
   -- a move that goes on, and one that breaks off
@@ -106,8 +106,8 @@ turned_by st false (Chunk i n ∷ xs) e (Byte b) = refl
 turned_by st false (Store i ∷ xs) e (Byte b) = gone st _ xs e (b ∷ []) refl
 
 -- every answer does what its fit says
-pub turned : (st : List ℕ) (c : AnswerCall) → Turned (fitOf st c.reply (length c.buffer)) st (after_call st c)
-unfolding after_call fitOf stateAfter
+pub turned : (st : List ℕ) (c : AnswerCall) → Turned (fitOf st c.reply (length c.buffer)) st (afterCall st c)
+unfolding afterCall fitOf stateAfter
 turned st c = turned_by st (resized st (length c.buffer)) (left st) refl c.reply
 
 -- 19 is told where an answer does not fit
@@ -116,7 +116,7 @@ pub refused : (st : List ℕ) (a : Reply) (buffer : List ℕ) → (reportOf st a
 unfolding reportOf stateAfter bufferAfter
 refused st a buffer h = go (fitOf st a (length buffer)) h
   where
-    go : (f : Fit) → (effect_of f).number ≡ 19 → (stateBy st (effect_of f) ≡ st) × ((effect_of f).buffer buffer ≡ buffer)
+    go : (f : Fit) → (effectOf f).number ≡ 19 → (stateBy st (effectOf f) ≡ st) × ((effectOf f).buffer buffer ≡ buffer)
     go Unfit e = (refl, refl)
     go (Broke code) e = absurd (omega (arith, e))
     go Went e = absurd (omega (arith, e))

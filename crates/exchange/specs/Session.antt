@@ -46,30 +46,30 @@ pub record AnswerCall : Type 0 where
   pub reply : Reply
   pub buffer : List ℕ
 
-abbrev pub number_at : List ℕ → AnswerCall → ℕ
-number_at st c = (reportOf st c.reply (length c.buffer)).number
+abbrev pub numberAt : List ℕ → AnswerCall → ℕ
+numberAt st c = (reportOf st c.reply (length c.buffer)).number
 
-unfoldable pub after_call : List ℕ → AnswerCall → List ℕ
-after_call st c = stateAfter st c.reply (length c.buffer)
+unfoldable pub afterCall : List ℕ → AnswerCall → List ℕ
+afterCall st c = stateAfter st c.reply (length c.buffer)
 
 abbrev pub final : List ℕ → List AnswerCall → List ℕ
 final st [] = st
-final st (c ∷ cs) = final (after_call st c) cs
+final st (c ∷ cs) = final (afterCall st c) cs
 
 -- the exchanges that were made: those pending when a fitting answer was taken back
 abbrev pub sent : List ℕ → List AnswerCall → List Exchange
 sent st [] = []
-sent st (c ∷ cs) = cond (taken st c.reply (length c.buffer)) (pendingOf st ∷ []) [] ++ sent (after_call st c) cs
+sent st (c ∷ cs) = cond (taken st c.reply (length c.buffer)) (pendingOf st ∷ []) [] ++ sent (afterCall st c) cs
 
 -- the bytes that came back with them
 abbrev pub came : List ℕ → List AnswerCall → List ℕ
 came st [] = []
-came st (c ∷ cs) = cond (taken st c.reply (length c.buffer)) (replyBytes c.reply) [] ++ came (after_call st c) cs
+came st (c ∷ cs) = cond (taken st c.reply (length c.buffer)) (replyBytes c.reply) [] ++ came (afterCall st c) cs
 
 -- whether 16 or 17 was told
 abbrev pub brokenOff : List ℕ → List AnswerCall → Bool
 brokenOff st [] = false
-brokenOff st (c ∷ cs) = breaks (number_at st c) || brokenOff (after_call st c) cs
+brokenOff st (c ∷ cs) = breaks (numberAt st c) || brokenOff (afterCall st c) cs
 
 -- the calls where one buffer is lent at every answer and left alone in between
 abbrev pub lending : List ℕ → List ℕ → List Reply → List AnswerCall

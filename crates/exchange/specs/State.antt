@@ -7,12 +7,12 @@
 --   3 the last three bytes read, the newest first
 use Rattle.std.specs.Prelude.{ℕ, suc, zero, ◌+◌, ◌-◌, ◌*◌, min, Bool, true, false, cond, ◌&&◌, List, [], ◌∷◌, ◌++◌, map, ltb, leb, eqb, length, take, drop, set, replicate}
 use Rattle.laws.specs.Copied.{over}
-use Rattle.laws.specs.Lists.{joined, at, low_bytes}
+use Rattle.laws.specs.Lists.{joined, at, lowBytes}
 use Rattle.exchange.specs.declared.Slot.{Slot}
 use Rattle.exchange.specs.declared.Slot.TheVariants.{Idle, At}
 use Rattle.exchange.specs.declared.Step.{Step}
 use Rattle.exchange.specs.declared.Step.TheVariants.{Store}
-use Rattle.exchange.specs.Steps.{step_of, stepBytes}
+use Rattle.exchange.specs.Steps.{stepOf, stepBytes}
 
 abbrev pub isSession : List ℕ → Bool
 isSession st = eqb (length st) 279
@@ -47,12 +47,12 @@ abbrev pub readCount : List ℕ → ℕ
 readCount st = min (at st 7) 100
 
 -- least byte first
-abbrev pub word_at : List ℕ → ℕ → ℕ
-word_at st i = at st i + 256 * at st (i + 1) + 65536 * at st (i + 2) + 16777216 * at st (i + 3)
+abbrev pub wordAt : List ℕ → ℕ → ℕ
+wordAt st i = at st i + 256 * at st (i + 1) + 65536 * at st (i + 2) + 16777216 * at st (i + 3)
 
 -- the length that the read buffer had at the start
 abbrev pub roomIn : List ℕ → ℕ
-roomIn st = word_at st 8 + 4294967296 * word_at st 12
+roomIn st = wordAt st 8 + 4294967296 * wordAt st 12
 
 -- a code of `outcome`
 abbrev pub purposeIn : List ℕ → ℕ
@@ -65,11 +65,11 @@ abbrev pub recordIn : List ℕ → List ℕ
 recordIn st = take 37 (drop 117 st)
 
 -- where the i-th step stands
-abbrev pub place_of : ℕ → ℕ
-place_of i = 154 + 5 * i
+abbrev pub placeOf : ℕ → ℕ
+placeOf i = 154 + 5 * i
 
 abbrev pub encodedStep : List ℕ → ℕ → Step
-encodedStep st i = step_of (at st (place_of i)) (at st (place_of i + 1)) (at st (place_of i + 2)) (at st (place_of i + 3)) (at st (place_of i + 4))
+encodedStep st i = stepOf (at st (placeOf i)) (at st (placeOf i + 1)) (at st (placeOf i + 2)) (at st (placeOf i + 3)) (at st (placeOf i + 4))
 
 -- the encoded steps, and behind them one memory read for each index
 abbrev pub stepIn : List ℕ → ℕ → Step
@@ -93,9 +93,9 @@ unfoldable pub completed : List ℕ → Bool
 completed st = isUnbroken st && leb (stepCount st + readCount st) (madeIn st)
 
 -- where a session stands
-abbrev pub slot_of : List Step → Slot
-slot_of [] = Idle
-slot_of (x ∷ xs) = At x
+abbrev pub slotOf : List Step → Slot
+slotOf [] = Idle
+slotOf (x ∷ xs) = At x
 
 abbrev pub noneLeft : List Step → Bool
 noneLeft [] = true
@@ -116,13 +116,13 @@ abbrev pub begunWith : ℕ → ℕ → ℕ → ℕ → List ℕ → List ℕ →
 begunWith address reads room purpose image r = record { address = address; reads = reads; room = room; purpose = purpose; image = image; «record» = r }
 
 -- the first seventeen bytes
-abbrev pub head_of : Begun → ℕ → List ℕ
-head_of b steps = b.address ∷ 1 ∷ 0 ∷ 0 ∷ 0 ∷ 0 ∷ steps ∷ b.reads ∷ (low_bytes 8 b.room ++ (b.purpose ∷ []))
+abbrev pub headOf : Begun → ℕ → List ℕ
+headOf b steps = b.address ∷ 1 ∷ 0 ∷ 0 ∷ 0 ∷ 0 ∷ steps ∷ b.reads ∷ (lowBytes 8 b.room ++ (b.purpose ∷ []))
 
 -- the bytes of a session that has these steps, and has made none
 abbrev pub begunBytes : Begun → List Step → List ℕ
 begunBytes b xs =
-    head_of b (length xs) ++ b.image ++ b.«record» ++ joined (map stepBytes xs) ++ replicate (125 - 5 * length xs) 0
+    headOf b (length xs) ++ b.image ++ b.«record» ++ joined (map stepBytes xs) ++ replicate (125 - 5 * length xs) 0
 
 -- bytes that are no session stay as they are
 unfoldable pub begunIn : List ℕ → Begun → List Step → List ℕ
@@ -130,7 +130,7 @@ begunIn st b xs = cond (isSession st) (begunBytes b xs) st
 
 -- a step more, where there is room for it
 unfoldable pub pushed : List ℕ → Step → List ℕ
-pushed st x = cond (isSession st && ltb (at st 6) 25) (over (set st 6 (at st 6 + 1)) (place_of (at st 6)) (stepBytes x)) st
+pushed st x = cond (isSession st && ltb (at st 6) 25) (over (set st 6 (at st 6 + 1)) (placeOf (at st 6)) (stepBytes x)) st
 
 abbrev pub pushedAll : List ℕ → List Step → List ℕ
 pushedAll st [] = st

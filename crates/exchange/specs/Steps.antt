@@ -1,7 +1,7 @@
 -- The steps of an operation, and the exchange that a step is: document 01, 'Exchanges'.
 use Rattle.std.specs.Prelude.{ℕ, ◌+◌, ◌-◌, ◌%◌, min, List, [], ◌∷◌, ◌++◌, length, take, drop, get_or, replicate}
 use Rattle.field.specs.Field.{withOf}
-use Rattle.registers.specs.Table.{address_of}
+use Rattle.registers.specs.Table.{addressOf}
 use Rattle.exchange.specs.declared.Step.{Step}
 use Rattle.exchange.specs.declared.Step.TheVariants.{Write, Read, Update, Match, Chunk, Store}
 use Rattle.exchange.specs.declared.Exchange.{Exchange}
@@ -12,7 +12,7 @@ exchange address bytes wanted = record { address = address; bytes = bytes ++ rep
 
 -- "from address 84 (hexadecimal)"; no index below 100 reaches 256
 abbrev pub memoryAddress : ℕ → ℕ
-memoryAddress i = (address_of "SNP_MEM_0" + i) % 256
+memoryAddress i = (addressOf "SNP_MEM_0" + i) % 256
 
 -- "in chunks of 32"
 abbrev pub chunk : List ℕ → ℕ → ℕ → List ℕ
@@ -38,5 +38,5 @@ stepBytes (Chunk offset len) = 4 ∷ offset ∷ len ∷ 0 ∷ 0 ∷ []
 stepBytes (Store index) = 5 ∷ index ∷ 0 ∷ 0 ∷ 0 ∷ []
 
 -- a kind past the last counts as the last
-abbrev pub step_of : ℕ → ℕ → ℕ → ℕ → ℕ → Step
-step_of kind a b c d = get_or (Write a b ∷ Read a ∷ Update a c d b ∷ Match a b ∷ Chunk a b ∷ []) kind (Store a)
+abbrev pub stepOf : ℕ → ℕ → ℕ → ℕ → ℕ → Step
+stepOf kind a b c d = get_or (Write a b ∷ Read a ∷ Update a c d b ∷ Match a b ∷ Chunk a b ∷ []) kind (Store a)

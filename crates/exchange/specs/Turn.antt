@@ -79,13 +79,13 @@ abbrev pub effect : ℕ → ℕ → Bool → ℕ → List ℕ → (List ℕ → 
 effect number code counts stage came buffer = record { number = number; code = code; counts = counts; stage = stage; came = came; buffer = buffer }
 
 -- 16 and 17 end the session; "Each byte read is stored at its own index in the buffer lent with that answer, and that call changes no other byte"
-abbrev pub effect_of : Fit → Effect
-effect_of Unfit = effect 19 0 false 1 [] (λ l. l)
-effect_of (Broke code) = effect 17 code true 2 [] (λ l. l)
-effect_of Went = effect 0 0 true 1 [] (λ l. l)
-effect_of (Got b) = effect 0 0 true 1 (b ∷ []) (λ l. l)
-effect_of (Kept i b) = effect 0 0 true 1 (b ∷ []) (λ l. set l i b)
-effect_of (Wrong b) = effect 16 0 true 2 (b ∷ []) (λ l. l)
+abbrev pub effectOf : Fit → Effect
+effectOf Unfit = effect 19 0 false 1 [] (λ l. l)
+effectOf (Broke code) = effect 17 code true 2 [] (λ l. l)
+effectOf Went = effect 0 0 true 1 [] (λ l. l)
+effectOf (Got b) = effect 0 0 true 1 (b ∷ []) (λ l. l)
+effectOf (Kept i b) = effect 0 0 true 1 (b ∷ []) (λ l. set l i b)
+effectOf (Wrong b) = effect 16 0 true 2 (b ∷ []) (λ l. l)
 
 -- the state with another count and stage, and the last three bytes read
 abbrev pub moved : List ℕ → ℕ → List ℕ → List ℕ
@@ -93,10 +93,10 @@ moved st stage came = over st 1 (stage ∷ (madeIn st + 1) ∷ take 3 (came ++ (
 
 -- a refusal hands back the session as it came in
 unfoldable pub stateAfter : List ℕ → Reply → ℕ → List ℕ
-stateAfter st a n = let e = effect_of (fitOf st a n) in cond e.counts (moved st e.stage e.came) st
+stateAfter st a n = let e = effectOf (fitOf st a n) in cond e.counts (moved st e.stage e.came) st
 
 unfoldable pub bufferAfter : List ℕ → Reply → List ℕ → List ℕ
-bufferAfter st a l = (effect_of (fitOf st a (length l))).buffer l
+bufferAfter st a l = (effectOf (fitOf st a (length l))).buffer l
 
 -- ---- what is answered
 
@@ -109,7 +109,7 @@ pub record Report : Type 0 where
 
 unfoldable pub reportOf : List ℕ → Reply → ℕ → Report
 reportOf st a n =
-    let e = effect_of (fitOf st a n) in
+    let e = effectOf (fitOf st a n) in
     record { number = e.number; code = e.code; made = countIn (stateAfter st a n); ended = noneLeft (left (stateAfter st a n)) }
 
 -- a turn in document 01's numbers

@@ -10,8 +10,8 @@
 ghost use Rattle.std.specs.Prelude.{◌≡◌, cond, ◌+◌, ◌*◌, ◌≤◌, ◌<◌, min, [], ◌∷◌, length, set};
 ghost use Rattle.laws.specs.Copied.{over};
 ghost use Rattle.laws.specs.Lists.{at};
-ghost use Rattle.exchange.specs.Steps.{exchange, memoryAddress, chunk, exchangeFor, stepBytes, step_of};
-ghost use Rattle.exchange.specs.State.{addressIn, countIn, roomIn, imageIn, encodedStep, left, noneLeft, slot_of, completed, head_of, begunWith, begunIn, pushed};
+ghost use Rattle.exchange.specs.Steps.{exchange, memoryAddress, chunk, exchangeFor, stepBytes, stepOf};
+ghost use Rattle.exchange.specs.State.{addressIn, countIn, roomIn, imageIn, encodedStep, left, noneLeft, slotOf, completed, headOf, begunWith, begunIn, pushed};
 ghost use Rattle.exchange.specs.Turn.{pendingOf, fittingOf, resized, fitOf, going, moved, stateAfter, bufferAfter, reportOf, turnReport, turnIn};
 
 use errors::{Answer, Error};
@@ -114,6 +114,7 @@ enum Fit {
 }
 
 // Begins a session without steps; the caller's bytes stay as they are if they are not as many as a session has.
+#[tactic(auto, unfolding(crate::specs::State::begunIn))]
 pub fn begin(
     session: &mut [u8],
     address: u8,
@@ -137,7 +138,7 @@ pub fn begin(
 
 // The first seventeen bytes; eight of them are the length of the read buffer, least byte first.
 fn heading(address: u8, reads: u8, room: usize, purpose: u8) -> [u8; 17]
-    ensures { result ≡ head_of (begunWith address reads room purpose [] []) 0 }
+    ensures { result ≡ headOf (begunWith address reads room purpose [] []) 0 }
 {
     let q1 = room / 256;
     let q2 = q1 / 256;
@@ -176,6 +177,7 @@ fn lay(lent: &mut [u8], at: usize, bytes: &[u8])
 }
 
 // A step more, where there is room for it.
+#[tactic(auto, unfolding(crate::specs::State::pushed))]
 pub fn push(session: &mut [u8], step: Step)
     ensures { session.new ≡ pushed session.old step }
 {
@@ -203,7 +205,7 @@ fn step_bytes(step: Step) -> [u8; 5]
 }
 
 fn step_of(kind: u8, a: u8, b: u8, c: u8, d: u8) -> Step
-    ensures { result ≡ step_of kind a b c d }
+    ensures { result ≡ stepOf kind a b c d }
 {
     match kind {
         0 => Step::Write(a, b),
@@ -223,7 +225,7 @@ fn least(a: u8, b: u8) -> u8
 
 // The step that comes next.
 fn current(session: &[u8]) -> Slot
-    ensures { result ≡ slot_of (left session.now) }
+    ensures { result ≡ slotOf (left session.now) }
 {
     if session.len() != SESSION_SIZE {
         return Slot::Idle;
@@ -353,6 +355,7 @@ fn memory_address(index: u8) -> u8
 }
 
 // Takes back what the bus answered, with the buffer that a memory read fills (any, where the operation reads none).
+#[tactic(auto, unfolding(crate::specs::Turn::reportOf, crate::specs::Turn::stateAfter, crate::specs::Turn::bufferAfter))]
 pub fn answer(session: &mut [u8], reply: Reply, buffer: &mut [u8]) -> Turn
     ensures result_value { turnReport result ≡ reportOf session.old reply (length buffer.old) }
     ensures session_after { session.new ≡ stateAfter session.old reply (length buffer.old) }
@@ -457,6 +460,7 @@ pub fn is_over(session: &[u8]) -> bool
 }
 
 // Whether every step was made.
+#[tactic(auto, unfolding(crate::specs::State::completed))]
 pub fn is_completed(session: &[u8]) -> bool
     ensures { result ≡ completed session.now }
 {

@@ -6,7 +6,7 @@ use Prim.Native.Nat.{ℕ, ◌+◌, ◌-◌, ◌*◌, ◌/◌, ◌%◌, ◌^◌, 
 use native.Mathlib.Nat.{mod-lt, add-mul, mul_assoc, mul_comm, add_comm}
 use native.Mathlib.Omega.{arith}
 use lib.Pow.{pow_pos, pow-add, shr-shr, split, high, low, mod-pow-add, field, mod-mod-pow}
-use Rattle.field.specs.Field.{getOf, width_in, spliced, withOf}
+use Rattle.field.specs.Field.{getOf, widthIn, spliced, withOf}
 
 module _ (b s w v : ℕ) where
   -- the parts by their shifts, as the code makes them
@@ -55,7 +55,7 @@ module _ (b s w v : ℕ) where
   -- a field within the byte is not cut
   whole : s + w ≤ 8 → withOf b s w v ≡ spliced b s w v
   unfolding withOf
-  whole h = let e : width_in s w ≡ w = omega arith in ap (λ (k : ℕ). spliced b s k v) e
+  whole h = let e : widthIn s w ≡ w = omega arith in ap (λ (k : ℕ). spliced b s k v) e
 
   -- the field reads the value, as far as it is wide
   pub with-own : s + w ≤ 8 → getOf (withOf b s w v) s w ≡ v % 2 ^ w
@@ -64,9 +64,9 @@ module _ (b s w v : ℕ) where
   -- a field below it reads as before
   pub with-below : (t u : ℕ) → t + u ≤ s → getOf (withOf b s w v) t u ≡ getOf b t u
   unfolding withOf
-  with-below t u h = below b s (width_in s w) v t u (s - (u + t)) (omega arith)
+  with-below t u h = below b s (widthIn s w) v t u (s - (u + t)) (omega arith)
 
   -- a field above it reads as before
   pub with-above : (t u : ℕ) → s + w ≤ t → getOf (withOf b s w v) t u ≡ getOf b t u
   unfolding withOf
-  with-above t u h = above b s (width_in s w) v t u (t - (s + width_in s w)) (omega arith)
+  with-above t u h = above b s (widthIn s w) v t u (t - (s + widthIn s w)) (omega arith)

@@ -6,7 +6,7 @@ use native.Mathlib.Nat.{mod-eq_of_lt, div-eq_of_lt, lt_of_lt_of_le, lt_of_le_of_
 use native.Mathlib.Omega.{arith}
 use lib.Bits.{bit_and, bit_or, and_mask, or_shifted, or_lt}
 use lib.Pow.{pow_pos, pow_mono, shl_lt, shr_lt, shl_exact, shr_le, split}
-use Rattle.field.specs.Field.{getOf, width_in, spliced, withOf}
+use Rattle.field.specs.Field.{getOf, widthIn, spliced, withOf}
 use Rattle.field.proofs.Own.{nested}
 
 -- the shift of 1 does not wrap
@@ -33,7 +33,7 @@ get-wide b s w hb h = sym (mod-eq_of_lt (lt_of_le_of_lt (shr_le b s) (lt_of_lt_o
 pub with_out : (b s w v : ℕ) → 8 ≤ s → b ≡ withOf b s w v
 unfolding withOf
 with_out b s w v h =
-    let e : width_in s w ≡ 0 = omega arith in
+    let e : widthIn s w ≡ 0 = omega arith in
     let z : s + 0 ≡ s = omega arith in
     let o : v % 1 ≡ 0 = omega arith in
     simp (e, z, o) (omega (arith, split b s))
@@ -82,7 +82,7 @@ module _ (b s w v j : ℕ) (hb : b < 256) (hj : j + (s + w) ≡ 8) where
       ∙ sym (nested b s w v)
 
 -- with what the calls of `cut` and `low` answered
-module _ (b s d v w l m : ℕ) (hb : b < 256) (h : s < 8) (e : w ≡ width_in s d) (f : l ≡ v % 2 ^ w) (g : m ≡ b % 2 ^ s) where
+module _ (b s d v w l m : ℕ) (hb : b < 256) (h : s < 8) (e : w ≡ widthIn s d) (f : l ≡ v % 2 ^ w) (g : m ≡ b % 2 ^ s) where
   -- what is left of the byte above the field
   fits : 8 - s - w + (s + w) ≡ 8
   fits = omega arith

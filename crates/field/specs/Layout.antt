@@ -1,5 +1,5 @@
 -- A register as the list of its parts. Document 01, "Settings to registers": "A register's fields fill from bit 0 up in the
--- written order". `start_of` sums the widths that are written before a name, and `byField` goes from part to part.
+-- written order". `startOf` sums the widths that are written before a name, and `byField` goes from part to part.
 use Rattle.std.specs.Prelude.{ℕ, ◌+◌, Bool, true, false, cond, ◌||◌, List, [], ◌∷◌, ◌++◌}
 use Prim.Native.String.{String}
 use lib.Text.{eqt}
@@ -19,14 +19,14 @@ abbrev pub entry : String → ℕ → List Part → Entry
 entry name address parts = record { name = name; address = address; parts = parts }
 
 -- a field's first bit
-abbrev pub start_of : List Part → String → ℕ
-start_of [] n = 0
-start_of (part m w ∷ ps) n = cond (eqt m n) 0 (w + start_of ps n)
+abbrev pub startOf : List Part → String → ℕ
+startOf [] n = 0
+startOf (part m w ∷ ps) n = cond (eqt m n) 0 (w + startOf ps n)
 
 -- how many bits a field has; none where no part has the name
-abbrev pub width_of : List Part → String → ℕ
-width_of [] n = 0
-width_of (part m w ∷ ps) n = cond (eqt m n) w (width_of ps n)
+abbrev pub widthOf : List Part → String → ℕ
+widthOf [] n = 0
+widthOf (part m w ∷ ps) n = cond (eqt m n) w (widthOf ps n)
 
 -- how many bits a register has
 abbrev pub total : List Part → ℕ
@@ -34,16 +34,16 @@ total [] = 0
 total (part m w ∷ ps) = w + total ps
 
 -- what a named field reads in a byte
-abbrev pub get_at : List Part → String → ℕ → ℕ
-get_at ps n b = getOf b (start_of ps n) (width_of ps n)
+abbrev pub getAt : List Part → String → ℕ → ℕ
+getAt ps n b = getOf b (startOf ps n) (widthOf ps n)
 
 -- whether a named flag is set in a byte
-abbrev pub is_at : List Part → String → ℕ → Bool
-is_at ps n b = flagOf b (start_of ps n)
+abbrev pub isAt : List Part → String → ℕ → Bool
+isAt ps n b = flagOf b (startOf ps n)
 
 -- the byte with a named field replaced
 abbrev pub withAt : List Part → String → ℕ → ℕ → ℕ
-withAt ps n b v = withOf b (start_of ps n) (width_of ps n) v
+withAt ps n b v = withOf b (startOf ps n) (widthOf ps n) v
 
 -- whether a name is in a list
 abbrev pub among : String → List String → Bool
@@ -66,4 +66,4 @@ readings es b = byField (getOf b) ("__" ∷ []) es
 
 -- what each field's register holds once the field is replaced by `v` in `b`; read-only fields are left out
 abbrev pub replacements : List String → List Entry → ℕ → ℕ → List ℕ
-replacements read_only es b v = byField (λ s w. withOf b s w v) ("__" ∷ read_only) es
+replacements readOnly es b v = byField (λ s w. withOf b s w v) ("__" ∷ readOnly) es

@@ -8,7 +8,7 @@
 #![tactic(auto)]
 
 ghost use Rattle.std.specs.Prelude.{◌≡◌, ◌%◌, ◌^◌, ◌<◌, ◌≤◌};
-ghost use Rattle.field.specs.Field.{getOf, width_in, withOf, flagOf, code_of};
+ghost use Rattle.field.specs.Field.{getOf, widthIn, withOf, flagOf, codeOf};
 
 // The field's value.
 #[tactic(auto, unfolding(crate::specs::Field::getOf))]
@@ -48,7 +48,7 @@ pub fn flag(b: u8, shift: u8) -> bool
 
 // The byte with the bit at `shift` set or cleared.
 pub fn with_flag(b: u8, shift: u8, on: bool) -> u8
-    ensures { result ≡ withOf b shift 1 (code_of on) }
+    ensures { result ≡ withOf b shift 1 (codeOf on) }
 {
     with(b, shift, 1, on as u8)
 }
@@ -56,7 +56,7 @@ pub fn with_flag(b: u8, shift: u8, on: bool) -> u8
 // As much of the width as a byte has room for.
 fn cut(shift: u8, width: u8) -> u8
     requires { shift < 8 }
-    ensures { result ≡ width_in shift width }
+    ensures { result ≡ widthIn shift width }
 {
     let left = 8 - shift;
     if width <= left {

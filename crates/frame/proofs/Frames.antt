@@ -14,7 +14,7 @@ use Rattle.frame.specs.declared.Frequency.{Frequency}
 use Rattle.frame.specs.declared.Frequency.TheVariants as Frequency
 use Rattle.frame.specs.declared.FrameBuilder.{FrameBuilder}
 use Rattle.frame.specs.Agreement.{Agree, FrameAdmitted}
-use Rattle.frame.specs.Frame.{bytes_of, hasSecond, secondByte}
+use Rattle.frame.specs.Frame.{bytesOf, hasSecond, secondByte}
 use Rattle.frame.proofs.Parts.{loops, frequencyBits, thirdByte}
 use Rattle.frame.specs.Read.{Parsed, readFrame}
 use Rattle.frame.proofs.Canon.{canon, canon-agree, agree-canon}
@@ -34,20 +34,20 @@ third-bytes Frequency.Absent = tt
 third-bytes (Frequency.Given q) = (omega arith, tt)
 
 -- a frame's bytes are bytes
-pub frame-bytes : (f : FrameBuilder) → Bytes (bytes_of f)
+pub frame-bytes : (f : FrameBuilder) → Bytes (bytesOf f)
 frame-bytes f = (omega (arith, first_small f), go (hasSecond f)) where
   go : (t : Bool) → Bytes (cond t (secondByte f ∷ thirdByte f.frequency) [])
   go true = (omega (arith, loops-small f.loop_count, frequency-small f.frequency), third-bytes f.frequency)
   go false = tt
 
-alone : (f : FrameBuilder) → FrameAdmitted f → readFrame (bytes_of f) ≡ some (record { frame = canon f; rest = [] })
-alone f h = ap readFrame (sym (append-nil {A = ℕ} (bytes_of f))) ∙ complete f h [] tt
+alone : (f : FrameBuilder) → FrameAdmitted f → readFrame (bytesOf f) ≡ some (record { frame = canon f; rest = [] })
+alone f h = ap readFrame (sym (append-nil {A = ℕ} (bytesOf f))) ∙ complete f h [] tt
 
-pub canon-bytes : (f : FrameBuilder) → FrameAdmitted f → bytes_of (canon f) ≡ bytes_of f
-canon-bytes f h = sym (append-nil {A = ℕ} (bytes_of (canon f))) ∙ (sound (bytes_of f) _ (frame-bytes f) (alone f h)).1
+pub canon-bytes : (f : FrameBuilder) → FrameAdmitted f → bytesOf (canon f) ≡ bytesOf f
+canon-bytes f h = sym (append-nil {A = ℕ} (bytesOf (canon f))) ∙ (sound (bytesOf f) _ (frame-bytes f) (alone f h)).1
 
-pub same_bytes : (f g : FrameBuilder) → FrameAdmitted f → FrameAdmitted g → (bytes_of f ≡ bytes_of g) ↔ Agree f g
+pub same_bytes : (f g : FrameBuilder) → FrameAdmitted f → FrameAdmitted g → (bytesOf f ≡ bytesOf g) ↔ Agree f g
 same_bytes f g h k = (
   λ e. canon-agree f g (ap (λ (p : Parsed). p.frame) (some-injective _ _ (sym (alone f h) ∙ ap readFrame e ∙ alone g k))),
-  λ a. sym (canon-bytes f h) ∙ ap bytes_of (agree-canon f g a) ∙ canon-bytes g k,
+  λ a. sym (canon-bytes f h) ∙ ap bytesOf (agree-canon f g a) ∙ canon-bytes g k,
 )

@@ -20,7 +20,7 @@ use Rattle.frame.specs.declared.Frequency.TheVariants as Frequency
 use Rattle.frame.specs.declared.FrameBuilder.{FrameBuilder}
 use Rattle.frame.specs.Agreement.{FrameAdmitted}
 use Rattle.frame.specs.Builder.{frameWith}
-use Rattle.frame.specs.Frame.{gainCode, timebaseCode, firstByte, secondByte, bytes_of}
+use Rattle.frame.specs.Frame.{gainCode, timebaseCode, firstByte, secondByte, bytesOf}
 use Rattle.frame.specs.Read.{gainAt, timebaseAt, fieldsIn, oneByte, twoBytes, threeBytes, Parsed, parsed, readThird, readSecond, readAfter, readFrame}
 use Rattle.frame.proofs.Canon.{canon}
 use Rattle.frame.proofs.Parts.{loops, loopGiven, thirdByte, LoopAdmitted, FrequencyAdmitted, absentIsZero, written}
@@ -94,7 +94,7 @@ module _ (f : FrameBuilder) (h : FrameAdmitted f) (r : List ℕ) where
   first-low = omega (arith, (gain-back f.gain).1, (timebase-back f.timebase).1)
 
   one-complete : f.frequency ≡ Frequency.Absent → f.loop_count ≡ LoopCount.Absent → leb 8 f.snippet_id ≡ false → Starts r
-      → readFrame (bytes_of f ++ r) ≡ parsed (canon f) r
+      → readFrame (bytesOf f ++ r) ≡ parsed (canon f) r
   one-complete eq ek en s =
       let l : f.snippet_id < 8 = leb-false 8 f.snippet_id en in
       let m : leb 8 (f.snippet_id % 16) ≡ false = lt-leb 8 (f.snippet_id % 16) (omega arith) in
@@ -104,10 +104,10 @@ module _ (f : FrameBuilder) (h : FrameAdmitted f) (r : List ℕ) where
 
   two-complete : (k : ℕ) → k ≤ 15 → f.frequency ≡ Frequency.Absent → (loopGiven f.loop_count || leb 8 (f.snippet_id % 16)) ≡ true → loops f.loop_count ≡ k
       → written (leb 8 f.snippet_id) f.loop_count ≡ LoopCount.Given k
-      → readFrame (bytes_of f ++ r) ≡ parsed (canon f) r
+      → readFrame (bytesOf f ++ r) ≡ parsed (canon f) r
   two-complete k hk eq es ek ew =
       let b = two_back k f.snippet_id hk in
-      let e : bytes_of f ++ r ≡ firstByte f ∷ (128 + k * 8 + 0 + f.snippet_id / 8 % 2) ∷ r = simp (eq, es, ek) in
+      let e : bytesOf f ++ r ≡ firstByte f ∷ (128 + k * 8 + 0 + f.snippet_id / 8 % 2) ∷ r = simp (eq, es, ek) in
       ap readFrame e
       ∙ read-two (firstByte f) _ r (first_small f) b.0 b.1 b.2
       ∙ ap (λ (g : FrameBuilder). parsed g r)
@@ -115,10 +115,10 @@ module _ (f : FrameBuilder) (h : FrameAdmitted f) (r : List ℕ) where
 
   three-complete : (k q : ℕ) → k ≤ 15 → q ≤ 511 → f.frequency ≡ Frequency.Given q → loops f.loop_count ≡ k
       → written true f.loop_count ≡ LoopCount.Given k
-      → readFrame (bytes_of f ++ r) ≡ parsed (canon f) r
+      → readFrame (bytesOf f ++ r) ≡ parsed (canon f) r
   three-complete k q hk hq eq ek ew =
       let b = three_back k q f.snippet_id hk in
-      let e : bytes_of f ++ r ≡ firstByte f ∷ (128 + k * 8 + (4 + q / 256 % 2 * 2) + f.snippet_id / 8 % 2) ∷ q % 256 ∷ r = simp (eq, ek) in
+      let e : bytesOf f ++ r ≡ firstByte f ∷ (128 + k * 8 + (4 + q / 256 % 2 * 2) + f.snippet_id / 8 % 2) ∷ q % 256 ∷ r = simp (eq, ek) in
       let d : q / 256 % 2 * 256 + q % 256 ≡ q = omega arith in
       ap readFrame e
       ∙ read-three (firstByte f) _ (q % 256) r (first_small f) b.0 b.1
@@ -126,9 +126,9 @@ module _ (f : FrameBuilder) (h : FrameAdmitted f) (r : List ℕ) where
       (fields_back f _ _ _ (number-back _ _ _ h.numberFits b.4 first-low) (ap LoopCount.Given b.3 ∙ sym ew ∙ simp eq)
       (ap Frequency.Given (ap (λ (x : ℕ). x * 256 + q % 256) b.2 ∙ d) ∙ sym eq))
 
-  pub complete : Starts r → readFrame (bytes_of f ++ r) ≡ parsed (canon f) r
+  pub complete : Starts r → readFrame (bytesOf f ++ r) ≡ parsed (canon f) r
   complete s = go f.loop_count f.frequency refl refl h.loopFits h.frequencyFits where
-    high : (t : Bool) → leb 8 f.snippet_id ≡ t → f.loop_count ≡ LoopCount.Absent → f.frequency ≡ Frequency.Absent → readFrame (bytes_of f ++ r) ≡ parsed (canon f) r
+    high : (t : Bool) → leb 8 f.snippet_id ≡ t → f.loop_count ≡ LoopCount.Absent → f.frequency ≡ Frequency.Absent → readFrame (bytesOf f ++ r) ≡ parsed (canon f) r
     high false e ek eq = one-complete eq ek e s
     high true e ek eq =
         let l : 8 ≤ f.snippet_id = leb-true 8 f.snippet_id e in
@@ -136,7 +136,7 @@ module _ (f : FrameBuilder) (h : FrameAdmitted f) (r : List ℕ) where
         two-complete 0 (omega arith) eq (simp (ek, m)) (simp ek) (simp (ek, e))
 
     go : (k : LoopCount) (q : Frequency) → f.loop_count ≡ k → f.frequency ≡ q → LoopAdmitted f.loop_count → FrequencyAdmitted f.frequency
-        → readFrame (bytes_of f ++ r) ≡ parsed (canon f) r
+        → readFrame (bytesOf f ++ r) ≡ parsed (canon f) r
     go LoopCount.Absent Frequency.Absent ek eq hk hq = high (leb 8 f.snippet_id) refl ek eq
     go (LoopCount.Given k) Frequency.Absent ek eq hk hq =
         let hk' : k ≤ 15 = rw ek at hk in

@@ -16,7 +16,7 @@ use Rattle.frame.specs.declared.Frequency.{Frequency}
 use Rattle.frame.specs.declared.Frequency.TheVariants as Frequency
 use Rattle.frame.specs.declared.FrameBuilder.{FrameBuilder}
 use Rattle.frame.specs.Agreement.{FrameAdmitted}
-use Rattle.frame.specs.Frame.{gainCode, timebaseCode, firstByte, secondByte, bytes_of}
+use Rattle.frame.specs.Frame.{gainCode, timebaseCode, firstByte, secondByte, bytesOf}
 use Rattle.frame.specs.Read.{gainAt, timebaseAt, fieldsIn, oneByte, twoBytes, threeBytes, Parsed, parsed, readThird, readSecond, readAfter, readFrame}
 
 gain-there : (n : ℕ) → n < 4 → gainCode (gainAt n) ≡ n
@@ -46,7 +46,7 @@ second-there a b v l u e = sum (b / 128) (b / 8 % 16) (b / 4 % 2) (b / 2 % 2) (b
 
 -- what a parse is worth
 abbrev Sound : List ℕ → Parsed → Type 0
-Sound l p = FrameAdmitted p.frame × (bytes_of p.frame ++ p.rest ≡ l)
+Sound l p = FrameAdmitted p.frame × (bytesOf p.frame ++ p.rest ≡ l)
 
 one-sound : (a : ℕ) (r : List ℕ) → a < 128 → Sound (a ∷ r) (record { frame = oneByte a; rest = r })
 one-sound a r h =
@@ -102,7 +102,7 @@ after-sound a (b ∷ r) p h v e = go (ltb b 128) refl e where
   go true d e = given _ _ p (one-sound a (b ∷ r) h) e
   go false d e = second-sound a b r p h (ltb-false b 128 d) v.0 v.1 e
 
-pub sound : (l : List ℕ) (p : Parsed) → Bytes l → readFrame l ≡ some p → FrameAdmitted p.frame × (bytes_of p.frame ++ p.rest ≡ l)
+pub sound : (l : List ℕ) (p : Parsed) → Bytes l → readFrame l ≡ some p → FrameAdmitted p.frame × (bytesOf p.frame ++ p.rest ≡ l)
 unfolding readFrame
 sound [] p v e = never p e
 sound (a ∷ r) p v e = go (ltb a 128) refl e where

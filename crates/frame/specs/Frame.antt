@@ -54,8 +54,8 @@ abbrev pub hasSecond : FrameBuilder → Bool
 hasSecond b = onFrequency b.frequency false (λ _. true) || onLoop b.loop_count false (λ _. true) || leb 8 (b.snippet_id % 16)
 
 -- one to three bytes: the third is the low eight bits of a frequency
-abbrev pub bytes_of : FrameBuilder → List ℕ
-bytes_of b = firstByte b ∷ cond (hasSecond b) (secondByte b ∷ onFrequency b.frequency [] (λ f. f % 256 ∷ [])) []
+abbrev pub bytesOf : FrameBuilder → List ℕ
+bytesOf b = firstByte b ∷ cond (hasSecond b) (secondByte b ∷ onFrequency b.frequency [] (λ f. f % 256 ∷ [])) []
 
 -- ---- a built frame
 
@@ -65,4 +65,4 @@ frameBytes f = take f.len f.bytes
 
 -- three bytes, zeros after the frame's own
 abbrev pub builtFrame : FrameBuilder → Frame
-builtFrame b = record { bytes = take 3 (bytes_of b ++ replicate 3 0); len = length (bytes_of b) }
+builtFrame b = record { bytes = take 3 (bytesOf b ++ replicate 3 0); len = length (bytesOf b) }

@@ -11,7 +11,7 @@
 mod bits;
 
 ghost use Rattle.std.specs.Prelude.{◌≡◌, ◌%◌, ◌+◌, ◌^◌, ◌≤◌, ◌<◌, length, drop};
-ghost use Rattle.laws.specs.Whole.{whole, wholeOut, length_of};
+ghost use Rattle.laws.specs.Whole.{whole, wholeOut, lengthOf};
 ghost use Rattle.errors.specs.Number.{answerNumber, encodedTold};
 ghost use Rattle.errors.specs.Told.{gives, handed};
 ghost use Rattle.frame.specs.Builder.{frameWith, plainFrame, silentFrame, newFrame, newTold};
@@ -155,7 +155,7 @@ impl Frame {
 
     // Copies all bytes and answers how many, or copies none and answers BufferTooShort.
     pub fn encode_into(self, buffer: &mut [u8]) -> Encoded
-        ensures result_value { encodedTold result ≡ length_of (whole buffer.old (gives (frameBytes self))) }
+        ensures result_value { encodedTold result ≡ lengthOf (whole buffer.old (gives (frameBytes self))) }
         ensures buffer_after { buffer.new ≡ wholeOut buffer.old (gives (frameBytes self)) }
     {
         let bytes = self.bytes;

@@ -35,9 +35,9 @@ pub length-of-map : (X Y : Type 0) (f : X → Y) (l : List X) (n : ℕ) → leng
 length-of-map X Y f l n e = sym (length-map l f) ∙ e
 
 -- what is below 256 everywhere is a list of bytes
-pub bytes_of : (l : List ℕ) → ((i : ℕ) → get_or l i 0 < 256) → Bytes l
-bytes_of [] h = tt
-bytes_of (b ∷ l) h = (h 0, bytes_of l (λ i. h (suc i)))
+pub bytesOf : (l : List ℕ) → ((i : ℕ) → get_or l i 0 < 256) → Bytes l
+bytesOf [] h = tt
+bytesOf (b ∷ l) h = (h 0, bytesOf l (λ i. h (suc i)))
 
 -- ---- what holds of each element
 

@@ -12,10 +12,10 @@ use lib.Seq.{take_at}
 use Rattle.errors.specs.Told.{Told, gives, refuses, onTold, toldNumber}
 use Rattle.laws.specs.Copied.{copied}
 use Rattle.laws.proofs.Copies.{copied-fits}
-use Rattle.laws.specs.Whole.{whole, wholeOut, length_of, WholeOrNothing}
+use Rattle.laws.specs.Whole.{whole, wholeOut, lengthOf, WholeOrNothing}
 
 -- a length tells the same number
-pub length-number : (t : Told (List ℕ)) → toldNumber (length_of t) ≡ toldNumber t
+pub length-number : (t : Told (List ℕ)) → toldNumber (lengthOf t) ≡ toldNumber t
 length-number (gives bytes) = refl
 length-number (refuses number) = refl
 
@@ -31,13 +31,13 @@ module _ (buffer : List ℕ) where
 
   -- by what `whole` is
   told : (item t : Told (List ℕ)) → whole buffer item ≡ t
-      → (length_of (whole buffer item) ≡ length_of t) × (toldNumber (whole buffer item) ≡ toldNumber t) × (wholeOut buffer item ≡ out t)
-  told item t e = (ap length_of e, ap toldNumber e, ap out e)
+      → (lengthOf (whole buffer item) ≡ lengthOf t) × (toldNumber (whole buffer item) ≡ toldNumber t) × (wholeOut buffer item ≡ out t)
+  told item t e = (ap lengthOf e, ap toldNumber e, ap out e)
 
-  answered : (item : Told (List ℕ)) (n : ℕ) → length_of (whole buffer item) ≡ gives n → item ≡ gives (take n (wholeOut buffer item))
+  answered : (item : Told (List ℕ)) (n : ℕ) → lengthOf (whole buffer item) ≡ gives n → item ≡ gives (take n (wholeOut buffer item))
   answered (refuses number) n e = apart e
   answered (gives bytes) n e = go (ltb (length buffer) (length bytes)) e where
-    go : (t : Bool) → let w = cond t (refuses 24) (gives bytes) in length_of w ≡ gives n → gives bytes ≡ gives (take n (out w))
+    go : (t : Bool) → let w = cond t (refuses 24) (gives bytes) in lengthOf w ≡ gives n → gives bytes ≡ gives (take n (out w))
     go true e = apart e
     go false e = ap gives (sym (take_at bytes (drop (length bytes) buffer) n (ap (λ t. onTold t (λ a. a) (λ m. m)) e)))
 

@@ -12,19 +12,19 @@ abbrev pub wholeOut : List ℕ → Told (List ℕ) → List ℕ
 wholeOut buffer item = onTold (whole buffer item) (λ bytes. bytes ++ drop (length bytes) buffer) (λ number. buffer)
 
 -- "and answer its length"
-abbrev pub length_of : Told (List ℕ) → Told ℕ
-length_of item = onTold item (λ bytes. gives (length bytes)) refuses
+abbrev pub lengthOf : Told (List ℕ) → Told ℕ
+lengthOf item = onTold item (λ bytes. gives (length bytes)) refuses
 
 -- no part of an item is handed out
 pub record WholeOrNothing (buffer : List ℕ) (item : Told (List ℕ)) : Type 0 where
   -- an item that was made and has room goes in front of the buffer's other bytes
   pub given : (bytes : List ℕ) → item ≡ gives bytes → length bytes ≤ length buffer
-      → (length_of (whole buffer item) ≡ gives (length bytes)) × (toldNumber (whole buffer item) ≡ 0) × (wholeOut buffer item ≡ bytes ++ drop (length bytes) buffer)
+      → (lengthOf (whole buffer item) ≡ gives (length bytes)) × (toldNumber (whole buffer item) ≡ 0) × (wholeOut buffer item ≡ bytes ++ drop (length bytes) buffer)
   -- one without room changes nothing
   pub short : (bytes : List ℕ) → item ≡ gives bytes → length buffer < length bytes
-      → (length_of (whole buffer item) ≡ refuses 24) × (toldNumber (whole buffer item) ≡ 24) × (wholeOut buffer item ≡ buffer)
+      → (lengthOf (whole buffer item) ≡ refuses 24) × (toldNumber (whole buffer item) ≡ 24) × (wholeOut buffer item ≡ buffer)
   -- nor does one that was not made, whatever the buffer; its own number is told
   pub own : (number : ℕ) → item ≡ refuses number
-      → (length_of (whole buffer item) ≡ refuses number) × (toldNumber (whole buffer item) ≡ number) × (wholeOut buffer item ≡ buffer)
+      → (lengthOf (whole buffer item) ≡ refuses number) × (toldNumber (whole buffer item) ≡ number) × (wholeOut buffer item ≡ buffer)
   -- so as many bytes of the buffer as are answered are the item
-  pub answered : (n : ℕ) → length_of (whole buffer item) ≡ gives n → item ≡ gives (take n (wholeOut buffer item))
+  pub answered : (n : ℕ) → lengthOf (whole buffer item) ≡ gives n → item ≡ gives (take n (wholeOut buffer item))

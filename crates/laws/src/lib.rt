@@ -8,7 +8,7 @@ ghost use Rattle.std.specs.Prelude.{◌≡◌, min, ◌<◌, length};
 ghost use Rattle.errors.specs.Told.{gives};
 ghost use Rattle.errors.specs.Number.{encodedTold};
 ghost use Rattle.laws.specs.Copied.{copied, placed};
-ghost use Rattle.laws.specs.Whole.{whole, wholeOut, length_of};
+ghost use Rattle.laws.specs.Whole.{whole, wholeOut, lengthOf};
 
 use errors::{Encoded, Error};
 
@@ -35,7 +35,7 @@ pub fn copy_into(buffer: &mut [u8], bytes: &[u8]) -> usize
 
 // Copies all bytes, or none where the buffer is shorter.
 pub fn copy_whole(buffer: &mut [u8], bytes: &[u8]) -> Encoded
-    ensures result_value { encodedTold result ≡ length_of (whole buffer.old (gives bytes.now)) }
+    ensures result_value { encodedTold result ≡ lengthOf (whole buffer.old (gives bytes.now)) }
     ensures buffer_after { buffer.new ≡ wholeOut buffer.old (gives bytes.now) }
 {
     if buffer.len() < bytes.len() {

@@ -13,14 +13,14 @@ use Rattle.snippet.specs.Snippet.{withMade, builtSnippet}
 use Rattle.frame.specs.declared.Frame.{Frame}
 use Rattle.frame.specs.declared.FrameBuilder.{FrameBuilder}
 use Rattle.frame.specs.Builder.{plainFrame}
-use Rattle.frame.specs.Frame.{bytes_of, frameBytes, builtFrame}
+use Rattle.frame.specs.Frame.{bytesOf, frameBytes, builtFrame}
 use Rattle.sequence.specs.declared.SequenceBuilder.{SequenceBuilder}
 use Rattle.sequence.specs.Sequence.{withFrame, builtSequence}
 use Rattle.memory.specs.Memory.{newMemory, withSnippet, withSequence, imageNumber, builtMemory}
 use Rattle.snippet.specs.Point.{pointByte}
 use Rattle.snippet.specs.Point as made
-use Rattle.content.specs.Content.{Content, pointBytes, framesBytes, size_of}
-use Rattle.pattern.specs.Calls.{SnippetCall, ramp, step, point, snippetStep, snippetFrom, pointsFrom, FrameCall, gain, timebase, loopCount, frequencyHz, frameStep, Begin, new, silence, begunBy, FrameCalls, frameCalled, number_of, frameFrom, sequenceStep, sequenceFrom, framesFrom, MemoryCall, addSnippet, addSequence, memoryStep, memoryFrom, contentFrom, builtFrom}
+use Rattle.content.specs.Content.{Content, pointBytes, framesBytes, sizeOf}
+use Rattle.pattern.specs.Calls.{SnippetCall, ramp, step, point, snippetStep, snippetFrom, pointsFrom, FrameCall, gain, timebase, loopCount, frequencyHz, frameStep, Begin, new, silence, begunBy, FrameCalls, frameCalled, numberOf, frameFrom, sequenceStep, sequenceFrom, framesFrom, MemoryCall, addSnippet, addSequence, memoryStep, memoryFrom, contentFrom, builtFrom}
 use Rattle.pattern.specs.Accepts.{pointFault, madeFault, snippetFault, badBegin, fieldFault, sequenceFault, memoryFault, Accepts}
 use Rattle.pattern.proofs.Items.{frameRan, answerOn, withMadeFrame, snippets-held, sequences-held, content-held}
 use Rattle.pattern.proofs.Frames.{built-bytes, ran-fields}
@@ -71,7 +71,7 @@ module _ (ks : List SnippetCall) where
 
 -- ---- a frame
 
-begin-fault : (b : Begin) → begunBy b ≡ cond (badBegin b) (refuses 3) (gives (plainFrame (number_of b)))
+begin-fault : (b : Begin) → begunBy b ≡ cond (badBegin b) (refuses 3) (gives (plainFrame (numberOf b)))
 begin-fault (new n) = either (ltb n 1) (ltb 15 n) _ _
 begin-fault silence = refl
 
@@ -83,7 +83,7 @@ field-fault b (frequencyHz f) = number-of (ltb 511 f) _ _
 
 frame-fault : (m : FrameCalls) (k : FrameCall) → frameCalled m k ≡ cond (badBegin m.begin) 3 (fieldFault k)
 frame-fault m k = ap (λ (t : Told FrameBuilder). answerOn t m.calls k) (begin-fault m.begin) ∙ go (badBegin m.begin) where
-  go : (t : Bool) → answerOn (cond t (refuses 3) (gives (plainFrame (number_of m.begin)))) m.calls k ≡ cond t 3 (fieldFault k)
+  go : (t : Bool) → answerOn (cond t (refuses 3) (gives (plainFrame (numberOf m.begin)))) m.calls k ≡ cond t 3 (fieldFault k)
   go true = refl
   go false = field-fault _ k
 
@@ -102,13 +102,13 @@ sequence-fault ms m =
     ap (λ (t : Told FrameBuilder). (withMadeFrame (sequenceFrom ms) m.calls t).number) (begin-fault m.begin) ∙ go (badBegin m.begin)
   where
     plain : FrameBuilder
-    plain = plainFrame (number_of m.begin)
+    plain = plainFrame (numberOf m.begin)
 
-    bytes : frameBytes (builtFrame (frameRan plain m.calls)) ≡ bytes_of (frameFrom m)
-    bytes = built-bytes (frameRan plain m.calls) ∙ ap bytes_of (ran-fields m.calls plain)
+    bytes : frameBytes (builtFrame (frameRan plain m.calls)) ≡ bytesOf (frameFrom m)
+    bytes = built-bytes (frameRan plain m.calls) ∙ ap bytesOf (ran-fields m.calls plain)
 
-    go : (t : Bool) → (withMadeFrame (sequenceFrom ms) m.calls (cond t (refuses 3) (gives (plainFrame (number_of m.begin))))).number
-        ≡ cond t 3 (framesFault (length (framesBytes (framesFrom ms)) + length (bytes_of (frameFrom m))) (length (framesFrom ms)))
+    go : (t : Bool) → (withMadeFrame (sequenceFrom ms) m.calls (cond t (refuses 3) (gives (plainFrame (numberOf m.begin))))).number
+        ≡ cond t 3 (framesFault (length (framesBytes (framesFrom ms)) + length (bytesOf (frameFrom m))) (length (framesFrom ms)))
     go true = refl
     go false =
         with-fault (sequenceFrom ms) (builtFrame (frameRan plain m.calls))
@@ -146,14 +146,14 @@ memory-fault a ks (addSequence ms) =
     ∙ ap₂ (λ (t : Bool) (n : ℕ). cond t 10 (cond (leb 16 n) 7 0)) (no_frames ms) ((memory-holds a ks).sequences.counted ∙ ap length (sym (sequences-held ks (newMemory a))))
 
 build-fault : (a : Bool) (ks : List MemoryCall) → let c = contentFrom a ks in
-    (builtFrom a ks).number ≡ cond (ltb (length c.snippets) 1) 9 (cond (ltb (length c.sequences) 1) 10 (cond (ltb 100 (size_of c)) 8 0))
+    (builtFrom a ks).number ≡ cond (ltb (length c.snippets) 1) 9 (cond (ltb (length c.sequences) 1) 10 (cond (ltb 100 (sizeOf c)) 8 0))
 unfolding builtMemory
 build-fault a ks =
     let h = memory-holds a ks in
     let c = contentFrom a ks in
     ap₂ imageNumber h.snippets.shown h.sequences.shown
     ∙ ap (λ (c : Content). imageNumber (map pointBytes c.snippets) (map framesBytes c.sequences)) (content-held a ks)
-    ∙ ap₂ (λ (s q : ℕ). cond (ltb s 1) 9 (cond (ltb q 1) 10 (cond (ltb 100 (size_of c)) 8 0)))
+    ∙ ap₂ (λ (s q : ℕ). cond (ltb s 1) 9 (cond (ltb q 1) 10 (cond (ltb 100 (sizeOf c)) 8 0)))
     (length-map c.snippets pointBytes) (length-map c.sequences framesBytes)
 
 pub accepts : Accepts

@@ -14,7 +14,7 @@ use Rattle.pattern.proofs.Flag.{same_number, same_item}
 use Rattle.pattern.proofs.Loops.{loops-read}
 use Rattle.pattern.proofs.Memories.{image-from, values-from}
 use Rattle.pattern.proofs.Runs.{ran_append}
-use Rattle.pattern.proofs.Reached.{calls_of, content-reached, built-reached}
+use Rattle.pattern.proofs.Reached.{callsOf, content-reached, built-reached}
 
 -- `build` hands back the builder as it came in
 goes_on : (a : Bool) (ks js : List MemoryCall) → builtMemory (ran memoryStep (builtFrom a ks).builder js) ≡ builtFrom a (ks ++ js)
@@ -28,7 +28,7 @@ demand3 =
       hundred = λ p e. let w = image-from p.acceleration p.calls e in ap length (sym w.1) ∙ image-length (content p) w.0;
       laidOut = λ p e. image-from p.acceleration p.calls e;
       values = λ p e. values-from p.acceleration p.calls e;
-      admits = λ c a. (record { acceleration = false; calls = calls_of c }, built-reached c a, content-reached c a);
+      admits = λ c a. (record { acceleration = false; calls = callsOf c }, built-reached c a, content-reached c a);
       apart = λ p q e f.
           let v = image-from p.acceleration p.calls e in
           let w = image-from q.acceleration q.calls f in

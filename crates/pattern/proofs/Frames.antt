@@ -15,8 +15,8 @@ use Rattle.frame.specs.declared.FrameBuilder.{FrameBuilder}
 use Rattle.frame.specs.Agreement.{FrameAdmitted}
 use Rattle.frame.proofs.Parts.{thirdByte}
 use Rattle.frame.specs.Builder.{frameWith, plainFrame, newFrame, withLoopCount, withFrequency}
-use Rattle.frame.specs.Frame.{firstByte, secondByte, hasSecond, bytes_of, frameBytes, builtFrame}
-use Rattle.pattern.specs.Calls.{FrameCall, gain, timebase, loopCount, frequencyHz, frameStep, Begin, new, silence, begunBy, FrameCalls, number_of, sets, lastSet, frameFrom}
+use Rattle.frame.specs.Frame.{firstByte, secondByte, hasSecond, bytesOf, frameBytes, builtFrame}
+use Rattle.pattern.specs.Calls.{FrameCall, gain, timebase, loopCount, frequencyHz, frameStep, Begin, new, silence, begunBy, FrameCalls, numberOf, sets, lastSet, frameFrom}
 use Rattle.pattern.proofs.Items.{frameRan}
 
 -- ---- a built frame shows the bytes of its fields
@@ -25,7 +25,7 @@ third-short : (a b : ℕ) (q : Frequency) → take (length (a ∷ b ∷ thirdByt
 third-short a b Frequency.Absent = refl
 third-short a b (Frequency.Given f) = refl
 
-pub built-bytes : (b : FrameBuilder) → frameBytes (builtFrame b) ≡ bytes_of b
+pub built-bytes : (b : FrameBuilder) → frameBytes (builtFrame b) ≡ bytesOf b
 built-bytes b = go (hasSecond b) where
   go : (t : Bool) → take (length (firstByte b ∷ cond t (secondByte b ∷ thirdByte b.frequency) [])) (take 3 ((firstByte b ∷ cond t (secondByte b ∷ thirdByte b.frequency) []) ++ replicate 3 0))
       ≡ firstByte b ∷ cond t (secondByte b ∷ thirdByte b.frequency) []
@@ -80,10 +80,10 @@ abbrev pub FrameOutcome : FrameCalls → Told FrameBuilder → Type 0
 FrameOutcome m (gives b) = (frameRan b m.calls ≡ frameFrom m) × FrameAdmitted (frameFrom m)
 FrameOutcome m (refuses n) = 0 < n
 
-begun-plain : (b : Begin) (ks : List FrameCall) → number_of b ≤ 15 → FrameOutcome (record { begin = b; calls = ks }) (gives (plainFrame (number_of b)))
+begun-plain : (b : Begin) (ks : List FrameCall) → numberOf b ≤ 15 → FrameOutcome (record { begin = b; calls = ks }) (gives (plainFrame (numberOf b)))
 begun-plain b ks h =
-    let e = ran-fields ks (plainFrame (number_of b)) in
-    (e, subst FrameAdmitted e (ran-admitted ks (plainFrame (number_of b)) (record { numberFits = h; loopFits = tt; frequencyFits = tt })))
+    let e = ran-fields ks (plainFrame (numberOf b)) in
+    (e, subst FrameAdmitted e (ran-admitted ks (plainFrame (numberOf b)) (record { numberFits = h; loopFits = tt; frequencyFits = tt })))
 
 begun-new : (n : ℕ) (ks : List FrameCall) → FrameOutcome (record { begin = new n; calls = ks }) (newFrame n)
 begun-new n ks = some (dec_le 1 n) where

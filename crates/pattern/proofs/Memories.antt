@@ -22,7 +22,7 @@ use Rattle.memory.specs.declared.WaveformMemory.{WaveformMemory}
 use Rattle.memory.specs.declared.WaveformMemoryBuilder.{WaveformMemoryBuilder}
 use Rattle.memory.specs.Image.{imageSize}
 use Rattle.memory.specs.Memory.{newMemory, imageNumber, snippetItems, sequenceItems, memoryOf, builtMemory}
-use Rattle.content.specs.Content.{Point, Content, pointBytes, framesBytes, image_of, Admitted}
+use Rattle.content.specs.Content.{Point, Content, pointBytes, framesBytes, imageOf, Admitted}
 use Rattle.content.proofs.Admits.{SnippetAdmitted, SequenceAdmitted}
 use Rattle.content.proofs.Sequences.{short}
 use Rattle.pattern.specs.Calls.{held, MemoryCall, addSnippet, addSequence, memoryStep, memoryFrom, contentFrom, builtFrom, snippetFrom, pointsFrom, sequenceFrom, framesFrom}
@@ -187,17 +187,17 @@ module _ (b : WaveformMemoryBuilder) (is : List Item) (h : Holds b is) (e : (bui
         fits = w.fits;
       }
 
-  built : Admitted (contentOf is) × (image_of (contentOf is) ≡ (builtMemory b).item.«data»)
-  unfolding image_of
+  built : Admitted (contentOf is) × (imageOf (contentOf is) ≡ (builtMemory b).item.«data»)
+  unfolding imageOf
   built = (built-admitted, ap (λ (m : WaveformMemory). m.«data») (sym built-memory))
 
 pub memory-holds : (a : Bool) (ks : List MemoryCall) → Holds (memoryFrom a ks) (held memoryStep addedItem (newMemory a) ks)
 memory-holds a ks = all-calls memoryStep addedItem Holds one-call ks (newMemory a) [] (none-held a)
 
 pub image-from : (a : Bool) (ks : List MemoryCall) → (builtFrom a ks).number ≡ 0
-    → Admitted (contentFrom a ks) × (image_of (contentFrom a ks) ≡ (builtFrom a ks).item.«data»)
+    → Admitted (contentFrom a ks) × (imageOf (contentFrom a ks) ≡ (builtFrom a ks).item.«data»)
 image-from a ks e =
-    subst (λ (c : Content). Admitted c × (image_of c ≡ (builtFrom a ks).item.«data»)) (content-held a ks) (built (memoryFrom a ks) _ (memory-holds a ks) e)
+    subst (λ (c : Content). Admitted c × (imageOf c ≡ (builtFrom a ks).item.«data»)) (content-held a ks) (built (memoryFrom a ks) _ (memory-holds a ks) e)
 
 pub values-from : (a : Bool) (ks : List MemoryCall) → (builtFrom a ks).number ≡ 0
     → (builtFrom a ks).item ≡ memoryOf (map pointBytes (contentFrom a ks).snippets) (map framesBytes (contentFrom a ks).sequences)

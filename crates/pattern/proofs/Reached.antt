@@ -27,7 +27,7 @@ use Rattle.frame.specs.declared.FrameBuilder.{FrameBuilder}
 use Rattle.frame.specs.Agreement.{FrameAdmitted}
 use Rattle.frame.proofs.Parts.{LoopAdmitted, FrequencyAdmitted}
 use Rattle.frame.specs.Builder.{frameWith, plainFrame}
-use Rattle.frame.specs.Frame.{bytes_of, frameBytes, builtFrame}
+use Rattle.frame.specs.Frame.{bytesOf, frameBytes, builtFrame}
 use Rattle.sequence.specs.declared.SequenceBuilder.{SequenceBuilder}
 use Rattle.sequence.specs.Sequence.{newSequence}
 use Rattle.memory.specs.declared.WaveformMemoryBuilder.{WaveformMemoryBuilder}
@@ -38,7 +38,7 @@ use Rattle.content.specs.Content.{Point, Content, pointBytes, framesBytes, Admit
 use Rattle.content.proofs.Admits.{SnippetAdmitted, SequenceAdmitted}
 use Rattle.content.proofs.Points.{Good}
 use Rattle.content.proofs.Sequences.{long}
-use Rattle.pattern.specs.Calls.{ran, held, SnippetCall, ramp, step, snippetStep, addedPoint, pointsFrom, FrameCall, gain, timebase, loopCount, frequencyHz, Begin, new, silence, begunBy, FrameCalls, number_of, frameFrom, sequenceStep, framesFrom, snippetFrom, sequenceFrom, MemoryCall, addSnippet, addSequence, memoryStep, contentFrom, builtFrom}
+use Rattle.pattern.specs.Calls.{ran, held, SnippetCall, ramp, step, snippetStep, addedPoint, pointsFrom, FrameCall, gain, timebase, loopCount, frequencyHz, Begin, new, silence, begunBy, FrameCalls, numberOf, frameFrom, sequenceStep, framesFrom, snippetFrom, sequenceFrom, MemoryCall, addSnippet, addSequence, memoryStep, contentFrom, builtFrom}
 use Rattle.pattern.proofs.Items.{frameRan, withMadeFrame, Item, points, frames, addedItem, snippetsOf, sequencesOf, contentOf, content-held}
 use Rattle.pattern.proofs.Outcomes.{Outcome}
 use Rattle.pattern.proofs.Snippets as snippet
@@ -128,7 +128,7 @@ frameCallOf n g t l q = record { begin = beginOf n; calls = gain g ∷ timebase 
 abbrev pub frameCall : FrameBuilder → FrameCalls
 frameCall f = frameCallOf f.snippet_id f.gain f.timebase f.loop_count f.frequency
 
-number-back : (n : ℕ) → number_of (beginOf n) ≡ n
+number-back : (n : ℕ) → numberOf (beginOf n) ≡ n
 number-back zero = refl
 number-back (suc n) = refl
 
@@ -144,7 +144,7 @@ frame_back n g t (LoopCount.Given k) Frequency.Absent hl hq = simp (number-back 
 frame_back n g t (LoopCount.Given k) (Frequency.Given f) hl hq = simp (number-back n, le-ltb 15 k hl, le-ltb 511 f hq)
 
 -- the builder after the calls has the fields that the calls say
-ran-plain : (n : ℕ) (ks : List FrameCall) (b : Begin) → number_of b ≡ n → frameRan (plainFrame n) ks ≡ frameFrom (record { begin = b; calls = ks })
+ran-plain : (n : ℕ) (ks : List FrameCall) (b : Begin) → numberOf b ≡ n → frameRan (plainFrame n) ks ≡ frameFrom (record { begin = b; calls = ks })
 ran-plain n ks b e = ran-fields ks (plainFrame n) ∙ ap (λ (m : ℕ). fieldsAfter (plainFrame m) ks) (sym e)
 
 abbrev pub FramesFit : List FrameBuilder → Type 0
@@ -170,12 +170,12 @@ frame-taken b fs f h w =
     let back = frame_back f.snippet_id f.gain f.timebase f.loop_count f.frequency a.loopFits a.frequencyFits in
     let begins = begun-back f.snippet_id a.numberFits in
     let plain = plainFrame f.snippet_id in
-    let bytes : frameBytes (builtFrame (frameRan plain (frameCall f).calls)) ≡ bytes_of f =
-    built-bytes (frameRan plain (frameCall f).calls) ∙ ap bytes_of (ran-plain f.snippet_id (frameCall f).calls (frameCall f).begin (number-back f.snippet_id) ∙ back) in
+    let bytes : frameBytes (builtFrame (frameRan plain (frameCall f).calls)) ≡ bytesOf f =
+    built-bytes (frameRan plain (frameCall f).calls) ∙ ap bytesOf (ran-plain f.snippet_id (frameCall f).calls (frameCall f).begin (number-back f.snippet_id) ∙ back) in
     let n = ap length (frames-append fs (f ∷ [])) ∙ length-append (framesBytes fs) (framesBytes (f ∷ [])) in
     let m = length-append fs (f ∷ []) in
-    let k = length-append (bytes_of f) [] in
-    let le : length (frameBytes (builtFrame (frameRan plain (frameCall f).calls))) ≡ length (bytes_of f) = ap length bytes in (
+    let k = length-append (bytesOf f) [] in
+    let le : length (frameBytes (builtFrame (frameRan plain (frameCall f).calls))) ≡ length (bytesOf f) = ap length bytes in (
       made-taken b (frameCall f) (begunBy (frameCall f).begin) plain begins (omega (arith, w.0, h.counted)) (omega (arith, w.1, h.frames)),
       back,
     )
@@ -255,16 +255,16 @@ sequences-of-frames : (qs : List (List FrameBuilder)) → sequencesOf (map frame
 sequences-of-frames [] = refl
 sequences-of-frames (fs ∷ qs) = ap (λ (l : List (List FrameBuilder)). fs ∷ l) (sequences-of-frames qs)
 
-abbrev items_of : Content → List Item
-items_of c = map points c.snippets ++ map frames c.sequences
+abbrev itemsOf : Content → List Item
+itemsOf c = map points c.snippets ++ map frames c.sequences
 
-snippets-back : (c : Content) → snippetsOf (items_of c) ≡ c.snippets
+snippets-back : (c : Content) → snippetsOf (itemsOf c) ≡ c.snippets
 snippets-back c =
     snippets-append (map points c.snippets) (map frames c.sequences)
     ∙ ap₂ (λ (u v : List (List Point)). u ++ v) (snippets-of-points c.snippets) (snippets-of-frames c.sequences)
     ∙ append-nil c.snippets
 
-sequences-back : (c : Content) → sequencesOf (items_of c) ≡ c.sequences
+sequences-back : (c : Content) → sequencesOf (itemsOf c) ≡ c.sequences
 sequences-back c =
     sequences-append (map points c.snippets) (map frames c.sequences)
     ∙ ap₂ (λ (u v : List (List FrameBuilder)). u ++ v) (sequences-of-points c.snippets) (sequences-of-frames c.sequences)
@@ -275,7 +275,7 @@ all_short (fs ∷ qs) h =
     let n = length-append (framesBytes fs) (joined (map framesBytes qs)) in
     (omega (arith, h), all_short qs (omega (arith, h)))
 
-fits-items : (c : Content) → Admitted c → ItemsFit (items_of c)
+fits-items : (c : Content) → Admitted c → ItemsFit (itemsOf c)
 fits-items c a =
     let j = joined_length (map pointBytes c.snippets) (map framesBytes c.sequences) in
     let ns = length-map c.snippets pointBytes in
@@ -289,23 +289,23 @@ fits-items c a =
       short = subst (All Short) (sym (sequences-back c)) (all_short c.sequences data');
     }
 
-abbrev pub calls_of : Content → List MemoryCall
-calls_of c = map itemCall (items_of c)
+abbrev pub callsOf : Content → List MemoryCall
+callsOf c = map itemCall (itemsOf c)
 
-pub content-reached : (c : Content) → Admitted c → contentFrom false (calls_of c) ≡ c
+pub content-reached : (c : Content) → Admitted c → contentFrom false (callsOf c) ≡ c
 content-reached c a =
-    sym (content-held false (calls_of c))
-    ∙ ap contentOf (items-reached (items_of c) (fits-items c a))
+    sym (content-held false (callsOf c))
+    ∙ ap contentOf (items-reached (itemsOf c) (fits-items c a))
     ∙ ap₂ (λ (s : List (List Point)) (q : List (List FrameBuilder)). record { snippets = s; sequences = q }) (snippets-back c) (sequences-back c)
 
 number-zero : (ss qs : List (List ℕ)) → 1 ≤ length ss → 1 ≤ length qs → imageSize ss qs ≤ 100 → imageNumber ss qs ≡ 0
 number-zero ss qs p q r = simp (le-ltb _ _ p, le-ltb _ _ q, le-ltb _ _ r)
 
-pub built-reached : (c : Content) → Admitted c → (builtFrom false (calls_of c)).number ≡ 0
+pub built-reached : (c : Content) → Admitted c → (builtFrom false (callsOf c)).number ≡ 0
 unfolding builtMemory
 built-reached c a =
-    let h = memory.memory-holds false (calls_of c) in
-    let e = content-held false (calls_of c) ∙ content-reached c a in
+    let h = memory.memory-holds false (callsOf c) in
+    let e = content-held false (callsOf c) ∙ content-reached c a in
     let ns = length-map c.snippets pointBytes in
     let nq = length-map c.sequences framesBytes in
     ap₂ imageNumber h.snippets.shown h.sequences.shown

@@ -17,7 +17,7 @@ use Rattle.errors.specs.Told.{Told, gives, refuses, Handed}
 use Rattle.frame.specs.declared.Frame.{Frame}
 use Rattle.frame.specs.declared.FrameBuilder.{FrameBuilder}
 use Rattle.frame.specs.Agreement.{FrameAdmitted}
-use Rattle.frame.specs.Frame.{bytes_of, frameBytes, builtFrame}
+use Rattle.frame.specs.Frame.{bytesOf, frameBytes, builtFrame}
 use Rattle.sequence.specs.declared.SequenceBuilder.{SequenceBuilder}
 use Rattle.sequence.specs.Sequence.{newSequence, withFrame}
 use Rattle.content.specs.Content.{framesBytes}
@@ -44,25 +44,25 @@ over-shown d xs n h =
 
 pub frames-append : (xs ys : List FrameBuilder) → framesBytes (xs ++ ys) ≡ framesBytes xs ++ framesBytes ys
 frames-append [] ys = refl
-frames-append (x ∷ xs) ys = ap (λ (l : List ℕ). bytes_of x ++ l) (frames-append xs ys) ∙ sym (append_assoc (bytes_of x) (framesBytes xs) (framesBytes ys))
+frames-append (x ∷ xs) ys = ap (λ (l : List ℕ). bytesOf x ++ l) (frames-append xs ys) ∙ sym (append_assoc (bytesOf x) (framesBytes xs) (framesBytes ys))
 
-frames-snoc : (fs : List FrameBuilder) (f : FrameBuilder) → framesBytes (fs ++ (f ∷ [])) ≡ framesBytes fs ++ bytes_of f
-frames-snoc fs f = frames-append fs (f ∷ []) ∙ ap (λ (l : List ℕ). framesBytes fs ++ l) (append-nil {A = ℕ} (bytes_of f))
+frames-snoc : (fs : List FrameBuilder) (f : FrameBuilder) → framesBytes (fs ++ (f ∷ [])) ≡ framesBytes fs ++ bytesOf f
+frames-snoc fs f = frames-append fs (f ∷ []) ∙ ap (λ (l : List ℕ). framesBytes fs ++ l) (append-nil {A = ℕ} (bytesOf f))
 
 abbrev Added : SequenceBuilder → List FrameBuilder → Handed SequenceBuilder → FrameBuilder → Type 0
 Added b fs s f = Outcome s.number (Holds s.builder (fs ++ (f ∷ []))) (Holds s.builder fs)
 
 -- a frame x of the code whose bytes are those of f
-with-frame : (b : SequenceBuilder) (fs : List FrameBuilder) (x : Frame) (f : FrameBuilder) → frameBytes x ≡ bytes_of f → FrameAdmitted f → Holds b fs
+with-frame : (b : SequenceBuilder) (fs : List FrameBuilder) (x : Frame) (f : FrameBuilder) → frameBytes x ≡ bytesOf f → FrameAdmitted f → Holds b fs
     → Added b fs (withFrame b x) f
 with-frame b fs x f e g h = full (dec_le (b.len + length (frameBytes x)) 96) where
   many : b.len + length (frameBytes x) ≤ 96 → Dec (32 ≤ b.frame_count) → Added b fs (withFrame b x) f
   many p (yes q) = simp (le-ltb _ _ p, le-leb _ _ q) (inr (omega arith, h))
   many p (no q) =
       let q' : b.frame_count < 32 = omega arith in
-      let n = ap length (frames-snoc fs f) ∙ length-append (framesBytes fs) (bytes_of f) in
+      let n = ap length (frames-snoc fs f) ∙ length-append (framesBytes fs) (bytesOf f) in
       let w = length-append fs (f ∷ []) in
-      let le : length (frameBytes x) ≡ length (bytes_of f) = ap length e in
+      let le : length (frameBytes x) ≡ length (bytesOf f) = ap length e in
       simp (le-ltb _ _ p, lt-leb _ _ q')
       (inl (
         refl,
@@ -87,7 +87,7 @@ with-frame b fs x f e g h = full (dec_le (b.len + length (frameBytes x)) 96) whe
 with-made : (b : SequenceBuilder) (fs : List FrameBuilder) (m : FrameCalls) (t : Told FrameBuilder) → FrameOutcome m t → Holds b fs
     → Added b fs (withMadeFrame b m.calls t) (frameFrom m)
 with-made b fs m (gives f) o h =
-    with-frame b fs (builtFrame (frameRan f m.calls)) (frameFrom m) (built-bytes (frameRan f m.calls) ∙ ap bytes_of o.0) o.1 h
+    with-frame b fs (builtFrame (frameRan f m.calls)) (frameFrom m) (built-bytes (frameRan f m.calls) ∙ ap bytesOf o.0) o.1 h
 with-made b fs m (refuses n) o h = inr (o, h)
 
 pub one-call : (b : SequenceBuilder) (fs : List FrameBuilder) (m : FrameCalls) → Holds b fs → Added b fs (sequenceStep b m) (frameFrom m)

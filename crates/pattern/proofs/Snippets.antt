@@ -17,16 +17,16 @@ use Rattle.snippet.specs.declared.SnippetBuilder.{SnippetBuilder}
 use Rattle.snippet.specs.Point.{pointByte}
 use Rattle.snippet.specs.Point as made
 use Rattle.snippet.specs.Snippet as code
-use Rattle.snippet.specs.Snippet.{point_of, newSnippet, withPoint, withMade, snippetBytes}
+use Rattle.snippet.specs.Snippet.{pointOf, newSnippet, withPoint, withMade, snippetBytes}
 use Rattle.snippet.proofs.Points.{byte-back, byte-admitted}
-use Rattle.content.specs.Content.{Point, byte_of, pointBytes}
+use Rattle.content.specs.Content.{Point, byteOf, pointBytes}
 use Rattle.content.specs.ReadImage.{pointIn}
 use Rattle.content.proofs.Points.{Good}
 use Rattle.pattern.specs.Calls.{SnippetCall, ramp, step, point, snippetStep, addedPoint, snippetFrom, pointsFrom}
 use Rattle.pattern.proofs.Outcomes.{Outcome, all-calls, Shows, shows_more}
 
 pub record Holds (b : SnippetBuilder) (ps : List Point) : Type 0 where
-  pub shows : Shows 16 code.pwlByte byte_of b.points b.len ps
+  pub shows : Shows 16 code.pwlByte byteOf b.points b.len ps
   pub good : All Good ps
 
 pub none-held : Holds newSnippet []
@@ -36,14 +36,14 @@ abbrev Made : SnippetBuilder → List Point → Handed SnippetBuilder → Point 
 Made b ps s p = Outcome s.number (Holds s.builder (ps ++ (p ∷ []))) (Holds s.builder ps)
 
 -- a point p with the byte x
-with-point : (b : SnippetBuilder) (ps : List Point) (x : ℕ) (p : Point) → x ≡ byte_of p → Good p → Holds b ps → Made b ps (withPoint b (point_of x)) p
+with-point : (b : SnippetBuilder) (ps : List Point) (x : ℕ) (p : Point) → x ≡ byteOf p → Good p → Holds b ps → Made b ps (withPoint b (pointOf x)) p
 with-point b ps x p e g h = go (dec_le 16 b.len) where
-  go : Dec (16 ≤ b.len) → Made b ps (withPoint b (point_of x)) p
+  go : Dec (16 ≤ b.len) → Made b ps (withPoint b (pointOf x)) p
   go (yes f) = simp (le-leb _ _ f) (inr (omega arith, h))
   go (no f) =
       let l : b.len < 16 = omega arith in
       simp (lt-leb _ _ l)
-      (inl (refl, record { shows = shows_more 16 code.pwlByte byte_of b.points b.len ps (point_of x) p h.shows l e; good = all_append Good ps (p ∷ []) h.good (g, tt) }))
+      (inl (refl, record { shows = shows_more 16 code.pwlByte byteOf b.points b.len ps (pointOf x) p h.shows l e; good = all_append Good ps (p ∷ []) h.good (g, tt) }))
 
 with-made : (b : SnippetBuilder) (ps : List Point) (r : Bool) (t a : ℕ) → Holds b ps
     → Made b ps (withMade b (made.point r t a)) (record { ramp = r; timebases = t; amplitude = a })

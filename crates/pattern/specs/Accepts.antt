@@ -5,11 +5,11 @@ use Rattle.std.specs.Prelude.{ℕ, ◌+◌, ◌≡◌, Bool, false, cond, ◌||�
 use Rattle.errors.specs.Told.{gives, refuses, onTold}
 use Rattle.frame.specs.declared.FrameBuilder.{FrameBuilder}
 use Rattle.frame.specs.Builder.{plainFrame}
-use Rattle.frame.specs.Frame.{bytes_of}
+use Rattle.frame.specs.Frame.{bytesOf}
 use Rattle.snippet.specs.Snippet.{builtSnippet}
 use Rattle.sequence.specs.Sequence.{builtSequence}
-use Rattle.content.specs.Content.{Point, Content, framesBytes, size_of}
-use Rattle.pattern.specs.Calls.{SnippetCall, ramp, step, point, snippetStep, snippetFrom, pointsFrom, FrameCall, gain, timebase, loopCount, frequencyHz, Begin, new, silence, begunBy, FrameCalls, frameCalled, number_of, frameFrom, sequenceStep, sequenceFrom, framesFrom, MemoryCall, addSnippet, addSequence, memoryStep, memoryFrom, contentFrom, builtFrom}
+use Rattle.content.specs.Content.{Point, Content, framesBytes, sizeOf}
+use Rattle.pattern.specs.Calls.{SnippetCall, ramp, step, point, snippetStep, snippetFrom, pointsFrom, FrameCall, gain, timebase, loopCount, frequencyHz, Begin, new, silence, begunBy, FrameCalls, frameCalled, numberOf, frameFrom, sequenceStep, sequenceFrom, framesFrom, MemoryCall, addSnippet, addSequence, memoryStep, memoryFrom, contentFrom, builtFrom}
 
 -- ---- a snippet that holds these points
 
@@ -46,7 +46,7 @@ fieldFault (frequencyHz f) = cond (ltb 511 f) 5 0
 abbrev pub sequenceFault : List FrameBuilder → FrameCalls → ℕ
 sequenceFault fs m =
     cond (badBegin m.begin) 3
-    (cond (ltb 96 (length (framesBytes fs) + length (bytes_of (frameFrom m)))) 8 (cond (leb 32 (length fs)) 7 0))
+    (cond (ltb 96 (length (framesBytes fs) + length (bytesOf (frameFrom m)))) 8 (cond (leb 32 (length fs)) 7 0))
 
 -- ---- a memory that holds this content
 
@@ -62,7 +62,7 @@ pub record Accepts : Type 0 where
   -- "9 EmptySnippet and 10 EmptySequence, nothing to build from"
   pub snippetBuild : (ks : List SnippetCall) → (builtSnippet (snippetFrom ks)).number ≡ cond (ltb (length (pointsFrom ks)) 1) 9 0
   -- a begin without a fault gives the frame with its number and the Rust's defaults
-  pub begin : (b : Begin) → begunBy b ≡ cond (badBegin b) (refuses 3) (gives (plainFrame (number_of b)))
+  pub begin : (b : Begin) → begunBy b ≡ cond (badBegin b) (refuses 3) (gives (plainFrame (numberOf b)))
   -- on a frame that was not begun, the fault in its begin
   pub frame : (m : FrameCalls) (k : FrameCall) → frameCalled m k ≡ cond (badBegin m.begin) 3 (fieldFault k)
   pub sequence : (ms : List FrameCalls) (m : FrameCalls) → (sequenceStep (sequenceFrom ms) m).number ≡ sequenceFault (framesFrom ms) m
@@ -71,4 +71,4 @@ pub record Accepts : Type 0 where
       → (memoryStep (memoryFrom a ks) k).number ≡ memoryFault (contentFrom a ks) k
   -- "`build` tests no snippets, no sequences, then the size 2 + s + q + data ≤ 100"
   pub memoryBuild : (a : Bool) (ks : List MemoryCall) → let c = contentFrom a ks in
-      (builtFrom a ks).number ≡ cond (ltb (length c.snippets) 1) 9 (cond (ltb (length c.sequences) 1) 10 (cond (ltb 100 (size_of c)) 8 0))
+      (builtFrom a ks).number ≡ cond (ltb (length c.snippets) 1) 9 (cond (ltb (length c.sequences) 1) 10 (cond (ltb 100 (sizeOf c)) 8 0))

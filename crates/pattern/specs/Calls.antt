@@ -105,9 +105,9 @@ abbrev pub frameCalled : FrameCalls → FrameCall → ℕ
 frameCalled m k = onTold (begunBy m.begin) (λ f. (frameStep (ran frameStep f m.calls) k).number) (λ n. n)
 
 -- "A frame's field is what the last accepted call that sets it gave, else the Rust's default"
-abbrev pub number_of : Begin → ℕ
-number_of (new n) = n
-number_of silence = 0
+abbrev pub numberOf : Begin → ℕ
+numberOf (new n) = n
+numberOf silence = 0
 
 -- what a call sets: gain, timebase, loop count (accepted up to 15), frequency (accepted up to 511)
 abbrev pub sets : FrameCall → Option Gain × Option Timebase × Option LoopCount × Option Frequency
@@ -123,7 +123,7 @@ lastSet field a (k ∷ ks) = lastSet field (onOption (field k) a (λ x. x)) ks
 
 abbrev pub frameFrom : FrameCalls → FrameBuilder
 frameFrom m =
-    frameWith (number_of m.begin) (lastSet (λ k. (sets k).0) Full m.calls) (lastSet (λ k. (sets k).1) Ms5_44 m.calls)
+    frameWith (numberOf m.begin) (lastSet (λ k. (sets k).0) Full m.calls) (lastSet (λ k. (sets k).1) Ms5_44 m.calls)
     (lastSet (λ k. (sets k).2) LoopCount.Absent m.calls) (lastSet (λ k. (sets k).3) Frequency.Absent m.calls)
 
 -- ---- a sequence: each call adds the frame that its own calls make; where `new` was refused there is no frame to add

@@ -6,7 +6,7 @@ use Rattle.laws.specs.Bytes.{All, Bytes}
 use Rattle.frame.specs.declared.FrameBuilder.{FrameBuilder}
 use Rattle.frame.specs.Frame.{onLoop, hasSecond}
 use Rattle.memory.specs.Memory.{memoryOf, builtMemory}
-use Rattle.content.specs.Content.{Content, pointBytes, framesBytes, Admitted, image_of, Same}
+use Rattle.content.specs.Content.{Content, pointBytes, framesBytes, Admitted, imageOf, Same}
 use Rattle.content.specs.ReadImage.{readImage}
 use Rattle.pattern.specs.Calls.{ran, MemoryCall, memoryStep, contentFrom, builtFrom}
 
@@ -27,7 +27,7 @@ content p = contentFrom p.acceleration p.calls
 
 -- lists that the builders admit and whose image those bytes are
 abbrev pub ImageOf : List ℕ → Content → Type 0
-ImageOf l c = Admitted c × (image_of c ≡ l)
+ImageOf l c = Admitted c × (imageOf c ≡ l)
 
 -- "an absent loop count for a one-byte frame, a present one otherwise"
 abbrev pub LoopAsRead : FrameBuilder → Type 0

@@ -1,4 +1,3 @@
 pub mod Accepted
 pub mod Lengths
 pub mod Names
-pub mod Steps

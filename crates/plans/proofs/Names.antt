@@ -9,8 +9,8 @@ use mathlib.Core.List.{List, [], ◌∷◌}
 use lib.Dec.{ltb, eqb}
 use lib.ListN.{get_or}
 use Rattle.field.specs.Field.{withOf}
-use Rattle.field.specs.Layout.{width_of}
-use Rattle.registers.specs.Table.{address_of, parts_of}
+use Rattle.field.specs.Layout.{widthOf}
+use Rattle.registers.specs.Table.{addressOf, partsOf}
 use Rattle.config.specs.declared.ActuatorConfig.{ActuatorConfig}
 use Rattle.config.specs.declared.ActuatorType.TheVariants.{ERM}
 use Rattle.config.specs.declared.DeviceConfig.{DeviceConfig}
@@ -41,14 +41,14 @@ row register fields xs i = record { register = register; fields = fields; writes
 -- whether every name is in the table
 abbrev named : String → List FieldValue → Bool
 named register [] = true
-named register (put name value ∷ gs) = ltb 0 (width_of (parts_of register) name) && named register gs
+named register (put name value ∷ gs) = ltb 0 (widthOf (partsOf register) name) && named register gs
 
 -- whether a step writes these fields: a fresh byte, or the byte read last with them, be that 0 or 255
 abbrev makes : String → List FieldValue → Step → Bool
-makes name gs (Write register value) = eqb register (address_of name) && eqb (fresh name gs) value
+makes name gs (Write register value) = eqb register (addressOf name) && eqb (fresh name gs) value
 makes name gs (Update register shift width value) =
-    eqb register (address_of name) && eqb (fresh name gs) (withOf 0 shift width value)
-    && eqb (withFields (parts_of name) 255 gs) (withOf 255 shift width value)
+    eqb register (addressOf name) && eqb (fresh name gs) (withOf 0 shift width value)
+    && eqb (withFields (partsOf name) 255 gs) (withOf 255 shift width value)
 makes name gs (Read register) = false
 makes name gs (Match register value) = false
 makes name gs (Chunk offset len) = false

@@ -1,7 +1,7 @@
 -- The steps of `configure`, in the Rust's order: document 01, 'Settings to registers' and 'Exchanges'.
 use Rattle.std.specs.Prelude.{ℕ, ◌/◌, ◌%◌, Bool, true, false, cond, not, ◌&&◌, List, [], ◌∷◌, ◌++◌}
 use Prim.Native.String.{String, ◌++◌ as ◌&◌}
-use Rattle.field.specs.Field.{code_of}
+use Rattle.field.specs.Field.{codeOf}
 use Rattle.config.specs.declared.ActuatorConfig.{ActuatorConfig}
 use Rattle.config.specs.declared.DeviceConfig.{DeviceConfig}
 use Rattle.config.specs.declared.Pid.{Pid}
@@ -26,15 +26,15 @@ accelerates d = tracking d.driving_mode && d.acceleration
 abbrev pub topCfg1 : ActuatorConfig → DeviceConfig → ℕ
 topCfg1 a d =
     fresh "TOP_CFG1" (put "ACTUATOR_TYPE" (actuatorCode a.actuator_type)
-    ∷ put "BEMF_SENSE_EN" (code_of (tracking d.driving_mode)) ∷ put "FREQ_TRACK_EN" (code_of (tracking d.driving_mode))
-    ∷ put "ACCELERATION_EN" (code_of (accelerates d)) ∷ put "RAPID_STOP_EN" (code_of (tracking d.driving_mode && d.rapid_stop)) ∷ put "AMP_PID_EN" 0 ∷ put "EMBEDDED_MODE" 1 ∷ [])
+    ∷ put "BEMF_SENSE_EN" (codeOf (tracking d.driving_mode)) ∷ put "FREQ_TRACK_EN" (codeOf (tracking d.driving_mode))
+    ∷ put "ACCELERATION_EN" (codeOf (accelerates d)) ∷ put "RAPID_STOP_EN" (codeOf (tracking d.driving_mode && d.rapid_stop)) ∷ put "AMP_PID_EN" 0 ∷ put "EMBEDDED_MODE" 1 ∷ [])
 
 -- TOP_CFG1, TOP_CFG2 (read and updated), TOP_CFG5
 unfoldable pub featureSteps : ActuatorConfig → DeviceConfig → List Step
 featureSteps a d =
     written "TOP_CFG1" (topCfg1 a d)
-    ∷ (updated "TOP_CFG2" (put "MEM_DATA_SIGNED" (code_of (not (accelerates d))))
-    ++ (writtenWith "TOP_CFG5" (put "V2I_FACTOR_OFFSET_EN" (code_of (accelerates d)) ∷ []) ∷ []))
+    ∷ (updated "TOP_CFG2" (put "MEM_DATA_SIGNED" (codeOf (not (accelerates d))))
+    ++ (writtenWith "TOP_CFG5" (put "V2I_FACTOR_OFFSET_EN" (codeOf (accelerates d)) ∷ []) ∷ []))
 
 -- ACTUATOR1 to 3
 unfoldable pub limitSteps : ActuatorConfig → List Step

@@ -36,6 +36,7 @@ pub fn configure(session: &mut [u8], a: ActuatorConfig, d: DeviceConfig)
 }
 
 // The period of a frequency, as `set_frequency` writes it too.
+#[tactic(auto, unfolding(crate::specs::Configure::frequencySteps))]
 pub fn frequency(session: &mut [u8], hz: u16)
     ensures { session.new ≡ pushedAll session.old (frequencySteps hz) }
 {
@@ -50,6 +51,7 @@ pub fn frequency(session: &mut [u8], hz: u16)
     );
 }
 
+#[tactic(auto, unfolding(crate::specs::Configure::featureSteps))]
 fn features(session: &mut [u8], a: ActuatorConfig, d: DeviceConfig)
     ensures { session.new ≡ pushedAll session.old (featureSteps a d) }
 {
@@ -107,6 +109,7 @@ fn stops_rapidly(d: DeviceConfig) -> bool
     false
 }
 
+#[tactic(auto, unfolding(crate::specs::Configure::limitSteps))]
 fn limits(session: &mut [u8], a: ActuatorConfig)
     ensures { session.new ≡ pushedAll session.old (limitSteps a) }
 {
@@ -121,6 +124,7 @@ fn limits(session: &mut [u8], a: ActuatorConfig)
     write(session, Register::ACTUATOR3, actuator3.bits());
 }
 
+#[tactic(auto, unfolding(crate::specs::Configure::calibrationSteps))]
 fn calibration(session: &mut [u8], a: ActuatorConfig)
     ensures { session.new ≡ pushedAll session.old (calibrationSteps a) }
 {
@@ -136,6 +140,7 @@ fn calibration(session: &mut [u8], a: ActuatorConfig)
     write(session, Register::TRIM4, trim4.bits());
 }
 
+#[tactic(auto, unfolding(crate::specs::Configure::pidSteps))]
 fn pid(session: &mut [u8], pid_Kp_Ki: Pid)
     ensures { session.new ≡ pushedAll session.old (pidSteps pid_Kp_Ki) }
 {
@@ -145,6 +150,7 @@ fn pid(session: &mut [u8], pid_Kp_Ki: Pid)
     }
 }
 
+#[tactic(auto, unfolding(crate::specs::Configure::pidSteps))]
 fn pid_words(session: &mut [u8], kp: u16, ki: u16)
     ensures { session.new ≡ pushedAll session.old (pidSteps (Given kp ki)) }
 {
@@ -165,6 +171,7 @@ fn pid_words(session: &mut [u8], kp: u16, ki: u16)
 }
 
 // RAPID_STOP_LIM is 7 where rapid stop is off.
+#[tactic(auto, unfolding(crate::specs::Configure::rapidStopSteps))]
 fn rapid_stop(session: &mut [u8])
     ensures { session.new ≡ pushedAll session.old rapidStopSteps }
 {
@@ -177,6 +184,7 @@ fn rapid_stop(session: &mut [u8])
     );
 }
 
+#[tactic(auto, unfolding(crate::specs::Configure::drivingSteps))]
 fn driving(session: &mut [u8], driving_mode: DrivingMode)
     ensures { session.new ≡ pushedAll session.old (drivingSteps driving_mode) }
 {
@@ -194,6 +202,7 @@ fn untracked(session: &mut [u8])
     custom_waveform(session);
 }
 
+#[tactic(auto, unfolding(crate::specs::Configure::customSteps))]
 fn custom_waveform(session: &mut [u8])
     ensures { session.new ≡ pushedAll session.old customSteps }
 {
@@ -208,6 +217,7 @@ fn custom_waveform(session: &mut [u8])
     );
 }
 
+#[tactic(auto, unfolding(crate::specs::Configure::phaseSteps))]
 fn phase(session: &mut [u8])
     ensures { session.new ≡ pushedAll session.old phaseSteps }
 {
@@ -223,6 +233,7 @@ fn phase(session: &mut [u8])
     );
 }
 
+#[tactic(auto, unfolding(crate::specs::Configure::triggerSteps))]
 fn triggers(session: &mut [u8], d: DeviceConfig)
     ensures { session.new ≡ pushedAll session.old (triggerSteps d) }
 {
@@ -243,6 +254,7 @@ fn gpis(session: &mut [u8], first: Trigger, second: Trigger, third: Trigger)
     trigger_2(session, third);
 }
 
+#[tactic(auto, unfolding(crate::specs::Configure::gpiSteps))]
 fn trigger_0(session: &mut [u8], trigger: Trigger)
     ensures { session.new ≡ pushedAll session.old (gpiSteps "0" trigger) }
 {
@@ -253,6 +265,7 @@ fn trigger_0(session: &mut [u8], trigger: Trigger)
 }
 
 // The mode bit is always set, whatever the trigger's mode.
+#[tactic(auto, unfolding(crate::specs::Configure::gpiByte))]
 fn gpi_0(t: TriggerConfig) -> u8
     ensures { result ≡ gpiByte "0" t }
 {
@@ -264,6 +277,7 @@ fn gpi_0(t: TriggerConfig) -> u8
     gpi.bits()
 }
 
+#[tactic(auto, unfolding(crate::specs::Configure::gpiSteps))]
 fn trigger_1(session: &mut [u8], trigger: Trigger)
     ensures { session.new ≡ pushedAll session.old (gpiSteps "1" trigger) }
 {
@@ -274,6 +288,7 @@ fn trigger_1(session: &mut [u8], trigger: Trigger)
 }
 
 // The mode bit is always set, whatever the trigger's mode.
+#[tactic(auto, unfolding(crate::specs::Configure::gpiByte))]
 fn gpi_1(t: TriggerConfig) -> u8
     ensures { result ≡ gpiByte "1" t }
 {
@@ -285,6 +300,7 @@ fn gpi_1(t: TriggerConfig) -> u8
     gpi.bits()
 }
 
+#[tactic(auto, unfolding(crate::specs::Configure::gpiSteps))]
 fn trigger_2(session: &mut [u8], trigger: Trigger)
     ensures { session.new ≡ pushedAll session.old (gpiSteps "2" trigger) }
 {
@@ -295,6 +311,7 @@ fn trigger_2(session: &mut [u8], trigger: Trigger)
 }
 
 // The mode bit is always set, whatever the trigger's mode.
+#[tactic(auto, unfolding(crate::specs::Configure::gpiByte))]
 fn gpi_2(t: TriggerConfig) -> u8
     ensures { result ≡ gpiByte "2" t }
 {

@@ -12,14 +12,14 @@ use Rattle.laws.specs.Lists.{joined}
 use Rattle.frame.specs.declared.FrameBuilder.{FrameBuilder}
 use Rattle.frame.specs.Builder.{silentFrame}
 use Rattle.frame.specs.Read.{Parsed, readFrame}
-use Rattle.content.specs.ReadImage.{and_then, every, readFrames, readSequence}
+use Rattle.content.specs.ReadImage.{andThen, every, readFrames, readSequence}
 use Rattle.content.proofs.Codec.{none-some, some_inj, cond-some, then_some, cons-eq}
 use Rattle.reader.specs.declared.Points.{Points}
 use Rattle.reader.specs.declared.Frames.{Frames}
 use Rattle.reader.specs.Reading.{noPoints, noFrames}
 use Rattle.reader.specs.Flat.{pushPoint, pushPoints, pushFrame, endSnippet, endSequence}
 use Rattle.reader.specs.Walk.{runFrames, pushSnippet, pushSequence}
-use Rattle.reader.proofs.Cuts.{in_turn}
+use Rattle.reader.proofs.Cuts.{inTurn}
 use Rattle.reader.proofs.Flats.{Flat, push, pushAll, close, joined_snoc, flatOf, add-list}
 use Rattle.reader.proofs.Running.{rest}
 
@@ -34,27 +34,27 @@ module _ {A S : Type 0} (blank : A) (most : ℕ) (flat : S → Flat A) where
   Tracks xs (some o) (some ys) = flat o ≡ flatOf blank most (xs ++ ys)
 
   tracks-put : (xs : List (List A)) (x : List A) (m : Option S) (n : Option (List (List A))) → Tracks (xs ++ x ∷ []) m n
-      → Tracks xs m (and_then n (λ ys. some (x ∷ ys)))
+      → Tracks xs m (andThen n (λ ys. some (x ∷ ys)))
   tracks-put xs x none none s = s
   tracks-put xs x none (some ys) s = s
   tracks-put xs x (some o) none s = s
   tracks-put xs x (some o) (some ys) s = s ∙ ap (flatOf blank most) (append_assoc xs (x ∷ []) ys)
 
   module _ (step : List ℕ → S → Option S) (raw : List ℕ → Option (List A)) (add : S → List A → S)
-      (hs : (bs : List ℕ) (o : S) → step bs o ≡ and_then (raw bs) (λ x. some (add o x)))
+      (hs : (bs : List ℕ) (o : S) → step bs o ≡ andThen (raw bs) (λ x. some (add o x)))
       (hl : (bs : List ℕ) (x : List A) → raw bs ≡ some x → length x ≤ length bs)
       (ha : (o : S) (x : List A) → flat (add o x) ≡ close most (pushAll (flat o) x)) where
     pub tracks : (items : List (List ℕ)) (o : S) (xs : List (List A)) → flat o ≡ flatOf blank most xs
         → length (joined xs) + length (joined items) ≤ 96 → length xs + length items ≤ most
-        → Tracks xs (in_turn step items o) (every raw items)
+        → Tracks xs (inTurn step items o) (every raw items)
     tracks [] o xs h f g = h ∙ ap (flatOf blank most) (sym (append-nil xs))
     tracks (bs ∷ items) o xs h f g =
-        subst (λ (m : Option S). Tracks xs (and_then m (λ o'. in_turn step items o')) (every raw (bs ∷ items))) (sym (hs bs o))
+        subst (λ (m : Option S). Tracks xs (andThen m (λ o'. inTurn step items o')) (every raw (bs ∷ items))) (sym (hs bs o))
         (go (tracks items) (raw bs) refl)
       where
-        go : ((o : S) (xs : List (List A)) → flat o ≡ flatOf blank most xs → length (joined xs) + length (joined items) ≤ 96 → length xs + length items ≤ most → Tracks xs (in_turn step items o) (every raw items))
+        go : ((o : S) (xs : List (List A)) → flat o ≡ flatOf blank most xs → length (joined xs) + length (joined items) ≤ 96 → length xs + length items ≤ most → Tracks xs (inTurn step items o) (every raw items))
             → (m : Option (List A)) → raw bs ≡ m
-            → Tracks xs (and_then (and_then m (λ x. some (add o x))) (λ o'. in_turn step items o')) (and_then m (λ x. and_then (every raw items) (λ ys. some (x ∷ ys))))
+            → Tracks xs (andThen (andThen m (λ x. some (add o x))) (λ o'. inTurn step items o')) (andThen m (λ x. andThen (every raw items) (λ ys. some (x ∷ ys))))
         go ih none k = tt
         go ih (some x) k =
             let n = hl bs x k in
@@ -63,7 +63,7 @@ module _ {A S : Type 0} (blank : A) (most : ℕ) (flat : S → Flat A) where
             ha o x ∙ ap (λ (z : Flat A). close most (pushAll z x)) h ∙ add-list blank most xs x (omega arith) (omega arith) in
             let l : length (joined (xs ++ x ∷ [])) ≡ length (joined xs) + length x = ap length (joined_snoc xs x) ∙ length-append (joined xs) x in
             let c = length-append xs (x ∷ []) in
-            tracks-put xs x (in_turn step items (add o x)) (every raw items) (ih (add o x) (xs ++ x ∷ []) e (omega arith) (omega arith))
+            tracks-put xs x (inTurn step items (add o x)) (every raw items) (ih (add o x) (xs ++ x ∷ []) e (omega arith) (omega arith))
 
 -- ---- points
 
@@ -97,23 +97,23 @@ raw-long bs x e =
 pub raw_same : (items xs : List (List ℕ)) → every rawSnippet items ≡ some xs → items ≡ xs
 raw_same [] xs e = some_inj e
 raw_same (bs ∷ items) xs e =
-    let (x, e₁, e₂) = then_some (rawSnippet bs) (λ x. and_then (every rawSnippet items) (λ ys. some (x ∷ ys))) e in
+    let (x, e₁, e₂) = then_some (rawSnippet bs) (λ x. andThen (every rawSnippet items) (λ ys. some (x ∷ ys))) e in
     let (ys, e₃, e₄) = then_some (every rawSnippet items) (λ ys. some (x ∷ ys)) e₂ in
     cons-eq (some_inj (cond-some (leb 1 (length bs) && leb (length bs) 16) (some bs) e₁).1) (raw_same items ys e₃) ∙ some_inj e₄
 
 abbrev addSnippet : Points → List ℕ → Points
 addSnippet o x = endSnippet (pushPoints o x)
 
-cond-some-then : {A B : Type 0} (t : Bool) (a : A) (f : A → B) → cond t (some (f a)) none ≡ and_then (cond t (some a) none) (λ x. some (f x))
+cond-some-then : {A B : Type 0} (t : Bool) (a : A) (f : A → B) → cond t (some (f a)) none ≡ andThen (cond t (some a) none) (λ x. some (f x))
 cond-some-then true a f = refl
 cond-some-then false a f = refl
 
-snippet-raw : (bs : List ℕ) (o : Points) → pushSnippet bs o ≡ and_then (rawSnippet bs) (λ x. some (addSnippet o x))
+snippet-raw : (bs : List ℕ) (o : Points) → pushSnippet bs o ≡ andThen (rawSnippet bs) (λ x. some (addSnippet o x))
 unfolding pushSnippet
 snippet-raw bs o = cond-some-then (leb 1 (length bs) && leb (length bs) 16) bs (addSnippet o)
 
 pub tracks-snippets : (items : List (List ℕ)) → length (joined items) ≤ 96 → length items ≤ 15
-    → Tracks 0 15 flatPoints [] (in_turn pushSnippet items noPoints) (every rawSnippet items)
+    → Tracks 0 15 flatPoints [] (inTurn pushSnippet items noPoints) (every rawSnippet items)
 tracks-snippets items f g =
     tracks 0 15 flatPoints pushSnippet rawSnippet addSnippet snippet-raw raw-long (λ o x. flatPoints-end (pushPoints o x) ∙ ap (close 15) (flatPoints-all x o)) items noPoints []
     refl (omega arith) (omega arith)
@@ -143,17 +143,17 @@ flatFrames-end : (o : Frames) → flatFrames (endSequence o) ≡ close 16 (flatF
 unfolding endSequence
 flatFrames-end o = flatFrames-cond (ltb o.count 16) _ o
 
-run-frames : (k : ℕ) (l : List ℕ) (o : Frames) → runFrames k l o ≡ and_then (readFrames k l) (λ fs. some (pushFrames o fs))
+run-frames : (k : ℕ) (l : List ℕ) (o : Frames) → runFrames k l o ≡ andThen (readFrames k l) (λ fs. some (pushFrames o fs))
 run-frames zero [] o = refl
 run-frames zero (b ∷ bs) o = refl
 run-frames (suc k) [] o = refl
 run-frames (suc k) (b ∷ bs) o = go (readFrame (b ∷ bs)) (λ l. run-frames k l) where
-  inner : (f : FrameBuilder) (q : Option (List FrameBuilder)) → and_then q (λ fs. some (pushFrames (pushFrame o f) fs)) ≡ and_then (and_then q (λ fs. some (f ∷ fs))) (λ fs. some (pushFrames o fs))
+  inner : (f : FrameBuilder) (q : Option (List FrameBuilder)) → andThen q (λ fs. some (pushFrames (pushFrame o f) fs)) ≡ andThen (andThen q (λ fs. some (f ∷ fs))) (λ fs. some (pushFrames o fs))
   inner f none = refl
   inner f (some fs) = refl
 
-  go : (d : Option Parsed) → ((l : List ℕ) (o : Frames) → runFrames k l o ≡ and_then (readFrames k l) (λ fs. some (pushFrames o fs)))
-      → and_then d (λ p. runFrames k p.rest (pushFrame o p.frame)) ≡ and_then (and_then d (λ p. and_then (readFrames k p.rest) (λ fs. some (p.frame ∷ fs)))) (λ fs. some (pushFrames o fs))
+  go : (d : Option Parsed) → ((l : List ℕ) (o : Frames) → runFrames k l o ≡ andThen (readFrames k l) (λ fs. some (pushFrames o fs)))
+      → andThen d (λ p. runFrames k p.rest (pushFrame o p.frame)) ≡ andThen (andThen d (λ p. andThen (readFrames k p.rest) (λ fs. some (p.frame ∷ fs)))) (λ fs. some (pushFrames o fs))
   go none ih = refl
   go (some p) ih = ih p.rest (pushFrame o p.frame) ∙ inner p.frame (readFrames k p.rest)
 
@@ -163,7 +163,7 @@ frames-long zero [] fs e = let z = ap length (some_inj e) in omega arith
 frames-long zero (b ∷ bs) fs e = none-some fs e
 frames-long (suc k) [] fs e = let z = ap length (some_inj e) in omega arith
 frames-long (suc k) (b ∷ bs) fs e =
-    let (p, e₁, e₂) = then_some (readFrame (b ∷ bs)) (λ p. and_then (readFrames k p.rest) (λ fs. some (p.frame ∷ fs))) e in
+    let (p, e₁, e₂) = then_some (readFrame (b ∷ bs)) (λ p. andThen (readFrames k p.rest) (λ fs. some (p.frame ∷ fs))) e in
     let (gs, e₃, e₄) = then_some (readFrames k p.rest) (λ fs. some (p.frame ∷ fs)) e₂ in
     let n = frames-long k p.rest gs e₃ in
     let z = ap length (some_inj e₄) in
@@ -176,20 +176,20 @@ sequence-long bs fs e = frames-long 32 bs fs (cond-some (leb 1 (length bs)) (rea
 abbrev addSequence : Frames → List FrameBuilder → Frames
 addSequence o x = endSequence (pushFrames o x)
 
-sequence-raw : (bs : List ℕ) (o : Frames) → pushSequence bs o ≡ and_then (readSequence bs) (λ x. some (addSequence o x))
+sequence-raw : (bs : List ℕ) (o : Frames) → pushSequence bs o ≡ andThen (readSequence bs) (λ x. some (addSequence o x))
 unfolding pushSequence readSequence
 sequence-raw bs o =
-    ap (λ (m : Option Frames). cond (leb 1 (length bs)) (and_then m (λ f. some (endSequence f))) none) (run-frames 32 bs o)
+    ap (λ (m : Option Frames). cond (leb 1 (length bs)) (andThen m (λ f. some (endSequence f))) none) (run-frames 32 bs o)
     ∙ go (leb 1 (length bs)) (readFrames 32 bs)
   where
     go : (t : Bool) (q : Option (List FrameBuilder))
-        → cond t (and_then (and_then q (λ fs. some (pushFrames o fs))) (λ f. some (endSequence f))) none ≡ and_then (cond t q none) (λ x. some (addSequence o x))
+        → cond t (andThen (andThen q (λ fs. some (pushFrames o fs))) (λ f. some (endSequence f))) none ≡ andThen (cond t q none) (λ x. some (addSequence o x))
     go true none = refl
     go true (some x) = refl
     go false q = refl
 
 pub tracks-sequences : (items : List (List ℕ)) → length (joined items) ≤ 96 → length items ≤ 16
-    → Tracks silentFrame 16 flatFrames [] (in_turn pushSequence items noFrames) (every readSequence items)
+    → Tracks silentFrame 16 flatFrames [] (inTurn pushSequence items noFrames) (every readSequence items)
 tracks-sequences items f g =
     tracks silentFrame 16 flatFrames pushSequence readSequence addSequence sequence-raw sequence-long (λ o x. flatFrames-end (pushFrames o x) ∙ ap (close 16) (flatFrames-all x o)) items noFrames []
     refl (omega arith) (omega arith)

@@ -13,19 +13,19 @@ use lib.Seq.{drop-drop}
 use Rattle.laws.proofs.Lists.{all_left, all_right}
 use Rattle.laws.specs.Bytes.{All, Bytes}
 use Rattle.laws.specs.Lists.{joined}
-use Rattle.content.specs.ReadImage.{and_then, Cut, cut}
+use Rattle.content.specs.ReadImage.{andThen, Cut, cut}
 use Rattle.content.proofs.Codec.{some_inj, cond-some, then_some}
 use Rattle.reader.specs.Walk.{Walked, item, walk}
 
 -- the last of the pointers
-abbrev pub last_of : ℕ → List ℕ → ℕ
-last_of p [] = p
-last_of p (e ∷ es) = last_of e es
+abbrev pub lastOf : ℕ → List ℕ → ℕ
+lastOf p [] = p
+lastOf p (e ∷ es) = lastOf e es
 
 -- each item in turn
-abbrev pub in_turn : {S : Type 0} → (List ℕ → S → Option S) → List (List ℕ) → S → Option S
-in_turn step [] o = some o
-in_turn step (x ∷ xs) o = and_then (step x o) (λ o'. in_turn step xs o')
+abbrev pub inTurn : {S : Type 0} → (List ℕ → S → Option S) → List (List ℕ) → S → Option S
+inTurn step [] o = some o
+inTurn step (x ∷ xs) o = andThen (step x o) (λ o'. inTurn step xs o')
 
 abbrev putCut : List ℕ → Cut → Option Cut
 putCut x c = some (record { items = x ∷ c.items; left = c.left })
@@ -36,22 +36,22 @@ drop-on image p e h =
 
 module _ {S : Type 0} (step : List ℕ → S → Option S) (image : List ℕ) where
   abbrev pub afterCut : ℕ → S → Cut → Option (Walked S)
-  afterCut last o c = and_then (in_turn step c.items o) (λ o'. some (record { state = o'; last = last }))
+  afterCut last o c = andThen (inTurn step c.items o) (λ o'. some (record { state = o'; last = last }))
 
   one_more : (x : List ℕ) (last : ℕ) (o : S) (f : S → Option (Walked S)) (m : Option Cut) (r : Option S) → step x o ≡ r
-      → ((o' : S) → f o' ≡ and_then m (afterCut last o'))
-      → and_then r f ≡ and_then (and_then m (putCut x)) (afterCut last o)
+      → ((o' : S) → f o' ≡ andThen m (afterCut last o'))
+      → andThen r f ≡ andThen (andThen m (putCut x)) (afterCut last o)
   one_more x last o f none none e h = refl
   one_more x last o f none (some o') e h = h o'
   one_more x last o f (some c) none e h = sym (rw e)
   one_more x last o f (some c) (some o') e h = h o' ∙ sym (rw e)
 
-  pub walk-cut : (es : List ℕ) (p : ℕ) (o : S) → walk step image p es o ≡ and_then (cut p es (drop (p + 1) image)) (afterCut (last_of p es) o)
+  pub walk-cut : (es : List ℕ) (p : ℕ) (o : S) → walk step image p es o ≡ andThen (cut p es (drop (p + 1) image)) (afterCut (lastOf p es) o)
   walk-cut [] p o = refl
   walk-cut (e ∷ es) p o = rises (λ o'. walk-cut es e o') (ltb p e) refl where
-    inside : ((o' : S) → walk step image e es o' ≡ and_then (cut e es (drop (e + 1) image)) (afterCut (last_of e es) o')) → p < e → (t : Bool) → ltb e (length image) ≡ t
-        → cond t (and_then (step (item image p e) o) (λ o'. walk step image e es o')) none
-        ≡ and_then (cond (leb (e - p) (length (drop (p + 1) image))) (and_then (cut e es (drop (e - p) (drop (p + 1) image))) (putCut (item image p e))) none) (afterCut (last_of e es) o)
+    inside : ((o' : S) → walk step image e es o' ≡ andThen (cut e es (drop (e + 1) image)) (afterCut (lastOf e es) o')) → p < e → (t : Bool) → ltb e (length image) ≡ t
+        → cond t (andThen (step (item image p e) o) (λ o'. walk step image e es o')) none
+        ≡ andThen (cond (leb (e - p) (length (drop (p + 1) image))) (andThen (cut e es (drop (e - p) (drop (p + 1) image))) (putCut (item image p e))) none) (afterCut (lastOf e es) o)
     inside ih u false k =
         let n = length-drop (p + 1) image in
         let v = ltb-false e (length image) k in
@@ -59,12 +59,12 @@ module _ {S : Type 0} (step : List ℕ → S → Option S) (image : List ℕ) wh
     inside ih u true k =
         let n = length-drop (p + 1) image in
         let v = ltb-true e (length image) k in
-        one_more (item image p e) (last_of e es) o (λ o'. walk step image e es o') (cut e es (drop (e + 1) image)) (step (item image p e) o) refl ih
+        one_more (item image p e) (lastOf e es) o (λ o'. walk step image e es o') (cut e es (drop (e + 1) image)) (step (item image p e) o) refl ih
         ∙ sym (rw (le-leb (e - p) (length (drop (p + 1) image)) (omega arith), drop-on image p e u))
 
-    rises : ((o' : S) → walk step image e es o' ≡ and_then (cut e es (drop (e + 1) image)) (afterCut (last_of e es) o')) → (t : Bool) → ltb p e ≡ t
-        → cond t (cond (ltb e (length image)) (and_then (step (item image p e) o) (λ o'. walk step image e es o')) none) none
-        ≡ and_then (cond (t && leb (e - p) (length (drop (p + 1) image))) (and_then (cut e es (drop (e - p) (drop (p + 1) image))) (putCut (item image p e))) none) (afterCut (last_of e es) o)
+    rises : ((o' : S) → walk step image e es o' ≡ andThen (cut e es (drop (e + 1) image)) (afterCut (lastOf e es) o')) → (t : Bool) → ltb p e ≡ t
+        → cond t (cond (ltb e (length image)) (andThen (step (item image p e) o) (λ o'. walk step image e es o')) none) none
+        ≡ andThen (cond (t && leb (e - p) (length (drop (p + 1) image))) (andThen (cut e es (drop (e - p) (drop (p + 1) image))) (putCut (item image p e))) none) (afterCut (lastOf e es) o)
     rises ih false k = refl
     rises ih true k = inside ih (ltb-true p e k) (ltb e (length image)) refl
 
@@ -74,31 +74,31 @@ abbrev pub joinCut : Cut → Cut → Option Cut
 joinCut c d = some (record { items = c.items ++ d.items; left = d.left })
 
 abbrev pub cutMore : ℕ → List ℕ → Cut → Option Cut
-cutMore last fs c = and_then (cut last fs c.left) (joinCut c)
+cutMore last fs c = andThen (cut last fs c.left) (joinCut c)
 
 cut-more : (x : List ℕ) (last : ℕ) (fs : List ℕ) (m : Option Cut)
-    → and_then (and_then m (cutMore last fs)) (putCut x) ≡ and_then (and_then m (putCut x)) (cutMore last fs)
+    → andThen (andThen m (cutMore last fs)) (putCut x) ≡ andThen (andThen m (putCut x)) (cutMore last fs)
 cut-more x last fs none = refl
 cut-more x last fs (some c) = go (cut last fs c.left) where
-  go : (n : Option Cut) → and_then (and_then n (joinCut c)) (putCut x) ≡ and_then n (joinCut (record { items = x ∷ c.items; left = c.left }))
+  go : (n : Option Cut) → andThen (andThen n (joinCut c)) (putCut x) ≡ andThen n (joinCut (record { items = x ∷ c.items; left = c.left }))
   go none = refl
   go (some d) = refl
 
-pub cond-then : {A B : Type 0} (t : Bool) (m : Option A) (f : A → Option B) → cond t (and_then m f) none ≡ and_then (cond t m none) f
+pub cond-then : {A B : Type 0} (t : Bool) (m : Option A) (f : A → Option B) → cond t (andThen m f) none ≡ andThen (cond t m none) f
 cond-then true m f = refl
 cond-then false m f = refl
 
-pub cut-append : (es : List ℕ) (p : ℕ) (fs l : List ℕ) → cut p (es ++ fs) l ≡ and_then (cut p es l) (cutMore (last_of p es) fs)
+pub cut-append : (es : List ℕ) (p : ℕ) (fs l : List ℕ) → cut p (es ++ fs) l ≡ andThen (cut p es l) (cutMore (lastOf p es) fs)
 cut-append [] p fs l = go (cut p fs l) where
-  go : (n : Option Cut) → n ≡ and_then n (joinCut (record { items = []; left = l }))
+  go : (n : Option Cut) → n ≡ andThen n (joinCut (record { items = []; left = l }))
   go none = refl
   go (some d) = refl
 cut-append (e ∷ es) p fs l =
     let x : List ℕ = take (e - p) l in
     let r : List ℕ = drop (e - p) l in
     ap (λ (m : Option Cut). cond (ltb p e && leb (e - p) (length l)) m none)
-    (ap (λ (m : Option Cut). and_then m (putCut x)) (cut-append es e fs r) ∙ cut-more x (last_of e es) fs (cut e es r))
-    ∙ cond-then (ltb p e && leb (e - p) (length l)) (and_then (cut e es r) (putCut x)) (cutMore (last_of e es) fs)
+    (ap (λ (m : Option Cut). andThen m (putCut x)) (cut-append es e fs r) ∙ cut-more x (lastOf e es) fs (cut e es r))
+    ∙ cond-then (ltb p e && leb (e - p) (length l)) (andThen (cut e es r) (putCut x)) (cutMore (lastOf e es) fs)
 
 -- ---- what was cut
 
@@ -109,11 +109,11 @@ rest-bytes : (n : ℕ) (l : List ℕ) → Bytes l → Bytes (drop n l)
 rest-bytes n l h = all_right (λ b. b < 256) (take n l) (drop n l) (subst Bytes (sym (take-append-drop n l)) h)
 
 pub record WasCut (p : ℕ) (es image : List ℕ) (c : Cut) : Type 0 where
-  pub left : c.left ≡ drop (last_of p es + 1) image
+  pub left : c.left ≡ drop (lastOf p es + 1) image
   pub count : length c.items ≡ length es
-  pub rises : p ≤ last_of p es
-  pub size : length (joined c.items) + p ≤ last_of p es
-  pub within : p < length image → last_of p es < length image
+  pub rises : p ≤ lastOf p es
+  pub size : length (joined c.items) + p ≤ lastOf p es
+  pub within : p < length image → lastOf p es < length image
   pub bytes : Bytes image → All Bytes c.items
 
 pub was-cut : (es : List ℕ) (p : ℕ) (image : List ℕ) (c : Cut) → cut p es (drop (p + 1) image) ≡ some c → WasCut p es image c

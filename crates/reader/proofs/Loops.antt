@@ -11,7 +11,7 @@ use borrow.Author.Tests.{lt-ltb, le-ltb, le-leb, lt-leb}
 use lib.Dec.{ltb, leb}
 use lib.ListN.{length, take, drop, get_or, length-drop, drop_of_length-le}
 use lib.Seq.{drop-cons, length-take-le}
-use Rattle.content.specs.ReadImage.{and_then, allZero}
+use Rattle.content.specs.ReadImage.{andThen, allZero}
 use Rattle.reader.specs.declared.Points.{Points}
 use Rattle.reader.specs.declared.Frames.{Frames}
 use Rattle.reader.specs.Flat.{pushPoint, pushPoints, endSnippet, endSequence}
@@ -91,11 +91,11 @@ module _ (image : List ℕ) (p e : ℕ) (f : p < e) (g : e < length image) where
   unfolding pushSnippet
   snippet-good o h = let n = item-length in simp (item-some, le-leb (length (item image p e)) 16 (omega arith))
 
-  pub sequence-run : (o : Frames) (m : Option Frames) → runFrames 32 (item image p e) o ≡ m → pushSequence (item image p e) o ≡ and_then m (λ x. some (endSequence x))
+  pub sequence-run : (o : Frames) (m : Option Frames) → runFrames 32 (item image p e) o ≡ m → pushSequence (item image p e) o ≡ andThen m (λ x. some (endSequence x))
   unfolding pushSequence
   sequence-run o m k =
-      ap (λ (t : Bool). cond t (and_then (runFrames 32 (item image p e) o) (λ x. some (endSequence x))) none) item-some
-      ∙ ap (λ (x : Option Frames). and_then x (λ y. some (endSequence y))) k
+      ap (λ (t : Bool). cond t (andThen (runFrames 32 (item image p e) o) (λ x. some (endSequence x))) none) item-some
+      ∙ ap (λ (x : Option Frames). andThen x (λ y. some (endSequence y))) k
 
 -- ---- parts of the image
 

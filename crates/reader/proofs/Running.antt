@@ -12,7 +12,7 @@ use lib.Seq.{drop-drop, drop_at}
 use Rattle.errors.specs.Told.{gives, refuses}
 use Rattle.frame.specs.declared.FrameBuilder.{FrameBuilder}
 use Rattle.frame.specs.Read.{twoBytes, Parsed, parsed, readThird, readSecond, readAfter, readFrame, oneByte, Taken, takenFrom}
-use Rattle.content.specs.ReadImage.{and_then}
+use Rattle.content.specs.ReadImage.{andThen}
 use Rattle.content.proofs.Codec.{none-some, some_inj, cond-some}
 use Rattle.reader.specs.declared.Frames.{Frames}
 use Rattle.reader.specs.Flat.{pushFrame}
@@ -83,13 +83,13 @@ run_end k s at o h = ap (λ (l : List ℕ). runFrames k l o) (drop_of_length-le 
 
 module _ (s : List ℕ) (at k : ℕ) (o : Frames) (h : at < length s) where
   run-one : k < 32 → (m : Option Parsed) → readFrame (drop at s) ≡ m
-      → runFrames (32 - k) (drop at s) o ≡ and_then m (λ p. runFrames (32 - (k + 1)) p.rest (pushFrame o p.frame))
+      → runFrames (32 - k) (drop at s) o ≡ andThen m (λ p. runFrames (32 - (k + 1)) p.rest (pushFrame o p.frame))
   run-one g m e =
       let n : 32 - k ≡ suc (32 - (k + 1)) = omega arith in
       let d = drop-one s at h in
       ap (λ (j : ℕ). runFrames j (drop at s) o) n
       ∙ ap (λ (l : List ℕ). runFrames (suc (32 - (k + 1))) l o) d
-      ∙ ap (λ (x : Option Parsed). and_then x (λ p. runFrames (32 - (k + 1)) p.rest (pushFrame o p.frame))) (ap readFrame (sym d) ∙ e)
+      ∙ ap (λ (x : Option Parsed). andThen x (λ p. runFrames (32 - (k + 1)) p.rest (pushFrame o p.frame))) (ap readFrame (sym d) ∙ e)
 
   pub run_step : (f : FrameBuilder) (m : ℕ) → k < 32 → gives (record { frame = f; len = m }) ≡ takenFrom (length (drop at s)) (readFrame (drop at s))
       → runFrames (32 - k) (drop at s) o ≡ runFrames (32 - (k + 1)) (drop (at + m) s) (pushFrame o f)

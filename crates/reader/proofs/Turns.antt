@@ -13,7 +13,7 @@ use lib.Seq.{drop-drop, take-nil}
 use Rattle.errors.specs.Told.{gives, refuses}
 use Rattle.frame.specs.declared.FrameBuilder.{FrameBuilder}
 use Rattle.frame.specs.Read.{Parsed, readFrame, Taken, takenFrom, firstFrame}
-use Rattle.content.specs.ReadImage.{and_then}
+use Rattle.content.specs.ReadImage.{andThen}
 use Rattle.reader.specs.declared.Frames.{Frames}
 use Rattle.reader.specs.Flat.{pushFrame, endSequence}
 use Rattle.reader.specs.Walk.{runFrames, Walked, item, pushSequence, walkSequences, nextFrame}
@@ -53,10 +53,10 @@ module _ (image : List ℕ) where
   abbrev pub going : ℕ → ℕ → List ℕ → Frames → Option (Walked Frames)
   going j p [] o = some (record { state = o; last = p })
   going j p (e ∷ es) o =
-      cond (ltb p e) (cond (ltb e (length image)) (and_then (runFrames j (item image p e) o) (λ f. walkSequences image e es (endSequence f))) none) none
+      cond (ltb p e) (cond (ltb e (length image)) (andThen (runFrames j (item image p e) o) (λ f. walkSequences image e es (endSequence f))) none) none
 
   then-then : (m : Option Frames) (e : ℕ) (es : List ℕ)
-      → and_then m (λ f. walkSequences image e es (endSequence f)) ≡ and_then (and_then m (λ x. some (endSequence x))) (λ o. walkSequences image e es o)
+      → andThen m (λ f. walkSequences image e es (endSequence f)) ≡ andThen (andThen m (λ x. some (endSequence x))) (λ o. walkSequences image e es o)
   then-then none e es = refl
   then-then (some f) e es = refl
 
@@ -64,13 +64,13 @@ module _ (image : List ℕ) where
   going_start [] p o = refl
   going_start (e ∷ es) p o = go (ltb p e) refl (ltb e (length image)) refl where
     go : (t : Bool) → ltb p e ≡ t → (u : Bool) → ltb e (length image) ≡ u
-        → cond t (cond u (and_then (runFrames 32 (item image p e) o) (λ f. walkSequences image e es (endSequence f))) none) none
-        ≡ cond t (cond u (and_then (pushSequence (item image p e) o) (λ o'. walkSequences image e es o')) none) none
+        → cond t (cond u (andThen (runFrames 32 (item image p e) o) (λ f. walkSequences image e es (endSequence f))) none) none
+        ≡ cond t (cond u (andThen (pushSequence (item image p e) o) (λ o'. walkSequences image e es o')) none) none
     go false f u g = refl
     go true f false g = refl
     go true f true g =
         let r = sequence-run image p e (ltb-true p e f) (ltb-true e (length image) g) o (runFrames 32 (item image p e) o) refl in
-        then-then (runFrames 32 (item image p e) o) e es ∙ ap (λ (x : Option Frames). and_then x (λ o'. walkSequences image e es o')) (sym r)
+        then-then (runFrames 32 (item image p e) o) e es ∙ ap (λ (x : Option Frames). andThen x (λ o'. walkSequences image e es o')) (sym r)
 
   module _ (p e k : ℕ) (es : List ℕ) (o : Frames) where
     -- what reading a frame tells, by the tests before it
@@ -82,7 +82,7 @@ module _ (image : List ℕ) where
       some_left = let n = item-length image p e h g in omega arith
 
       abbrev next : Option Frames → Option (Walked Frames)
-      next m = and_then m (λ f. walkSequences image e es (endSequence f))
+      next m = andThen m (λ f. walkSequences image e es (endSequence f))
 
       pub turn-refused : (n : ℕ) → refuses n ≡ cond (ltb k 32) (firstFrame bytes) (refuses 18) → next (runFrames (32 - k) bytes o) ≡ none
       turn-refused n d = go (ltb k 32) refl d where
@@ -112,7 +112,7 @@ module _ (image : List ℕ) where
     refused-turn n d = go (ltb p e) refl (ltb e (length image)) refl d where
       go : (t : Bool) → ltb p e ≡ t → (u : Bool) → ltb e (length image) ≡ u
           → refuses n ≡ cond t (cond u (cond (ltb k 32) (firstFrame (item image p e)) (refuses 18)) (refuses 18)) (refuses 18)
-          → cond t (cond u (and_then (runFrames (32 - k) (item image p e) o) (λ f. walkSequences image e es (endSequence f))) none) none ≡ none
+          → cond t (cond u (andThen (runFrames (32 - k) (item image p e) o) (λ f. walkSequences image e es (endSequence f))) none) none ≡ none
       go false h u g d = refl
       go true h false g d = refl
       go true h true g d = turn-refused (ltb-true p e h) (ltb-true e (length image) g) n d
@@ -124,7 +124,7 @@ module _ (image : List ℕ) where
       pub inside : p + m ≤ e
       pub within : e < length image
       pub left : going (32 - k) p (e ∷ es) o
-          ≡ and_then (runFrames (32 - (k + 1)) (item image (p + m) e) (pushFrame o f)) (λ x. walkSequences image e es (endSequence x))
+          ≡ andThen (runFrames (32 - (k + 1)) (item image (p + m) e) (pushFrame o f)) (λ x. walkSequences image e es (endSequence x))
 
     pub turned : (f : FrameBuilder) (m : ℕ) → gives (record { frame = f; len = m }) ≡ nextFrame image p e k → Turned f m
     turned f m d = go (ltb p e) refl (ltb e (length image)) refl d where
@@ -149,9 +149,9 @@ module _ (image : List ℕ) where
           let n : e - (p + m) ≡ 0 = omega arith in
           let q : e ≡ p + m = omega (arith, w.inside) in
           w.left
-          ∙ ap (λ (l : List ℕ). and_then (runFrames (32 - (k + 1)) l (pushFrame o f)) (λ x. walkSequences image e es (endSequence x)))
+          ∙ ap (λ (l : List ℕ). andThen (runFrames (32 - (k + 1)) l (pushFrame o f)) (λ x. walkSequences image e es (endSequence x)))
           (ap (λ (x : ℕ). take x (drop (p + m + 1) image)) n)
-          ∙ ap (λ (x : Option Frames). and_then x (λ y. walkSequences image e es (endSequence y))) (run-nil (32 - (k + 1)) (pushFrame o f))
+          ∙ ap (λ (x : Option Frames). andThen x (λ y. walkSequences image e es (endSequence y))) (run-nil (32 - (k + 1)) (pushFrame o f))
           ∙ ap (λ (x : ℕ). walkSequences image x es (endSequence (pushFrame o f))) q
           ∙ sym (going_start es (p + m) (endSequence (pushFrame o f)))
 

@@ -3,7 +3,7 @@ use Rattle.std.specs.Prelude.{ℕ, List}
 use Rattle.std.proofs.Math.Option.{Option, none, some}
 use Rattle.std.proofs.Math.ListN.{get_elem?}
 use Rattle.frame.specs.declared.FrameBuilder.{FrameBuilder}
-use Rattle.content.specs.ReadImage.{and_then}
+use Rattle.content.specs.ReadImage.{andThen}
 use Rattle.reader.specs.declared.items.PointAt.{PointAt}
 use Rattle.reader.specs.declared.items.PointAt.TheVariants as PointAt
 use Rattle.reader.specs.declared.items.FrameAt.{FrameAt}
@@ -11,7 +11,7 @@ use Rattle.reader.specs.declared.items.FrameAt.TheVariants as FrameAt
 
 -- the j-th of the i-th list, both counted from 0, if there is one
 abbrev pub element : {A : Type 0} → List (List A) → ℕ → ℕ → Option A
-element ls i j = and_then (get_elem? ls i) (λ l. get_elem? l j)
+element ls i j = andThen (get_elem? ls i) (λ l. get_elem? l j)
 
 -- the byte of a point of a snippet
 abbrev pub pointAtTold : PointAt → Option ℕ

@@ -49,7 +49,7 @@ laidFrames ls =
     record { items = padded 96 silentFrame (joined ls); len = length (joined ls); ends = padded 16 0 (endPointers 0 ls); count = length ls }
 
 -- the lists of a content; what is refused holds none
-abbrev pub reading_of : Option Content → Reading
-reading_of none = record { answer = Answer.Refused Error.NotAnImage; snippets = laidPoints []; sequences = laidFrames [] }
-reading_of (some c) =
+abbrev pub readingOf : Option Content → Reading
+readingOf none = record { answer = Answer.Refused Error.NotAnImage; snippets = laidPoints []; sequences = laidFrames [] }
+readingOf (some c) =
     record { answer = Answer.Done; snippets = laidPoints (map pointBytes c.snippets); sequences = laidFrames c.sequences }

@@ -1,17 +1,17 @@
 -- The reader step by step, as the code goes: what the private functions' contracts cite. proofs/Whole.antt: it is `readImage`, laid out
--- as `reading_of` says.
+-- as `readingOf` says.
 use Rattle.std.specs.Prelude.{ℕ, zero, suc, ◌+◌, ◌-◌, true, false, cond, ◌&&◌, List, [], ◌∷◌, ltb, leb, eqb, length, take, drop, get_or}
 use Rattle.std.proofs.Math.Option.{Option, none, some}
 use Rattle.errors.specs.declared.Answer.TheVariants as Answer
 use Rattle.errors.specs.Told.{Told, refuses}
 use Rattle.frame.specs.Read.{readFrame, Taken, firstFrame}
-use Rattle.content.specs.ReadImage.{and_then, allZero, countsFit}
+use Rattle.content.specs.ReadImage.{andThen, allZero, countsFit}
 use Rattle.reader.specs.declared.Points.{Points}
 use Rattle.reader.specs.declared.Frames.{Frames}
 use Rattle.reader.specs.declared.Reading.{Reading}
 use Rattle.reader.specs.declared.SnippetsRead.{SnippetsRead}
 use Rattle.reader.specs.declared.SequencesRead.{SequencesRead}
-use Rattle.reader.specs.Reading.{noPoints, noFrames, reading_of}
+use Rattle.reader.specs.Reading.{noPoints, noFrames, readingOf}
 use Rattle.reader.specs.Flat.{pushPoints, pushFrame, endSnippet, endSequence}
 
 -- ---- one item
@@ -21,13 +21,13 @@ abbrev pub runFrames : ℕ → List ℕ → Frames → Option Frames
 runFrames zero [] o = some o
 runFrames zero (b ∷ bs) o = none
 runFrames (suc k) [] o = some o
-runFrames (suc k) (b ∷ bs) o = and_then (readFrame (b ∷ bs)) (λ p. runFrames k p.rest (pushFrame o p.frame))
+runFrames (suc k) (b ∷ bs) o = andThen (readFrame (b ∷ bs)) (λ p. runFrames k p.rest (pushFrame o p.frame))
 
 unfoldable pub pushSnippet : List ℕ → Points → Option Points
 pushSnippet bs o = cond (leb 1 (length bs) && leb (length bs) 16) (some (endSnippet (pushPoints o bs))) none
 
 unfoldable pub pushSequence : List ℕ → Frames → Option Frames
-pushSequence bs o = cond (leb 1 (length bs)) (and_then (runFrames 32 bs o) (λ f. some (endSequence f))) none
+pushSequence bs o = cond (leb 1 (length bs)) (andThen (runFrames 32 bs o) (λ f. some (endSequence f))) none
 
 -- ---- the items that end at the pointers
 
@@ -43,7 +43,7 @@ item image p e = take (e - p) (drop (p + 1) image)
 module _ {S : Type 0} (step : List ℕ → S → Option S) (image : List ℕ) where
   abbrev pub walk : ℕ → List ℕ → S → Option (Walked S)
   walk p [] o = some (record { state = o; last = p })
-  walk p (e ∷ es) o = cond (ltb p e) (cond (ltb e (length image)) (and_then (step (item image p e) o) (λ o'. walk e es o')) none) none
+  walk p (e ∷ es) o = cond (ltb p e) (cond (ltb e (length image)) (andThen (step (item image p e) o) (λ o'. walk e es o')) none) none
 
 abbrev pub walkSnippets : List ℕ → ℕ → List ℕ → Points → Option (Walked Points)
 walkSnippets = walk pushSnippet
@@ -73,7 +73,7 @@ sequencesRead (some w) = record { found = true; sequences = w.state; last = w.la
 -- ---- the image
 
 abbrev pub noReading : Reading
-noReading = reading_of none
+noReading = readingOf none
 
 -- all bytes after index last are zero
 abbrev pub finished : List ℕ → Points → Frames → ℕ → Reading

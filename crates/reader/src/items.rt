@@ -4,7 +4,7 @@
 ghost use Rattle.std.specs.Prelude.{◌≡◌, ◌<◌, take, length};
 ghost use Rattle.reader.specs.Items.{element, pointAtTold, frameAtTold};
 ghost use Rattle.reader.specs.Reading.{snippetsIn, sequencesIn};
-ghost use Rattle.reader.specs.Places.{start_in, place_in, placeTold};
+ghost use Rattle.reader.specs.Places.{startIn, placeIn, placeTold};
 
 use crate::{Frames, Points};
 use frame::FrameBuilder;
@@ -64,7 +64,7 @@ pub fn frame_at(frames: Frames, i: usize, j: usize) -> FrameAt
 
 // Where the j-th element of the i-th list stands, by the ends of the first `count` lists.
 fn find(ends: &[u8], count: usize, i: usize, j: usize) -> Place
-    ensures { placeTold result ≡ place_in 0 (take count ends.now) i j }
+    ensures { placeTold result ≡ placeIn 0 (take count ends.now) i j }
 {
     if ends.len() <= i {
         return Place::Nowhere;
@@ -86,7 +86,7 @@ fn find(ends: &[u8], count: usize, i: usize, j: usize) -> Place
 // Where the i-th list starts: at the end of the one before.
 fn start(ends: &[u8], i: usize) -> usize
     requires { i < length ends.now }
-    ensures value { result ≡ start_in 0 ends.now i }
+    ensures value { result ≡ startIn 0 ends.now i }
     ensures upper_bound { result < 256 }
 {
     if i == 0 {

@@ -10,7 +10,7 @@ pub mod items;
 ghost use Rattle.std.specs.Prelude.{◌≡◌, ◌+◌, ◌≤◌, ◌<◌, length, drop};
 ghost use Rattle.errors.specs.Number.{answerNumber};
 ghost use Rattle.content.specs.ReadImage.{onOption, readImage, countsFit, allZero};
-ghost use Rattle.reader.specs.Reading.{reading_of, noPoints, noFrames};
+ghost use Rattle.reader.specs.Reading.{readingOf, noPoints, noFrames};
 ghost use Rattle.frame.specs.Read.{readTold};
 ghost use Rattle.reader.specs.Flat.{pushPoints, endSnippet};
 ghost use Rattle.reader.specs.Walk.{nextFrame, noSnippets, snippetsRead, walkSnippets, noSequences, sequencesRead, walkSequences};
@@ -338,7 +338,7 @@ fn scan(image: &[u8]) -> Reading
 // The lists whose image the bytes are, or NotAnImage. What no list shows, the bytes behind the lists, is as in a new array.
 pub fn read(image: &[u8]) -> Reading
     ensures answer_value { answerNumber result.answer ≡ onOption (readImage image.now) 18 (λ _. 0) }
-    ensures value { result ≡ reading_of (readImage image.now) }
+    ensures value { result ≡ readingOf (readImage image.now) }
 {
     scan(image)
 }

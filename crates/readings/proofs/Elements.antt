@@ -13,14 +13,14 @@ use lib.Seq.{drop-drop}
 use Rattle.errors.specs.Told.{gives, refuses}
 use Rattle.frame.specs.declared.FrameBuilder.{FrameBuilder}
 use Rattle.frame.specs.Read.{Parsed, readFrame, takenFrom}
-use Rattle.content.specs.ReadImage.{and_then, readFrames}
+use Rattle.content.specs.ReadImage.{andThen, readFrames}
 use Rattle.content.proofs.Codec.{none-some, some_inj, then_some}
 use Rattle.reader.specs.Walk.{item}
 use Rattle.reader.proofs.Loops.{item-part}
 use Rattle.reader.proofs.Running.{took, refused}
 use Rattle.reader.specs.declared.items.FrameAt.{FrameAt}
 use Rattle.reader.proofs.Placed.{elem-some, elem-none, one-part}
-use Rattle.readings.specs.InPlace.{beforeItem, item_at, NthFrame, FrameOf}
+use Rattle.readings.specs.InPlace.{beforeItem, itemAt, NthFrame, FrameOf}
 use Rattle.readings.specs.Readings.{byteCode, Small}
 use Rattle.readings.proofs.Codes.{absentPoint}
 
@@ -28,24 +28,24 @@ use Rattle.readings.proofs.Codes.{absentPoint}
 
 module _ (image : List ℕ) (k j last end : ℕ) (e : last ≡ beforeItem image k) (f : end ≡ get_or image (2 + k) 0) where
   -- the item between indexes that were read
-  pub item-is : item image last end ≡ item_at image k
-  unfolding item_at
+  pub item-is : item image last end ≡ itemAt image k
+  unfolding itemAt
   item-is = λ i. item image (e i) (f i)
 
-  byte-is : get_elem? (item_at image k) j ≡ and_then (cond (ltb j (end - last)) (some (last + 1 + j)) none) (get_elem? image)
+  byte-is : get_elem? (itemAt image k) j ≡ andThen (cond (ltb j (end - last)) (some (last + 1 + j)) none) (get_elem? image)
   byte-is = ap (λ (l : List ℕ). get_elem? l j) (sym item-is) ∙ one-part image (last + 1) (end - last) j
 
   abbrev pub Byte : ℕ → Type 0
-  Byte r = (r ≡ byteCode (get_elem? (item_at image k) j)) × Small (get_elem? (item_at image k) j)
+  Byte r = (r ≡ byteCode (get_elem? (itemAt image k) j)) × Small (get_elem? (itemAt image k) j)
 
-  no_byte : get_elem? (item_at image k) j ≡ none → Byte absentPoint
+  no_byte : get_elem? (itemAt image k) j ≡ none → Byte absentPoint
   no_byte d = (ap byteCode (sym d), subst Small (sym d) tt)
 
   pub byte-short : end - last ≤ j → Byte absentPoint
   byte-short g = no_byte (byte-is ∙ simp (le-ltb j (end - last) g))
 
   module _ (g : j < end - last) where
-    byte-in : get_elem? (item_at image k) j ≡ get_elem? image (last + 1 + j)
+    byte-in : get_elem? (itemAt image k) j ≡ get_elem? image (last + 1 + j)
     byte-in = byte-is ∙ simp (lt-ltb j (end - last) g)
 
     pub byte_past : length image ≤ last + 1 + j → Byte absentPoint
@@ -53,7 +53,7 @@ module _ (image : List ℕ) (k j last end : ℕ) (e : last ≡ beforeItem image 
 
     pub byte-there : last + 1 + j < length image → (b : ℕ) → b ≡ get_or image (last + 1 + j) 0 → b < 256 → Byte b
     byte-there h b d s =
-        let w : get_elem? (item_at image k) j ≡ some b = byte-in ∙ elem-some image (last + 1 + j) 0 h ∙ ap some (sym d) in
+        let w : get_elem? (itemAt image k) j ≡ some b = byte-in ∙ elem-some image (last + 1 + j) 0 h ∙ ap some (sym d) in
         (ap byteCode (sym w), subst Small (sym w) s)
 
 -- ---- a sequence's frames
@@ -127,7 +127,7 @@ module _ (image : List ℕ) (k j last end : ℕ) (e : last ≡ beforeItem image 
   pub frame-empty : end ≤ last → FrameOf image k j FrameAt.Absent
   frame-empty h w fs g =
       let z : end - last ≡ 0 = omega arith in
-      let n : item_at image k ≡ [] = sym (item-is image k j last end e f) ∙ ap (λ (m : ℕ). take m (drop (last + 1) image)) z in
+      let n : itemAt image k ≡ [] = sym (item-is image k j last end e f) ∙ ap (λ (m : ℕ). take m (drop (last + 1) image)) z in
       no_frames 32 fs j (ap (readFrames 32) (sym n) ∙ g)
 
   pub frame-in : (r : FrameAt) → NthFrame (take (end + 1 - (last + 1)) (drop (last + 1) image)) j r → FrameOf image k j r

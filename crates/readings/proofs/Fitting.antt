@@ -15,11 +15,11 @@ use Rattle.errors.specs.declared.Answer.{Answer}
 use Rattle.frame.specs.declared.FrameBuilder.{FrameBuilder}
 use Rattle.frame.specs.Read.{Parsed, readFrame, takenFrom}
 use Rattle.content.specs.Content.{Content}
-use Rattle.content.specs.ReadImage.{and_then, readFrames, allZero, countsFit, readImage}
+use Rattle.content.specs.ReadImage.{andThen, readFrames, allZero, countsFit, readImage}
 use Rattle.reader.specs.declared.Points.{Points}
 use Rattle.reader.specs.declared.Frames.{Frames}
 use Rattle.reader.specs.declared.Reading.{Reading}
-use Rattle.reader.specs.Reading.{noPoints, noFrames, reading_of}
+use Rattle.reader.specs.Reading.{noPoints, noFrames, readingOf}
 use Rattle.reader.specs.Flat.{pushFrame, pushPoints, endSnippet, endSequence}
 use Rattle.reader.specs.Walk.{runFrames, pushSnippet, pushSequence, Walked, item, walk, walkSnippets, walkSequences, noReading, sequencesThen, afterSnippets, snippetsThen, afterCounts}
 use Rattle.reader.proofs.Running.{run_step, run-stop, run-full}
@@ -32,7 +32,7 @@ some-found : {A : Type 0} (t : Bool) (a : A) → present (cond t (some a) none) 
 some-found true a = refl
 some-found false a = refl
 
-more-found : (f : FrameBuilder) (m : Option (List FrameBuilder)) → present m ≡ present (and_then m (λ fs. some (f ∷ fs)))
+more-found : (f : FrameBuilder) (m : Option (List FrameBuilder)) → present m ≡ present (andThen m (λ fs. some (f ∷ fs)))
 more-found f none = refl
 more-found f (some fs) = refl
 
@@ -42,8 +42,8 @@ frames-found zero (b ∷ bs) o = refl
 frames-found (suc k) [] o = refl
 frames-found (suc k) (b ∷ bs) o = go (λ r o'. frames-found k r o') (readFrame (b ∷ bs)) where
   go : ((r : List ℕ) (o' : Frames) → present (runFrames k r o') ≡ present (readFrames k r)) → (m : Option Parsed)
-      → present (and_then m (λ p. runFrames k p.rest (pushFrame o p.frame)))
-      ≡ present (and_then m (λ p. and_then (readFrames k p.rest) (λ fs. some (p.frame ∷ fs))))
+      → present (andThen m (λ p. runFrames k p.rest (pushFrame o p.frame)))
+      ≡ present (andThen m (λ p. andThen (readFrames k p.rest) (λ fs. some (p.frame ∷ fs))))
   go ih none = refl
   go ih (some p) = ih p.rest (pushFrame o p.frame) ∙ more-found p.frame (readFrames k p.rest)
 
@@ -54,26 +54,26 @@ snippet-found bs o = some-found (leb 1 (length bs) && leb (length bs) 16) (endSn
 sequence-found : (bs : List ℕ) (o : Frames) → present (pushSequence bs o) ≡ itemFits false bs
 unfolding pushSequence itemFits
 sequence-found bs o = go (leb 1 (length bs)) (runFrames 32 bs o) (present (readFrames 32 bs)) (frames-found 32 bs o) where
-  go : (t : Bool) (m : Option Frames) (n : Bool) → present m ≡ n → present (cond t (and_then m (λ f. some (endSequence f))) none) ≡ (t && n)
+  go : (t : Bool) (m : Option Frames) (n : Bool) → present m ≡ n → present (cond t (andThen m (λ f. some (endSequence f))) none) ≡ (t && n)
   go false m n h = refl
   go true none n h = h
   go true (some f) n h = h
 
 -- ---- the items that end at the pointers
 
-abbrev last_of : {S : Type 0} → Option (Walked S) → Option ℕ
-last_of none = none
-last_of (some w) = some w.last
+abbrev lastOf : {S : Type 0} → Option (Walked S) → Option ℕ
+lastOf none = none
+lastOf (some w) = some w.last
 
 -- walking with the lists and without them ends alike
 walk-last : {S : Type 0} (step : List ℕ → S → Option S) (k : Bool) (image : List ℕ) → ((bs : List ℕ) (o : S) → present (step bs o) ≡ itemFits k bs)
-    → (es : List ℕ) (p : ℕ) (o : S) → last_of (walk step image p es o) ≡ lastIn k image p es
+    → (es : List ℕ) (p : ℕ) (o : S) → lastOf (walk step image p es o) ≡ lastIn k image p es
 walk-last step k image fits [] p o = refl
 walk-last {S} step k image fits (e ∷ es) p o =
     go (λ o'. walk-last step k image fits es e o') (ltb p e) (ltb e (length image)) (step (item image p e) o) (itemFits k (item image p e)) (fits (item image p e) o)
   where
-    go : ((o' : S) → last_of (walk step image e es o') ≡ lastIn k image e es) → (t u : Bool) (m : Option S) (v : Bool) → present m ≡ v
-        → last_of (cond t (cond u (and_then m (λ o'. walk step image e es o')) none) none) ≡ cond t (cond u (cond v (lastIn k image e es) none) none) none
+    go : ((o' : S) → lastOf (walk step image e es o') ≡ lastIn k image e es) → (t u : Bool) (m : Option S) (v : Bool) → present m ≡ v
+        → lastOf (cond t (cond u (andThen m (λ o'. walk step image e es o')) none) none) ≡ cond t (cond u (cond v (lastIn k image e es) none) none) none
     go ih false u m v h = refl
     go ih true false m v h = refl
     go ih true true none v h = ap (λ (x : Bool). cond x (lastIn k image e es) none) h
@@ -85,7 +85,7 @@ abbrev done : Answer → Bool
 done Answer.Done = true
 done (Answer.Refused e) = false
 
-reading-done : (o : Option Content) → present o ≡ done (reading_of o).answer
+reading-done : (o : Option Content) → present o ≡ done (readingOf o).answer
 reading-done none = refl
 reading-done (some c) = refl
 
@@ -93,11 +93,11 @@ finished-done : (t : Bool) (s : Points) (q : Frames) → done (cond t (record { 
 finished-done true s q = refl
 finished-done false s q = refl
 
-sequences-done : (image : List ℕ) (s : Points) (m : Option (Walked Frames)) → done (sequencesThen image s m).answer ≡ zerosAfter image (last_of m)
+sequences-done : (image : List ℕ) (s : Points) (m : Option (Walked Frames)) → done (sequencesThen image s m).answer ≡ zerosAfter image (lastOf m)
 sequences-done image s none = refl
 sequences-done image s (some w) = finished-done (allZero (drop (w.last + 1) image)) s w.state
 
-snippets-done : (image : List ℕ) (s q : ℕ) (m : Option (Walked Points)) → done (snippetsThen image s q m).answer ≡ sequencesFit image (2 + s) q (last_of m)
+snippets-done : (image : List ℕ) (s q : ℕ) (m : Option (Walked Points)) → done (snippetsThen image s q m).answer ≡ sequencesFit image (2 + s) q (lastOf m)
 unfolding afterSnippets
 snippets-done image s q none = refl
 snippets-done image s q (some w) =

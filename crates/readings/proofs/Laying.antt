@@ -11,9 +11,9 @@ use Rattle.laws.specs.Copied.{copied, placed}
 use Rattle.frame.specs.declared.FrameBuilder.{FrameBuilder}
 use Rattle.frame.specs.Word.{frameWord}
 use Rattle.reader.specs.Reading.{padded}
-use Rattle.readings.specs.Lists.{word_bytes, wordsBytes}
+use Rattle.readings.specs.Lists.{wordBytes, wordsBytes}
 use Rattle.laws.proofs.Copies.{copied_all}
-use Rattle.laws.specs.Lists.{low_bytes}
+use Rattle.laws.specs.Lists.{lowBytes}
 
 -- ---- one part behind the other
 
@@ -46,28 +46,28 @@ over_zeros b n h =
 words_append : (fs gs : List FrameBuilder) → wordsBytes (fs ++ gs) ≡ wordsBytes fs ++ wordsBytes gs
 words_append [] gs = refl
 words_append (f ∷ fs) gs =
-    ap (λ (l : List ℕ). word_bytes f ++ l) (words_append fs gs) ∙ sym (append_assoc (word_bytes f) (wordsBytes fs) (wordsBytes gs))
+    ap (λ (l : List ℕ). wordBytes f ++ l) (words_append fs gs) ∙ sym (append_assoc (wordBytes f) (wordsBytes fs) (wordsBytes gs))
 
-pub word-length : (f : FrameBuilder) → length (word_bytes f) ≡ 6
-unfolding word_bytes
+pub word-length : (f : FrameBuilder) → length (wordBytes f) ≡ 6
+unfolding wordBytes
 word-length f = refl
 
 pub words-length : (fs : List FrameBuilder) → length (wordsBytes fs) ≡ 6 * length fs
 words-length [] = refl
-words-length (f ∷ fs) = let n = words-length fs in omega (arith, length-append (word_bytes f) (wordsBytes fs), word-length f)
+words-length (f ∷ fs) = let n = words-length fs in omega (arith, length-append (wordBytes f) (wordsBytes fs), word-length f)
 
 pub words-next : (fs : List FrameBuilder) (d : FrameBuilder) (i : ℕ) → i < length fs
-    → wordsBytes (take (i + 1) fs) ≡ wordsBytes (take i fs) ++ word_bytes (get_or fs i d)
+    → wordsBytes (take (i + 1) fs) ≡ wordsBytes (take i fs) ++ wordBytes (get_or fs i d)
 words-next fs d i h =
     ap wordsBytes (ap (λ (k : ℕ). take k fs) (add-one i) ∙ take-suc fs i d h)
     ∙ words_append (take i fs) (get_or fs i d ∷ [])
-    ∙ ap (λ (l : List ℕ). wordsBytes (take i fs) ++ l) (append-nil (word_bytes (get_or fs i d)))
+    ∙ ap (λ (l : List ℕ). wordsBytes (take i fs) ++ l) (append-nil (wordBytes (get_or fs i d)))
 
 -- a frame more behind i others
 pub words_placed : (fs : List FrameBuilder) (d : FrameBuilder) (i n : ℕ) (l six m : List ℕ) → i < length fs → 6 * (i + 1) ≤ n
-    → l ≡ padded n 0 (wordsBytes (take i fs)) → six ≡ low_bytes 6 (frameWord (get_or fs i d)) → m ≡ placed l (6 * i) six
+    → l ≡ padded n 0 (wordsBytes (take i fs)) → six ≡ lowBytes 6 (frameWord (get_or fs i d)) → m ≡ placed l (6 * i) six
     → m ≡ padded n 0 (wordsBytes (take (i + 1) fs))
-unfolding word_bytes
+unfolding wordBytes
 words_placed fs d i n l six m h g e k p =
     let b : List ℕ = wordsBytes (take i fs) in
     let o : 6 * i ≡ length b = omega (arith, words-length (take i fs), length-take i fs) in

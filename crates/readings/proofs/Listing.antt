@@ -9,7 +9,7 @@ use native.Mathlib.Omega.{arith}
 use lib.Dec.{ltb}
 use lib.ListN.{length, replicate, length-map}
 use lib.Seq.{take_at}
-use Rattle.laws.specs.Whole.{whole, length_of}
+use Rattle.laws.specs.Whole.{whole, lengthOf}
 use Rattle.laws.specs.Lists.{joined}
 use Rattle.errors.specs.Told.{Told, gives, refuses, onTold, toldNumber}
 use Rattle.errors.specs.declared.Answer.{Answer}
@@ -19,9 +19,9 @@ use Rattle.frame.specs.Builder.{silentFrame}
 use Rattle.memory.specs.Image.{endPointers}
 use Rattle.content.specs.Content.{Content, pointBytes}
 use Rattle.reader.specs.declared.Reading.{Reading}
-use Rattle.reader.specs.Reading.{padded, reading_of}
+use Rattle.reader.specs.Reading.{padded, readingOf}
 use Rattle.readings.specs.Readings.{countsAnswer}
-use Rattle.readings.specs.Lists.{wordsBytes, lists_of, listsItem}
+use Rattle.readings.specs.Lists.{wordsBytes, listsOf, listsItem}
 use Rattle.readings.specs.Laying.{laidBytes}
 
 -- done is not refused
@@ -30,9 +30,9 @@ done_refused e d = let z : ◌≡◌ {A = ℕ} 0 1 = cc in absurd (omega arith)
 
 module _ (r : Reading) where
   -- all lists and the counts of a reading that is done
-  pub lists-done : (o : Option Content) → r ≡ reading_of o → r.answer ≡ Answer.Done
+  pub lists-done : (o : Option Content) → r ≡ readingOf o → r.answer ≡ Answer.Done
       → (gives (laidBytes r.snippets r.sequences) ≡ listsItem o) × (gives (r.snippets.count * 256 + r.sequences.count) ≡ countsAnswer o)
-  unfolding lists_of
+  unfolding listsOf
   lists-done none e d = done_refused _ (sym d ∙ ap (λ (x : Reading). x.answer) e)
   lists-done (some c) e d =
       let x : List (List ℕ) = map pointBytes c.snippets in
@@ -45,18 +45,18 @@ module _ (r : Reading) where
       )
 
 -- what is answered where they were lent to the copying, by its number
-module _ (out bytes : List ℕ) (n : ℕ) (counts : Told ℕ) (e : n ≡ toldNumber (length_of (whole out (gives bytes)))) where
+module _ (out bytes : List ℕ) (n : ℕ) (counts : Told ℕ) (e : n ≡ toldNumber (lengthOf (whole out (gives bytes)))) where
   abbrev answer : Told (List ℕ) → Told ℕ
   answer t = onTold t (λ b. counts) refuses
 
   pub no_room : 0 < n → refuses n ≡ answer (whole out (gives bytes))
   no_room h = go (ltb (length out) (length bytes)) e where
-    go : (t : Bool) → let w = cond t (refuses 24) (gives bytes) in n ≡ toldNumber (length_of w) → refuses n ≡ answer w
+    go : (t : Bool) → let w = cond t (refuses 24) (gives bytes) in n ≡ toldNumber (lengthOf w) → refuses n ≡ answer w
     go true k = ap refuses k
     go false k = absurd (omega (arith, h, k))
 
   pub in-room : n ≤ 0 → counts ≡ answer (whole out (gives bytes))
   in-room h = go (ltb (length out) (length bytes)) e where
-    go : (t : Bool) → let w = cond t (refuses 24) (gives bytes) in n ≡ toldNumber (length_of w) → counts ≡ answer w
+    go : (t : Bool) → let w = cond t (refuses 24) (gives bytes) in n ≡ toldNumber (lengthOf w) → counts ≡ answer w
     go true k = absurd (omega (arith, h, k))
     go false k = refl

@@ -11,14 +11,14 @@ use lib.Dec.{ltb, leb, eqb}
 use lib.ListN.{length, take, drop, get_or, get_elem?, length-take, length-drop}
 use lib.Seq.{get_or-take, length-take-le}
 use Rattle.content.specs.Content.{Content}
-use Rattle.content.specs.ReadImage.{and_then, every, readSnippet, readSequence, Cut, cut, allZero, Items, countsFit, itemsFrom, readItems, contentIn, readImage}
+use Rattle.content.specs.ReadImage.{andThen, every, readSnippet, readSequence, Cut, cut, allZero, Items, countsFit, itemsFrom, readItems, contentIn, readImage}
 use Rattle.content.proofs.Codec.{none-some, some_inj, cond-some, then_some}
 use Rattle.reader.specs.Walk.{item}
 use Rattle.reader.proofs.Cuts.{drop-on, was-cut}
 use Rattle.content.proofs.Items.{counts-sound}
-use Rattle.reader.specs.Places.{start_in}
+use Rattle.reader.specs.Places.{startIn}
 use Rattle.reader.proofs.Placed.{elem-take, elem-drop}
-use Rattle.readings.specs.InPlace.{beforeItem, item_at}
+use Rattle.readings.specs.InPlace.{beforeItem, itemAt}
 
 -- ---- each of a list, read
 
@@ -32,7 +32,7 @@ module _ {A B : Type 0} (f : A → Option B) where
 
   first : (x : A) (xs : List A) (ys : List B) → every f (x ∷ xs) ≡ some ys → First x xs ys
   first x xs ys e =
-      let (y, p, e₁) = then_some (f x) (λ y. and_then (every f xs) (λ zs. some (y ∷ zs))) e in
+      let (y, p, e₁) = then_some (f x) (λ y. andThen (every f xs) (λ zs. some (y ∷ zs))) e in
       let (zs, q, e₂) = then_some (every f xs) (λ zs. some (y ∷ zs)) e₁ in
       record { one = y; more = zs; cons = some_inj e₂; read = p; rest = q }
 
@@ -40,7 +40,7 @@ module _ {A B : Type 0} (f : A → Option B) where
   every-length [] ys e = ap length (sym (some_inj e))
   every-length (x ∷ xs) ys e = let d = first x xs ys e in ap length (sym d.cons) ∙ ap suc (every-length xs d.more d.rest)
 
-  every-at : (xs : List A) (ys : List B) (i : ℕ) → every f xs ≡ some ys → get_elem? ys i ≡ and_then (get_elem? xs i) f
+  every-at : (xs : List A) (ys : List B) (i : ℕ) → every f xs ≡ some ys → get_elem? ys i ≡ andThen (get_elem? xs i) f
   every-at [] ys i e = ap (λ (l : List B). get_elem? l i) (sym (some_inj e))
   every-at (x ∷ xs) ys zero e = let d = first x xs ys e in ap (λ (l : List B). get_elem? l 0) (sym d.cons) ∙ sym d.read
   every-at (x ∷ xs) ys (suc i) e =
@@ -73,12 +73,12 @@ record Stands (image : List ℕ) (p e : ℕ) (o : Option (List ℕ)) : Type 0 wh
   is : o ≡ some (item image p e)
   within : e < length image
 
-start-next : (p e : ℕ) (es : List ℕ) (k : ℕ) → start_in e es k ≡ start_in p (e ∷ es) (suc k)
+start-next : (p e : ℕ) (es : List ℕ) (k : ℕ) → startIn e es k ≡ startIn p (e ∷ es) (suc k)
 start-next p e es zero = refl
 start-next p e es (suc k) = refl
 
 cut_stands : (es : List ℕ) (p : ℕ) (image : List ℕ) (c : Cut) (k : ℕ) → cut p es (drop (p + 1) image) ≡ some c → k < length es
-    → Stands image (start_in p es k) (get_or es k 0) (get_elem? c.items k)
+    → Stands image (startIn p es k) (get_or es k 0) (get_elem? c.items k)
 cut_stands [] p image c k h g = absurd (omega arith)
 cut_stands (e ∷ es) p image c zero h g =
     let o = one-cut p e es image c h in record { is = ap (λ (l : List (List ℕ)). get_elem? l 0) (sym o.items); within = o.within }
@@ -102,13 +102,13 @@ module _ (s q : ℕ) (l : List ℕ) (h : s + q ≤ length l) where
   end-at : (k : ℕ) → k < s + q → get_or ends k 0 ≡ get_or image (2 + k) 0
   end-at k g = let j : suc (suc k) ≡ 2 + k = omega arith in get_or-take (s + q) l k 0 g ∙ ap (λ (n : ℕ). get_or image n 0) j
 
-  before_at : (k : ℕ) → k < s + q → start_in (1 + s + q) ends k ≡ beforeItem image k
+  before_at : (k : ℕ) → k < s + q → startIn (1 + s + q) ends k ≡ beforeItem image k
   before_at zero g = refl
   before_at (suc k) g = end-at k (omega arith)
 
   item-stands : (c : Cut) → cut (1 + s + q) ends (drop (s + q) l) ≡ some c → (k : ℕ) → k < s + q
-      → (get_elem? c.items k ≡ some (item_at image k)) × (get_or image (2 + k) 0 < length image)
-  unfolding item_at
+      → (get_elem? c.items k ≡ some (itemAt image k)) × (get_or image (2 + k) 0 < length image)
+  unfolding itemAt
   item-stands c e k g =
       let n : 1 + s + q + 1 ≡ suc (suc (s + q)) = omega arith in
       let d : drop (1 + s + q + 1) image ≡ drop (s + q) l = ap (λ (m : ℕ). drop m image) n in
@@ -119,8 +119,8 @@ module _ (s q : ℕ) (l : List ℕ) (h : s + q ≤ length l) where
 pub record Known (image : List ℕ) (c : Content) : Type 0 where
   pub snippets : length c.snippets ≡ get_or image 0 0
   pub sequences : length c.sequences ≡ get_or image 1 0
-  pub snippet : (i : ℕ) → i < get_or image 0 0 → get_elem? c.snippets i ≡ readSnippet (item_at image i)
-  pub sequence : (i : ℕ) → i < get_or image 1 0 → get_elem? c.sequences i ≡ readSequence (item_at image (get_or image 0 0 + i))
+  pub snippet : (i : ℕ) → i < get_or image 0 0 → get_elem? c.snippets i ≡ readSnippet (itemAt image i)
+  pub sequence : (i : ℕ) → i < get_or image 1 0 → get_elem? c.sequences i ≡ readSequence (itemAt image (get_or image 0 0 + i))
   pub within : (i : ℕ) → i < get_or image 1 0 → get_or image (2 + (get_or image 0 0 + i)) 0 < length image
 
 module _ (s q : ℕ) (l : List ℕ) (h : s + q ≤ length l) (c : Cut) (e : cut (1 + s + q) (take (s + q) l) (drop (s + q) l) ≡ some c) where
@@ -144,10 +144,10 @@ module _ (s q : ℕ) (l : List ℕ) (h : s + q ≤ length l) (c : Cut) (e : cut 
         sequences = every-length readSequence (drop s c.items) x.sequences b ∙ nq;
         snippet = λ i g.
             every-at readSnippet (take s c.items) x.snippets i a
-            ∙ ap (λ (o : Option (List ℕ)). and_then o readSnippet) (elem-take c.items s i g ∙ (item-stands s q l h c e i (omega arith)).0);
+            ∙ ap (λ (o : Option (List ℕ)). andThen o readSnippet) (elem-take c.items s i g ∙ (item-stands s q l h c e i (omega arith)).0);
         sequence = λ i g.
             every-at readSequence (drop s c.items) x.sequences i b
-            ∙ ap (λ (o : Option (List ℕ)). and_then o readSequence) (elem-drop c.items s i ∙ (item-stands s q l h c e (s + i) (omega arith)).0);
+            ∙ ap (λ (o : Option (List ℕ)). andThen o readSequence) (elem-drop c.items s i ∙ (item-stands s q l h c e (s + i) (omega arith)).0);
         within = λ i g. (item-stands s q l h c e (s + i) (omega arith)).1;
       }
 

@@ -19,11 +19,11 @@ use Rattle.errors.specs.Packed.{packed, Room}
 use Rattle.errors.proofs.Packed.{packed-apart}
 use Rattle.frame.specs.declared.FrameBuilder.{FrameBuilder}
 use Rattle.frame.specs.Builder.{silentFrame}
-use Rattle.frame.specs.Frame.{bytes_of}
+use Rattle.frame.specs.Frame.{bytesOf}
 use Rattle.frame.specs.Agreement.{FrameAdmitted}
 use Rattle.memory.specs.Image.{endPointers, imageBytes}
 use Rattle.memory.proofs.Images.{joined_length}
-use Rattle.content.specs.Content.{Point, Content, pointBytes, framesBytes, image_of, Admitted}
+use Rattle.content.specs.Content.{Point, Content, pointBytes, framesBytes, imageOf, Admitted}
 use Rattle.content.proofs.Admits.{SequenceAdmitted}
 use Rattle.content.specs.ReadImage.{readImage}
 use Rattle.content.proofs.Codec.{none-some, some_inj, cons-eq}
@@ -32,11 +32,11 @@ use Rattle.content.proofs.Items.{length-pointers}
 use Rattle.content.proofs.Images.{image-codec}
 use Rattle.reader.specs.Reading.{parts, padded}
 use Rattle.reader.specs.Items.{element}
-use Rattle.reader.proofs.Cuts.{last_of}
+use Rattle.reader.proofs.Cuts.{lastOf}
 use Rattle.reader.proofs.Flats.{flatOf, shows}
 use Rattle.readings.specs.Readings.{countsAnswer, pointAnswer, frameAnswer, byteCode}
 use Rattle.readings.proofs.Codes.{pointCode, frameCode}
-use Rattle.readings.specs.Lists.{wordsBytes, lists_of, listsItem, listsAnswer}
+use Rattle.readings.specs.Lists.{wordsBytes, listsOf, listsItem, listsAnswer}
 use Rattle.readings.specs.Telling.{Alike, ReadingsTold}
 use Rattle.readings.proofs.Laying.{words-length}
 use Rattle.readings.proofs.Words.{word_small, word-told, words-told}
@@ -111,7 +111,7 @@ frame-told (some c) (some d) h g e = ap some (word-told c d h g e)
 
 record Held (l : List ℕ) (c : Content) : Type 0 where
   admitted : Admitted c
-  image : image_of c ≡ l
+  image : imageOf c ≡ l
   bytes : All Bytes (map pointBytes c.snippets)
   frames : All (All FrameAdmitted) c.sequences
 
@@ -132,7 +132,7 @@ held l c h e =
 -- the same points and the same frames are of the same image
 one-image : (l k : List ℕ) (c d : Content) → Held l c → Held k d → map pointBytes c.snippets ≡ map pointBytes d.snippets → c.sequences ≡ d.sequences
     → readImage l ≡ readImage k
-unfolding image_of
+unfolding imageOf
 one-image l k c d a b p q =
     ap readImage (sym a.image ∙ (λ i. imageBytes (p i) (map framesBytes (q i))) ∙ b.image)
 
@@ -217,13 +217,13 @@ laid-told blank most xs ys n p e =
     ∙ shows blank most (flatOf blank most ys) ys refl
 
 -- the last end is where all end
-last_end : {A : Type 0} (xs : List (List A)) (p : ℕ) → last_of p (endPointers p xs) ≡ p + length (joined xs)
+last_end : {A : Type 0} (xs : List (List A)) (p : ℕ) → lastOf p (endPointers p xs) ≡ p + length (joined xs)
 last_end [] p = omega arith
 last_end (x ∷ xs) p = last_end xs (p + length x) ∙ omega (arith, length-append x (joined xs))
 
 frames-bytes : (fs : List FrameBuilder) → length fs ≤ length (framesBytes fs)
 frames-bytes [] = omega arith
-frames-bytes (f ∷ fs) = omega (arith, frames-bytes fs, length-append (bytes_of f) (framesBytes fs))
+frames-bytes (f ∷ fs) = omega (arith, frames-bytes fs, length-append (bytesOf f) (framesBytes fs))
 
 sequences-bytes : (qs : List (List FrameBuilder)) → length (joined qs) ≤ length (joined (map framesBytes qs))
 sequences-bytes [] = omega arith
@@ -266,9 +266,9 @@ lengths l c a =
     let three = length-append (points c ++ pointEnds c) (frames c) in
     record { one = p; two = omega arith; three = omega arith; all = omega (arith, length-append (points c ++ pointEnds c ++ frames c) (frameEnds c)) }
 
-lists-told : (l k : List ℕ) (c d : Content) → Held l c → Held k d → packed 16 (countsAnswer (some c)) ≡ packed 16 (countsAnswer (some d)) → lists_of c ≡ lists_of d
+lists-told : (l k : List ℕ) (c d : Content) → Held l c → Held k d → packed 16 (countsAnswer (some c)) ≡ packed 16 (countsAnswer (some d)) → listsOf c ≡ listsOf d
     → readImage l ≡ readImage k
-unfolding lists_of
+unfolding listsOf
 lists-told l k c d a b n e =
     let m = same-counts l k c d a b n in
     let u = lengths l c a in
@@ -280,7 +280,7 @@ lists-told l k c d a b n e =
     let ys : List (List ℕ) = map pointBytes d.snippets in
     let ends : endPointers 0 c.sequences ≡ endPointers 0 d.sequences =
     padded-told 16 0 _ _ (length-pointers 0 c.sequences ∙ m.1 ∙ sym (length-pointers 0 d.sequences)) p.1 in
-    let many : length (joined c.sequences) ≡ length (joined d.sequences) = omega (arith, last_end c.sequences 0, ap (last_of 0) ends, last_end d.sequences 0) in
+    let many : length (joined c.sequences) ≡ length (joined d.sequences) = omega (arith, last_end c.sequences 0, ap (lastOf 0) ends, last_end d.sequences 0) in
     let words : wordsBytes (joined c.sequences) ≡ wordsBytes (joined d.sequences) =
     padded-told 576 0 _ _ (omega (arith, words-length (joined c.sequences), words-length (joined d.sequences))) q.1 in
     let same = words-told (joined c.sequences) (joined d.sequences) (all-joined FrameAdmitted c.sequences a.frames) (all-joined FrameAdmitted d.sequences b.frames) many words in
@@ -288,20 +288,20 @@ lists-told l k c d a b n e =
     (laid-told 0 15 xs ys (length-map c.snippets pointBytes ∙ m.0 ∙ sym (length-map d.snippets pointBytes)) r.0 r.1)
     (laid-told silentFrame 16 c.sequences d.sequences m.1 (ap (padded 96 silentFrame) same) p.1)
 
-lists_length : (l : List ℕ) (c : Content) → Held l c → length (lists_of c) ≡ 703
-unfolding lists_of
+lists_length : (l : List ℕ) (c : Content) → Held l c → length (listsOf c) ≡ 703
+unfolding listsOf
 lists_length l c a = (lengths l c a).all
 
 -- an image's lists in a buffer
 module _ (l : List ℕ) (out : List ℕ) (c : Content) (a : Held l c) where
-  listed : 703 ≤ length out → (listsAnswer out (some c) ≡ countsAnswer (some c)) × (wholeOut out (listsItem (some c)) ≡ lists_of c ++ drop 703 out)
+  listed : 703 ≤ length out → (listsAnswer out (some c) ≡ countsAnswer (some c)) × (wholeOut out (listsItem (some c)) ≡ listsOf c ++ drop 703 out)
   listed h =
       let n = lists_length l c a in
-      let t = le-ltb (length out) (length (lists_of c)) (omega (arith, n, h)) in
-      (simp t, simp t (ap (λ (k : ℕ). lists_of c ++ drop k out) n))
+      let t = le-ltb (length out) (length (listsOf c)) (omega (arith, n, h)) in
+      (simp t, simp t (ap (λ (k : ℕ). listsOf c ++ drop k out) n))
 
   short : length out < 703 → (listsAnswer out (some c) ≡ refuses 24) × (wholeOut out (listsItem (some c)) ≡ out)
-  short h = let t = lt-ltb (length out) (length (lists_of c)) (omega (arith, lists_length l c a, h)) in (simp t, simp t)
+  short h = let t = lt-ltb (length out) (length (listsOf c)) (omega (arith, lists_length l c a, h)) in (simp t, simp t)
 
 lists-fit : (l : List ℕ) → Bytes l → (out : List ℕ) → Room 16 (listsAnswer out (readImage l))
 lists-fit l h out = go (readImage l) (counts-fit l h) where
@@ -311,7 +311,7 @@ lists-fit l h out = go (readImage l) (counts-fit l h) where
 
   go : (o : Option Content) → Room 16 (countsAnswer o) → Room 16 (listsAnswer out o)
   go none r = r
-  go (some c) r = two (lists_of c) (countsAnswer (some c)) r (ltb (length out) (length (lists_of c)))
+  go (some c) r = two (listsOf c) (countsAnswer (some c)) r (ltb (length out) (length (listsOf c)))
 
 same_lists : (l k out : List ℕ) → Bytes l → Bytes k → 703 ≤ length out → Alike 16 (listsAnswer out) l k
     → wholeOut out (listsItem (readImage l)) ≡ wholeOut out (listsItem (readImage k)) → readImage l ≡ readImage k
@@ -327,7 +327,7 @@ same_lists l k out hl hk full = go (readImage l) (readImage k) refl refl where
       let x = listed l out c a full in
       let y = listed k out d b full in
       lists-told l k c d a b (sym (ap (packed 16) x.0) ∙ n ∙ ap (packed 16) y.0)
-      (same_parts (lists_of c) (lists_of d) (drop 703 out) (drop 703 out) 703 (lists_length l c a) (lists_length k d b) (sym x.1 ∙ u ∙ y.1)).0
+      (same_parts (listsOf c) (listsOf d) (drop 703 out) (drop 703 out) 703 (lists_length l c a) (lists_length k d b) (sym x.1 ∙ u ∙ y.1)).0
 
 pub readings-told : ReadingsTold
 readings-told =

@@ -13,12 +13,12 @@ use Rattle.snippet.proofs.Points.{byte-back}
 use Rattle.frame.specs.declared.FrameBuilder.{FrameBuilder}
 use Rattle.content.specs.Content.{Point, Content}
 use Rattle.content.proofs.Admits.{pointsIn}
-use Rattle.content.specs.ReadImage.{and_then, readSnippet, readFrames, readSequence, readImage}
+use Rattle.content.specs.ReadImage.{andThen, readSnippet, readFrames, readSequence, readImage}
 use Rattle.content.proofs.Codec.{some_inj, cond-some}
 use Rattle.reader.specs.declared.items.FrameAt.{FrameAt}
 use Rattle.reader.specs.Items.{element, frameAtTold}
 use Rattle.reader.proofs.Placed.{elem-some, elem-none}
-use Rattle.readings.specs.InPlace.{present, item_at, FrameOf}
+use Rattle.readings.specs.InPlace.{present, itemAt, FrameOf}
 use Rattle.readings.specs.Readings.{countsAnswer, byteCode, Small, pointAnswer, frameAnswer}
 use Rattle.readings.proofs.Codes.{absentPoint, pointCode, absentFrame, frameCode}
 use Rattle.readings.proofs.Standing.{Known, known}
@@ -41,10 +41,10 @@ unfolding readSequence
 sequence-frames bs fs e = (cond-some (leb 1 (length bs)) (readFrames 32 bs) e).1
 
 no-element : {A : Type 0} (ls : List (List A)) (i j : ℕ) → length ls ≤ i → none ≡ element ls i j
-no-element ls i j h = sym (ap (λ o. and_then o (λ l. get_elem? l j)) (elem-none ls i h))
+no-element ls i j h = sym (ap (λ o. andThen o (λ l. get_elem? l j)) (elem-none ls i h))
 
 an-element : {A : Type 0} (ls : List (List A)) (i j : ℕ) (h : i < length ls) → element ls i j ≡ get_elem? (get_or ls i []) j
-an-element ls i j h = ap (λ o. and_then o (λ l. get_elem? l j)) (elem-some ls i [] h)
+an-element ls i j h = ap (λ o. andThen o (λ l. get_elem? l j)) (elem-some ls i [] h)
 
 module _ (image : List ℕ) where
   module _ (t : present (readImage image) ≡ true) where
@@ -66,15 +66,15 @@ module _ (image : List ℕ) where
           of-content (λ (o : Option Content). absentPoint ≡ packed 16 (pointAnswer o i j))
           (λ c k. ap pointCode (no-element c.snippets i j (omega (arith, k.snippets))))
 
-      pub point-there : (s r : ℕ) → s ≡ get_or image 0 0 → i < s → r ≡ byteCode (get_elem? (item_at image i) j) → Small (get_elem? (item_at image i) j)
+      pub point-there : (s r : ℕ) → s ≡ get_or image 0 0 → i < s → r ≡ byteCode (get_elem? (itemAt image i) j) → Small (get_elem? (itemAt image i) j)
           → r ≡ packed 16 (pointAnswer (readImage image) i j)
       point-there s r e h d w =
           of-content (λ (o : Option Content). r ≡ packed 16 (pointAnswer o i j))
           (λ c k.
           let g : i < length c.snippets = omega (arith, k.snippets) in
-          let p : readSnippet (item_at image i) ≡ some (get_or c.snippets i []) = sym (k.snippet i (omega arith)) ∙ elem-some c.snippets i [] g in
-          d ∙ elem-points (item_at image i) j _ refl w
-          ∙ ap (λ (l : List Point). pointCode (get_elem? l j)) (snippet-points (item_at image i) _ p)
+          let p : readSnippet (itemAt image i) ≡ some (get_or c.snippets i []) = sym (k.snippet i (omega arith)) ∙ elem-some c.snippets i [] g in
+          d ∙ elem-points (itemAt image i) j _ refl w
+          ∙ ap (λ (l : List Point). pointCode (get_elem? l j)) (snippet-points (itemAt image i) _ p)
           ∙ ap pointCode (sym (an-element c.snippets i j g)))
 
       pub frame_past : (q : ℕ) → q ≡ get_or image 1 0 → q ≤ i → absentFrame ≡ packed 56 (frameAnswer (readImage image) i j)
@@ -89,5 +89,5 @@ module _ (image : List ℕ) where
           (λ c k.
           let g : i < length c.sequences = omega (arith, k.sequences) in
           let v : FrameOf image (get_or image 0 0 + i) j r = subst (λ (n : ℕ). FrameOf image (n + i) j r) e w in
-          let p : readSequence (item_at image (get_or image 0 0 + i)) ≡ some (get_or c.sequences i []) = sym (k.sequence i (omega arith)) ∙ elem-some c.sequences i [] g in
-          ap frameCode (v (k.within i (omega arith)) (get_or c.sequences i []) (sequence-frames (item_at image (get_or image 0 0 + i)) _ p) ∙ sym (an-element c.sequences i j g)))
+          let p : readSequence (itemAt image (get_or image 0 0 + i)) ≡ some (get_or c.sequences i []) = sym (k.sequence i (omega arith)) ∙ elem-some c.sequences i [] g in
+          ap frameCode (v (k.within i (omega arith)) (get_or c.sequences i []) (sequence-frames (itemAt image (get_or image 0 0 + i)) _ p) ∙ sym (an-element c.sequences i j g)))

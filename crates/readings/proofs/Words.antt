@@ -7,7 +7,7 @@ use native.Mathlib.Omega.{arith}
 use lib.ListN.{length, take, drop}
 use lib.Seq.{take_at, drop_at}
 use Rattle.laws.specs.Bytes.{All}
-use Rattle.laws.specs.Lists.{low_bytes}
+use Rattle.laws.specs.Lists.{lowBytes}
 use Rattle.frame.specs.declared.LoopCount.{LoopCount}
 use Rattle.frame.specs.declared.Frequency.{Frequency}
 use Rattle.frame.specs.declared.FrameBuilder.{FrameBuilder}
@@ -18,7 +18,7 @@ use Rattle.frame.specs.Read.{gainAt, timebaseAt}
 use Rattle.frame.specs.Word.{frameWord}
 use Rattle.frame.proofs.Reading.{gain-back, timebase-back}
 use Rattle.content.proofs.Codec.{cons-eq}
-use Rattle.readings.specs.Lists.{word_bytes, wordsBytes}
+use Rattle.readings.specs.Lists.{wordBytes, wordsBytes}
 use Rattle.readings.proofs.Laying.{word-length}
 
 -- ---- the fields
@@ -82,7 +82,7 @@ abbrev Below : ℕ → ℕ → Type 0
 Below zero n = n < 1
 Below (suc k) n = Below k (n / 256)
 
-low-back : (k n : ℕ) → Below k n → fromLow (low_bytes k n) ≡ n
+low-back : (k n : ℕ) → Below k n → fromLow (lowBytes k n) ≡ n
 low-back zero n h = omega arith
 low-back (suc k) n h = let e = low-back k (n / 256) h in omega arith
 
@@ -92,8 +92,8 @@ step n m h = omega arith
 six : (n : ℕ) → n < 2 ^ 48 → Below 6 n
 six n h = step _ 1 (step _ (2 ^ 8) (step _ (2 ^ 16) (step _ (2 ^ 24) (step _ (2 ^ 32) (step n (2 ^ 40) h)))))
 
-bytes-told : (f g : FrameBuilder) → FrameAdmitted f → FrameAdmitted g → word_bytes f ≡ word_bytes g → f ≡ g
-unfolding word_bytes
+bytes-told : (f g : FrameBuilder) → FrameAdmitted f → FrameAdmitted g → wordBytes f ≡ wordBytes g → f ≡ g
+unfolding wordBytes
 bytes-told f g a b e =
     word-told f g a b
     (sym (low-back 6 (frameWord f) (six (frameWord f) (word_small f a))) ∙ ap fromLow e ∙ low-back 6 (frameWord g) (six (frameWord g) (word_small g b)))
@@ -103,6 +103,6 @@ words-told [] [] a b n e = refl
 words-told [] (g ∷ gs) a b n e = absurd (omega arith)
 words-told (f ∷ fs) [] a b n e = absurd (omega arith)
 words-told (f ∷ fs) (g ∷ gs) a b n e =
-    let h : word_bytes f ≡ word_bytes g = sym (take_at (word_bytes f) (wordsBytes fs) 6 (word-length f)) ∙ ap (take 6) e ∙ take_at (word_bytes g) (wordsBytes gs) 6 (word-length g) in
-    let t : wordsBytes fs ≡ wordsBytes gs = sym (drop_at (word_bytes f) (wordsBytes fs) 6 (word-length f)) ∙ ap (drop 6) e ∙ drop_at (word_bytes g) (wordsBytes gs) 6 (word-length g) in
+    let h : wordBytes f ≡ wordBytes g = sym (take_at (wordBytes f) (wordsBytes fs) 6 (word-length f)) ∙ ap (take 6) e ∙ take_at (wordBytes g) (wordsBytes gs) 6 (word-length g) in
+    let t : wordsBytes fs ≡ wordsBytes gs = sym (drop_at (wordBytes f) (wordsBytes fs) 6 (word-length f)) ∙ ap (drop 6) e ∙ drop_at (wordBytes g) (wordsBytes gs) 6 (word-length g) in
     cons-eq (bytes-told f g a.0 b.0 h) (words-told fs gs a.1 b.1 (omega arith) t)

@@ -52,8 +52,8 @@ abbrev pub beforeItem : List ℕ → ℕ → ℕ
 beforeItem image zero = 1 + get_or image 0 0 + get_or image 1 0
 beforeItem image (suc k) = get_or image (2 + k) 0
 
-unfoldable pub item_at : List ℕ → ℕ → List ℕ
-item_at image k = item image (beforeItem image k) (get_or image (2 + k) 0)
+unfoldable pub itemAt : List ℕ → ℕ → List ℕ
+itemAt image k = item image (beforeItem image k) (get_or image (2 + k) 0)
 
 -- the j-th frame, where the bytes are frames
 abbrev pub NthFrame : List ℕ → ℕ → FrameAt → Type 0
@@ -61,4 +61,4 @@ NthFrame bs j r = (fs : List FrameBuilder) → readFrames 32 bs ≡ some fs → 
 
 -- the j-th frame of the k-th item, where that ends in the image
 abbrev pub FrameOf : List ℕ → ℕ → ℕ → FrameAt → Type 0
-FrameOf image k j r = get_or image (2 + k) 0 < length image → NthFrame (item_at image k) j r
+FrameOf image k j r = get_or image (2 + k) 0 < length image → NthFrame (itemAt image k) j r

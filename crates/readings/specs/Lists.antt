@@ -3,7 +3,7 @@
 use Rattle.std.specs.Prelude.{ℕ, List, ◌++◌, map}
 use Rattle.std.proofs.Math.Option.{Option}
 use Rattle.laws.specs.Whole.{whole}
-use Rattle.laws.specs.Lists.{joined, low_bytes}
+use Rattle.laws.specs.Lists.{joined, lowBytes}
 use Rattle.errors.specs.Told.{Told, gives, refuses, onTold}
 use Rattle.frame.specs.declared.FrameBuilder.{FrameBuilder}
 use Rattle.frame.specs.Word.{frameWord}
@@ -14,22 +14,22 @@ use Rattle.reader.specs.Reading.{padded}
 use Rattle.readings.specs.Readings.{countsAnswer}
 
 -- a frame in six bytes
-unfoldable pub word_bytes : FrameBuilder → List ℕ
-word_bytes f = low_bytes 6 (frameWord f)
+unfoldable pub wordBytes : FrameBuilder → List ℕ
+wordBytes f = lowBytes 6 (frameWord f)
 
 -- frames end to end
 abbrev pub wordsBytes : List FrameBuilder → List ℕ
-wordsBytes fs = joined (map word_bytes fs)
+wordsBytes fs = joined (map wordBytes fs)
 
 -- 96 bytes of points, 15 ends of snippets, 96 frames in 576 bytes, 16 ends of sequences
-unfoldable pub lists_of : Content → List ℕ
-lists_of c =
+unfoldable pub listsOf : Content → List ℕ
+listsOf c =
     padded 96 0 (joined (map pointBytes c.snippets)) ++ padded 15 0 (endPointers 0 (map pointBytes c.snippets))
     ++ padded 576 0 (wordsBytes (joined c.sequences)) ++ padded 16 0 (endPointers 0 c.sequences)
 
 -- all lists of what was read, or NotAnImage
 abbrev pub listsItem : Option Content → Told (List ℕ)
-listsItem o = onOption o (refuses 18) (λ c. gives (lists_of c))
+listsItem o = onOption o (refuses 18) (λ c. gives (listsOf c))
 
 -- what is answered where this buffer is lent: the counts, if it has room for the lists, else the refusal
 abbrev pub listsAnswer : List ℕ → Option Content → Told ℕ

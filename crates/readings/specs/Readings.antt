@@ -4,7 +4,7 @@ use Rattle.std.specs.Prelude.{ℕ, ◌+◌, ◌*◌, ◌^◌, ◌<◌, length}
 use Rattle.std.proofs.Math.Option.{Option}
 use Rattle.errors.specs.Told.{Told, gives, refuses}
 use Rattle.frame.specs.Word.{frameWord}
-use Rattle.content.specs.Content.{Content, byte_of}
+use Rattle.content.specs.Content.{Content, byteOf}
 use Rattle.content.specs.ReadImage.{onOption}
 use Rattle.reader.specs.Items.{element}
 
@@ -14,7 +14,7 @@ countsAnswer o = onOption o (refuses 18) (λ c. gives (length c.snippets * 256 +
 
 -- the byte of the j-th point of the i-th snippet, or above every byte where there is none
 abbrev pub pointAnswer : Option Content → ℕ → ℕ → Told ℕ
-pointAnswer o i j = onOption o (refuses 18) (λ c. gives (onOption (element c.snippets i j) 256 byte_of))
+pointAnswer o i j = onOption o (refuses 18) (λ c. gives (onOption (element c.snippets i j) 256 byteOf))
 
 -- the fields of the j-th frame of the i-th sequence as one number, or above every such number where there is none
 abbrev pub frameAnswer : Option Content → ℕ → ℕ → Told ℕ

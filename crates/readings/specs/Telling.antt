@@ -9,7 +9,7 @@ use Rattle.errors.specs.Told.{Told, refuses}
 use Rattle.content.specs.Content.{Content}
 use Rattle.content.specs.ReadImage.{readImage}
 use Rattle.readings.specs.Readings.{countsAnswer, pointAnswer, frameAnswer}
-use Rattle.readings.specs.Lists.{lists_of, listsItem, listsAnswer}
+use Rattle.readings.specs.Lists.{listsOf, listsItem, listsAnswer}
 
 -- what is answered of two slices is the same number
 abbrev pub Alike : ℕ → (Option Content → Told ℕ) → List ℕ → List ℕ → Type 0
@@ -29,7 +29,7 @@ pub record ReadingsTold : Type 0 where
       → wholeOut out (listsItem (readImage l)) ≡ wholeOut out (listsItem (readImage k)) → readImage l ≡ readImage k
   -- the buffer and the answer then, in a shorter one, and where there is no image
   pub listed : (l : List ℕ) → Bytes l → (out : List ℕ) (c : Content) → readImage l ≡ some c → 703 ≤ length out
-      → (listsAnswer out (some c) ≡ countsAnswer (some c)) × (wholeOut out (listsItem (some c)) ≡ lists_of c ++ drop 703 out)
+      → (listsAnswer out (some c) ≡ countsAnswer (some c)) × (wholeOut out (listsItem (some c)) ≡ listsOf c ++ drop 703 out)
   pub short : (l : List ℕ) → Bytes l → (out : List ℕ) (c : Content) → readImage l ≡ some c → length out < 703
       → (listsAnswer out (some c) ≡ refuses 24) × (wholeOut out (listsItem (some c)) ≡ out)
   pub unread : (out : List ℕ) → (listsAnswer out none ≡ refuses 18) × (wholeOut out (listsItem none) ≡ out)

@@ -8,13 +8,13 @@
 ghost use Rattle.std.specs.Prelude.{◌≡◌, ◌≤◌, ◌<◌, ◌^◌, length, take, get_or};
 ghost use Rattle.std.proofs.Math.ListN.{get_elem?};
 ghost use Rattle.laws.specs.Whole.{wholeOut};
-ghost use Rattle.laws.specs.Lists.{low_bytes};
+ghost use Rattle.laws.specs.Lists.{lowBytes};
 ghost use Rattle.errors.specs.Packed.{packed};
 ghost use Rattle.content.specs.ReadImage.{onOption, readImage, readFrames};
 ghost use Rattle.frame.specs.Word.{frameWord};
 ghost use Rattle.reader.specs.Items.{frameAtTold};
 ghost use Rattle.reader.specs.Reading.{padded};
-ghost use Rattle.readings.specs.InPlace.{present, itemFits, lastIn, indexTold, itemsFit, beforeItem, item_at, NthFrame, FrameOf};
+ghost use Rattle.readings.specs.InPlace.{present, itemFits, lastIn, indexTold, itemsFit, beforeItem, itemAt, NthFrame, FrameOf};
 ghost use Rattle.readings.specs.Readings.{countsAnswer, byteCode, Small, pointAnswer, frameAnswer};
 ghost use Rattle.readings.specs.Lists.{wordsBytes, listsItem, listsAnswer};
 ghost use Rattle.readings.specs.Laying.{laidBytes};
@@ -156,7 +156,7 @@ fn frame_bytes(frames: Frames) -> [u8; FRAMES_SIZE]
 
 // The six low bytes of a number, the lowest first.
 fn low_bytes(w: u64) -> [u8; 6]
-    ensures { result ≡ low_bytes 6 w }
+    ensures { result ≡ lowBytes 6 w }
 {
     let b = w / 256;
     let c = b / 256;
@@ -281,8 +281,8 @@ fn frames_fit(bytes: &[u8]) -> bool
 // The j-th byte of the k-th item, or NO_POINT.
 fn byte_of(image: &[u8], k: usize, j: usize) -> u32
     requires { k < 512 }
-    ensures value { result ≡ byteCode (get_elem? (item_at image.now k) j) }
-    ensures small { Small (get_elem? (item_at image.now k) j) }
+    ensures value { result ≡ byteCode (get_elem? (itemAt image.now k) j) }
+    ensures small { Small (get_elem? (itemAt image.now k) j) }
 {
     let last = item_before(image, k);
     let end = byte(image, 2 + k);

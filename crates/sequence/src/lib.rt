@@ -6,7 +6,7 @@
 #![tactic(auto)]
 
 ghost use Rattle.std.specs.Prelude.{◌≡◌, length};
-ghost use Rattle.laws.specs.Whole.{whole, wholeOut, length_of};
+ghost use Rattle.laws.specs.Whole.{whole, wholeOut, lengthOf};
 ghost use Rattle.errors.specs.Number.{answerNumber, encodedTold};
 ghost use Rattle.errors.specs.Told.{gives, handed, built};
 ghost use Rattle.sequence.specs.Sequence.{sequenceBytes, newSequence, withFrame, builtSequence};
@@ -62,7 +62,7 @@ impl Sequence {
 
     // Copies all bytes and answers how many, or copies none and answers BufferTooShort.
     pub fn encode_into(self, buffer: &mut [u8]) -> Encoded
-        ensures result_value { encodedTold result ≡ length_of (whole buffer.old (gives (sequenceBytes self))) }
+        ensures result_value { encodedTold result ≡ lengthOf (whole buffer.old (gives (sequenceBytes self))) }
         ensures buffer_after { buffer.new ≡ wholeOut buffer.old (gives (sequenceBytes self)) }
     {
         let bytes = self.data;

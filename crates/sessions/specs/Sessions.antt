@@ -1,6 +1,6 @@
 -- What the operations begin a session with, and the steps of those that are not `configure`: document 01, 'Exchanges'.
 use Rattle.std.specs.Prelude.{ℕ, ◌-◌, min, Bool, true, false, cond, List, [], ◌∷◌, ◌++◌, ltb, replicate}
-use Rattle.field.specs.Field.{code_of}
+use Rattle.field.specs.Field.{codeOf}
 use Rattle.config.specs.declared.OperationMode.{OperationMode}
 use Rattle.config.specs.Codes.{operationCode}
 use Rattle.da728x.specs.declared.DA728x.{DA728x}
@@ -42,7 +42,7 @@ abbrev pub startSteps : List Step
 startSteps = updated "TOP_CTL1" (put "SEQ_START" 1)
 
 unfoldable pub memCtl2 : Bool → ℕ
-memCtl2 unlocked = fresh "MEM_CTL2" (put "WAV_MEM_LOCK" (code_of unlocked) ∷ [])
+memCtl2 unlocked = fresh "MEM_CTL2" (put "WAV_MEM_LOCK" (codeOf unlocked) ∷ [])
 
 abbrev pub setUnlocked : Bool → Step
 setUnlocked unlocked = written "MEM_CTL2" (memCtl2 unlocked)

@@ -15,6 +15,7 @@ use registers_control::TOP_CTL1;
 use registers_trigger::{MEM_CTL2, SEQ_CTL2};
 
 // Begins a session on the chip's registers alone.
+#[tactic(auto, unfolding(crate::specs::Sessions::noImage, crate::specs::Sessions::blankRecord))]
 pub fn begin(session: &mut [u8], address: u8, purpose: u8)
     ensures { session.new ≡ begunIn session.old (spec.blank purpose address) [] }
 {
@@ -24,6 +25,7 @@ pub fn begin(session: &mut [u8], address: u8, purpose: u8)
 }
 
 // Begins a session for a record.
+#[tactic(auto, unfolding(crate::specs::Sessions::noImage))]
 pub fn begin_with(session: &mut [u8], purpose: u8, next: DA728x)
     ensures { session.new ≡ begunIn session.old (spec.carrying purpose next) [] }
 {
@@ -49,6 +51,7 @@ pub fn update(session: &mut [u8], address: u8, register: u8, shift: u8, width: u
 
 // ---- register values
 
+#[tactic(auto, unfolding(crate::specs::Sessions::enabled))]
 pub fn enabled(mode: OperationMode) -> u8
     ensures { result ≡ spec.enabled mode }
 {
@@ -60,12 +63,14 @@ pub fn enabled(mode: OperationMode) -> u8
 }
 
 // 1 is unlocked.
+#[tactic(auto, unfolding(crate::specs::Sessions::memCtl2))]
 pub fn mem_ctl2(unlocked: bool) -> u8
     ensures { result ≡ spec.memCtl2 unlocked }
 {
     MEM_CTL2::new().with_WAV_MEM_LOCK(unlocked).bits()
 }
 
+#[tactic(auto, unfolding(crate::specs::Sessions::seqCtl2))]
 pub fn seq_ctl2(sequence_id: u8, loops: u8) -> u8
     ensures { result ≡ spec.seqCtl2 sequence_id loops }
 {
@@ -98,6 +103,7 @@ fn chunks(session: &mut [u8], n: u8)
     chunk(session, n, 96);
 }
 
+#[tactic(auto, unfolding(crate::specs::Sessions::chunkStep))]
 fn chunk(session: &mut [u8], n: u8, offset: u8)
     ensures { session.new ≡ pushedAll session.old (spec.chunkStep n offset) }
 {
@@ -115,6 +121,7 @@ fn part(left: u8) -> u8
     left
 }
 
+#[tactic(auto, unfolding(crate::specs::Sessions::lockSteps))]
 fn lock(session: &mut [u8], lock_after: bool)
     ensures { session.new ≡ pushedAll session.old (spec.lockSteps lock_after) }
 {

@@ -3,7 +3,6 @@ use Rattle.std.specs.Prelude.{ℕ, ◌+◌, ◌-◌, ◌*◌, ◌/◌, ◌%◌, 
 use Rattle.errors.specs.Number.{errorNumber}
 use Rattle.errors.specs.Told.{Told, gives, refuses}
 use Rattle.snippet.specs.declared.PointAnswer.{PointAnswer}
-use Rattle.snippet.specs.declared.PointAnswer.TheVariants as PointAnswer
 
 -- bit 7 set for a ramp, bits 6..4 length − 1, bits 3..0 amplitude; for a length of 1..8 and an amplitude of 0..15 only
 abbrev pub pointByte : Bool → ℕ → ℕ → ℕ

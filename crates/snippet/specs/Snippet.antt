@@ -7,8 +7,8 @@ use Rattle.snippet.specs.declared.Snippet.{Snippet}
 use Rattle.snippet.specs.declared.SnippetBuilder.{SnippetBuilder}
 
 -- the point with a byte, and the byte of a point
-abbrev pub point_of : ℕ → PwlPoint
-point_of b = record { byte = b }
+abbrev pub pointOf : ℕ → PwlPoint
+pointOf b = record { byte = b }
 
 abbrev pub pwlByte : PwlPoint → ℕ
 pwlByte p = p.byte
@@ -19,7 +19,7 @@ snippetBytes s = take s.len (map pwlByte s.points)
 
 -- a builder that holds nothing
 abbrev pub newSnippet : SnippetBuilder
-newSnippet = record { points = replicate 16 (point_of 0); len = 0 }
+newSnippet = record { points = replicate 16 (pointOf 0); len = 0 }
 
 -- a point more behind the others, or 6 for a 17th
 abbrev pub withPoint : SnippetBuilder → PwlPoint → Handed SnippetBuilder
@@ -27,7 +27,7 @@ withPoint b p = cond (leb 16 b.len) (refused 6 b) (accepted (record { points = s
 
 -- a point that was asked for by its fields: its own refusal comes first
 abbrev pub withMade : SnippetBuilder → Told ℕ → Handed SnippetBuilder
-withMade b t = onTold t (λ byte. withPoint b (point_of byte)) (λ n. refused n b)
+withMade b t = onTold t (λ byte. withPoint b (pointOf byte)) (λ n. refused n b)
 
 -- what stands in the answer where no snippet was built
 abbrev pub noSnippet : Snippet

@@ -6,11 +6,11 @@
 #![tactic(auto)]
 
 ghost use Rattle.std.specs.Prelude.{◌≡◌, true, false, map, length};
-ghost use Rattle.laws.specs.Whole.{whole, wholeOut, length_of};
+ghost use Rattle.laws.specs.Whole.{whole, wholeOut, lengthOf};
 ghost use Rattle.errors.specs.Number.{answerNumber, encodedTold};
 ghost use Rattle.errors.specs.Told.{gives, handed, built};
 ghost use Rattle.snippet.specs.Point.{point, pointTold, rampIn, timebasesIn, amplitudeIn};
-ghost use Rattle.snippet.specs.Snippet.{point_of, pwlByte, snippetBytes, newSnippet, noSnippet, withPoint, withMade, builtSnippet};
+ghost use Rattle.snippet.specs.Snippet.{pointOf, pwlByte, snippetBytes, newSnippet, noSnippet, withPoint, withMade, builtSnippet};
 
 use errors::{Answer, Encoded, Error};
 
@@ -57,7 +57,7 @@ pub struct BuiltSnippet {
 impl PwlPoint {
     // The point that a byte says; every byte says one.
     pub fn from_byte(byte: u8) -> PwlPoint
-        ensures { result ≡ point_of byte }
+        ensures { result ≡ pointOf byte }
     {
         PwlPoint { byte: byte }
     }
@@ -146,7 +146,7 @@ impl Snippet {
 
     // Copies all bytes and answers how many, or copies none and answers BufferTooShort.
     pub fn encode_into(self, buffer: &mut [u8]) -> Encoded
-        ensures result_value { encodedTold result ≡ length_of (whole buffer.old (gives (snippetBytes self))) }
+        ensures result_value { encodedTold result ≡ lengthOf (whole buffer.old (gives (snippetBytes self))) }
         ensures buffer_after { buffer.new ≡ wholeOut buffer.old (gives (snippetBytes self)) }
     {
         let bytes = self.bytes();

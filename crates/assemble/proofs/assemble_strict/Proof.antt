@@ -2,7 +2,7 @@
 use borrow.Author.Rules.{rules}
 use mathlib.Core.Bool.{false}
 use Rattle.pattern.specs.Calls.{memoryFrom}
-use Rattle.assemble.specs.Lists.{groups_of}
+use Rattle.assemble.specs.Lists.{groupsOf}
 use Rattle.assemble.proofs.Holding.{kept-both, image-built}
 use Rattle.assemble.proofs.Strict.{strict-refused, strict-built}
 use Rattle.assemble.proofs.assemble_strict.Statement.{statement}
@@ -15,7 +15,7 @@ returns c =
 
 image-requires : tie.Need-image-requires
 image-requires c κs =
-    kept-both (memoryFrom false (groups_of c.before.before.before.before.before.before.before.before.before.before.before.before.before.args.calls.now).memory) _ _ c.before.before.before.before.before.before.before.run.ensures.1.1.1.1 (search rules) (search rules)
+    kept-both (memoryFrom false (groupsOf c.before.before.before.before.before.before.before.before.before.before.before.before.before.args.calls.now).memory) _ _ c.before.before.before.before.before.before.before.run.ensures.1.1.1.1 (search rules) (search rules)
 
 returns-2 : tie.Need-returns-2
 returns-2 c =

@@ -10,11 +10,11 @@ use lib.ListN.{length, length-set, length-replicate}
 use lib.Seq.{sets}
 use Rattle.laws.specs.Copied.{copied}
 use Rattle.calls.specs.declared.Builders.{Builders}
-use Rattle.calls.specs.Calls.{call_of, callsIn}
+use Rattle.calls.specs.Calls.{callOf, callsIn}
 use Rattle.assemble.specs.Lists.{firstRefused}
 use Rattle.assemble.specs.Flat.{state}
 use Rattle.assemble.proofs.Flat.{nothingYet, flatAfter, flatAnswers}
-use Rattle.assemble.specs.Kept.{room_for}
+use Rattle.assemble.specs.Kept.{roomFor}
 use Rattle.assemble.proofs.Assembly.{answers-from, builders-from, memory-from}
 use Rattle.assemble.proofs.Holding.{keeps-none}
 use Rattle.assemble.proofs.Running.{Running, turn, left-builders, left-memory, left-answers, left-told, left-count}
@@ -26,8 +26,8 @@ invariant-loop calls answers₀ snippets₀ sequences₀ b₀ at₀ i₀ told₀
     (at ≤ length calls)
     × (i ≤ at)
     × (length answers ≡ length answers₀)
-    × (length snippets ≡ room_for 15)
-    × (length sequences ≡ room_for 16)
+    × (length snippets ≡ roomFor 15)
+    × (length sequences ≡ roomFor 16)
     × Running calls answers₀ answers snippets sequences b at i told
 
 abbrev decreases-loop : tie.decreases-loop
@@ -41,8 +41,8 @@ loop-holds c =
       omega arith,
       omega arith,
       refl,
-      ap length p.0 ∙ length-replicate {A = ℕ} (room_for 15) 0,
-      ap length p.1 ∙ length-replicate {A = ℕ} (room_for 16) 0,
+      ap length p.0 ∙ length-replicate {A = ℕ} (roomFor 15) 0,
+      ap length p.1 ∙ length-replicate {A = ℕ} (roomFor 16) 0,
       record {
         memory = nothingYet.memory;
         holds = rw (p.0, p.1) keeps-none;
@@ -74,17 +74,17 @@ loop-again c =
       ap length c.before.before.before.before.put.ensures ∙ simp length-set l.invariant.2,
       c.before.before.before.before.before.before.before.before.before.before.before.step.auto.1.1.0 ∙ l.invariant.3,
       c.before.before.before.before.before.before.before.before.before.before.before.step.auto.1.1.1.0 ∙ l.invariant.4,
-      turn l.invariant.5 _ _ _ _ _ _ _ _ _ h e (ap call_of c.before.before.before.before.before.before.before.before.before.before.before.before.before.before.read.ensures) c.before.before.before.before.before.before.before.before.before.before.before.step.ensures refl refl c.before.before.before.before.put.ensures c.before.first.ensures,
+      turn l.invariant.5 _ _ _ _ _ _ _ _ _ h e (ap callOf c.before.before.before.before.before.before.before.before.before.before.before.before.before.before.read.ensures) c.before.before.before.before.before.before.before.before.before.before.before.step.ensures refl refl c.before.before.before.before.put.ensures c.before.first.ensures,
     )
 
 same_length : tie.Need-same-length invariant-loop decreases-loop
 same_length c = c.before.loop.invariant.2
 
 same-length-2 : tie.Need-same-length-2 invariant-loop decreases-loop
-same-length-2 c = c.before.loop.invariant.3 ∙ sym (ap length c.before.before.before.before.before.before.before.requires.0 ∙ length-replicate {A = ℕ} (room_for 15) 0)
+same-length-2 c = c.before.loop.invariant.3 ∙ sym (ap length c.before.before.before.before.before.before.before.requires.0 ∙ length-replicate {A = ℕ} (roomFor 15) 0)
 
 same-length-3 : tie.Need-same-length-3 invariant-loop decreases-loop
-same-length-3 c = c.before.loop.invariant.4 ∙ sym (ap length c.before.before.before.before.before.before.before.requires.1 ∙ length-replicate {A = ℕ} (room_for 16) 0)
+same-length-3 c = c.before.loop.invariant.4 ∙ sym (ap length c.before.before.before.before.before.before.before.requires.1 ∙ length-replicate {A = ℕ} (roomFor 16) 0)
 
 returns : tie.Need-returns invariant-loop decreases-loop
 returns c =

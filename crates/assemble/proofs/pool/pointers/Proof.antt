@@ -7,7 +7,7 @@ use native.Mathlib.Nat.{add-zero}
 use native.Mathlib.Omega.{arith}
 use lib.ListN.{length, drop, set, length-set}
 use lib.Seq.{sets, sets-eq}
-use Rattle.assemble.specs.Kept.{sum_of, ends}
+use Rattle.assemble.specs.Kept.{sumOf, ends}
 use Rattle.assemble.proofs.Lists.{sumOf-next, sumOf-done, ends_next, ends-done, ends-length}
 use Rattle.assemble.proofs.pool.pointers.Statement.{statement}
 use Rattle.assemble.proofs.pool.pointers.Tie as tie
@@ -16,7 +16,7 @@ abbrev invariant-loop : tie.invariant-loop
 invariant-loop out₀ at lens before last₀ i₀ out last i =
     (i ≤ length lens)
     × (length out ≡ length out₀)
-    × (last + sum_of (drop i lens) ≡ before + sum_of lens)
+    × (last + sumOf (drop i lens) ≡ before + sumOf lens)
     × (sets out₀ at (ends before lens) ≡ sets out (at + i) (ends last (drop i lens)))
 
 abbrev decreases-loop : tie.decreases-loop

@@ -4,13 +4,13 @@ use mathlib.Core.Path.{◌≡◌}
 use Prim.Native.Nat.{◌+◌, ◌-◌, ◌*◌, ◌≤◌}
 use native.Mathlib.Omega.{arith}
 use lib.ListN.{length, drop}
-use Rattle.assemble.specs.Kept.{sum_of}
+use Rattle.assemble.specs.Kept.{sumOf}
 use Rattle.assemble.proofs.Lists.{sumOf-next, sumOf-done}
 use Rattle.assemble.proofs.pool.sum.Statement.{statement}
 use Rattle.assemble.proofs.pool.sum.Tie as tie
 
 abbrev invariant-loop : tie.invariant-loop
-invariant-loop lens sum₀ i₀ sum i = (i ≤ length lens) × (sum + sum_of (drop i lens) ≡ sum_of lens) × (sum ≤ 255 * i)
+invariant-loop lens sum₀ i₀ sum i = (i ≤ length lens) × (sum + sumOf (drop i lens) ≡ sumOf lens) × (sum ≤ 255 * i)
 
 abbrev decreases-loop : tie.decreases-loop
 decreases-loop lens sum₀ i₀ sum i = length lens - i

@@ -3,7 +3,7 @@ use mathlib.Core.Path.{ap, ◌∙◌}
 use mathlib.Core.List.{List}
 use Prim.Native.Nat.{ℕ}
 use Rattle.errors.specs.Told.{gives}
-use Rattle.laws.specs.Whole.{whole, wholeOut, length_of}
+use Rattle.laws.specs.Whole.{whole, wholeOut, lengthOf}
 use Rattle.laws.proofs.Lists.{shown-fits, shown-length, shown-part}
 use borrow.Author.Rules.{rules}
 use Rattle.frame.proofs.Frame.encode_into.Statement.{statement}
@@ -27,7 +27,7 @@ returns c =
     let n = c.before.before.before.before.before.byte_len in
     let e = shown-part a.self.bytes a.self.len n.result n.ensures in
     let r = c.before.before.copy-whole.ensures in (
-      r.0 ∙ ap (λ (l : List ℕ). length_of (whole a.buffer.now (gives l))) e,
+      r.0 ∙ ap (λ (l : List ℕ). lengthOf (whole a.buffer.now (gives l))) e,
       r.1 ∙ ap (λ (l : List ℕ). wholeOut a.buffer.now (gives l)) e,
     )
 
