@@ -16,7 +16,6 @@ use Rattle.sequence.specs.Sequence.{newSequence, withFrame}
 use Rattle.calls.specs.Said.{Call}
 use Rattle.calls.specs.Said as Call
 use Rattle.calls.specs.declared.UnderWay.{UnderWay}
-use Rattle.calls.specs.declared.UnderWay.TheVariants as UnderWay
 use Rattle.calls.specs.declared.Builders.{Builders}
 use Rattle.calls.specs.Calls.{callsIn, builders, frameBegun, uses}
 use Rattle.memory.specs.declared.WaveformMemoryBuilder.{WaveformMemoryBuilder}

@@ -25,7 +25,7 @@ use Rattle.assemble.specs.Kept as pool
 use Rattle.assemble.specs.Kept.{kept, Pushed, PushedUnless, addedNumber, KeptBoth}
 use Rattle.assemble.proofs.Keeping.{count}
 use Rattle.pattern.proofs.Items.{withBuiltSnippet, withBuiltSequence}
-use Rattle.assemble.specs.Holding.{Keeps, KeepsSnippets, KeepsSequences, KeepsMemory, StepsSnippets, StepsSequences}
+use Rattle.assemble.specs.Holding.{Keeps, KeepsMemory, StepsSnippets, StepsSequences}
 
 -- ---- an array whose first n items are kept
 
@@ -119,25 +119,11 @@ module _ (r : Built Snippet SnippetBuilder) (l : List ℕ) where
   snippet-added n j i x l' u v e f p =
       added 15 6 snippetBytes (λ m. m.snippets) (λ m. m.num_snippets) moreSnippets (λ m a. refl) (λ m a. refl) r.number r.item l l' x f n j i u v e p
 
-  pub spares-sequences : (m : WaveformMemoryBuilder) → KeepsSequences m l → KeepsSequences (withBuiltSnippet m r).builder l
-  spares-sequences m h = go (ltb 0 r.number) (leb 15 m.num_snippets) where
-    go : (t u : Bool) → KeepsSequences (cond t (refused r.number m) (cond u (refused 6 m) (accepted (moreSnippets m r.item)))).builder l
-    go true u = h
-    go false true = h
-    go false false = h
-
 module _ (r : Built Sequence SequenceBuilder) (l : List ℕ) where
   pub sequence-added : (n j i : ℕ) (x l' : List ℕ) → j ≡ r.number → i ≡ 7 → n ≡ addedNumber 16 i j l → x ≡ sequenceBytes r.item → PushedUnless (ltb 0 j) 16 x l l'
       → StepsSequences (λ m. withBuiltSequence m r) l n l'
   sequence-added n j i x l' u v e f p =
       added 16 7 sequenceBytes (λ m. m.sequences) (λ m. m.num_sequences) moreSequences (λ m a. refl) (λ m a. refl) r.number r.item l l' x f n j i u v e p
-
-  pub spares-snippets : (m : WaveformMemoryBuilder) → KeepsSnippets m l → KeepsSnippets (withBuiltSequence m r).builder l
-  spares-snippets m h = go (ltb 0 r.number) (leb 16 m.num_sequences) where
-    go : (t u : Bool) → KeepsSnippets (cond t (refused r.number m) (cond u (refused 7 m) (accepted (moreSequences m r.item)))).builder l
-    go true u = h
-    go false true = h
-    go false false = h
 
 -- ---- from nothing to an image
 

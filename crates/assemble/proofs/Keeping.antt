@@ -1,11 +1,10 @@
 -- What stands where in bytes that keep items, one item more, and the image that is laid out of them.
 -- Assumes nothing.
 use mathlib.Core.Path.{◌≡◌, refl, sym, ap, ap₂, ◌∙◌}
-use mathlib.Core.Bool.{Bool, true, false, cond}
+use mathlib.Core.Bool.{Bool, cond}
 use mathlib.Core.List.{List, [], ◌∷◌, ◌++◌, map, map-append, append_assoc, append-nil}
 use Prim.Native.Nat.{ℕ, suc, ◌+◌, ◌-◌, ◌≤◌, ◌<◌}
 use native.Mathlib.Omega.{arith}
-use lib.Dec.{ltb}
 use lib.ListN.{length, take, drop, get_or, set, replicate, length-append, length-map, length-replicate, replicate-append-replicate}
 use lib.Seq.{set-append_seam, take_at, drop_at, take-append-add, take_all, drop-drop}
 use borrow.Author.Tests.{lt-ltb, le-ltb}
@@ -128,22 +127,18 @@ module _ (most : ℕ) (items : List (List ℕ)) (x : List ℕ) (h : length items
 
 -- the number tells whether there is room
 module _ (most n : ℕ) (l x : List ℕ) (f : n ≡ get_or l 0 0) where
-  pub full : most ≤ n → (false ≡ ltb (get_or l 0 0) most) × Pushed most x l l
-  full h = (
-    sym (le-ltb (get_or l 0 0) most (omega arith)),
-    λ items g e. e ∙ ap (λ (t : Bool). kept most (cond t (items ++ (x ∷ [])) items)) (sym (le-ltb (length items) most (let c = count most items l e in omega arith))),
-  )
+  pub full : most ≤ n → Pushed most x l l
+  full h items g e =
+      let c = count most items l e in
+      e ∙ ap (λ (t : Bool). kept most (cond t (items ++ (x ∷ [])) items)) (sym (le-ltb (length items) most (omega arith)))
 
   pub room : n < most → (a at : ℕ) (l' : List ℕ) → a ≡ sumOf (mid_of 1 (1 + n - 1) l) → at ≡ 1 + most + a → l' ≡ take at l ++ copied (drop at l) x
-      → (true ≡ ltb (get_or l 0 0) most) × Pushed most x l (set (set l' (1 + n) (length x)) 0 (n + 1))
-  room h a at l' i j k = (
-    sym (lt-ltb (get_or l 0 0) most (omega arith)),
-    λ items g e.
-        let c = count most items l e in
-        let d : length items < most = omega arith in
-        pushed most items x d l l' n at e f (j ∙ ap (λ (o : ℕ). 1 + most + o) (sum_is most items l e n f a i)) k
-        ∙ ap (λ (t : Bool). kept most (cond t (items ++ (x ∷ [])) items)) (sym (lt-ltb (length items) most d)),
-  )
+      → Pushed most x l (set (set l' (1 + n) (length x)) 0 (n + 1))
+  room h a at l' i j k items g e =
+      let c = count most items l e in
+      let d : length items < most = omega arith in
+      pushed most items x d l l' n at e f (j ∙ ap (λ (o : ℕ). 1 + most + o) (sum_is most items l e n f a i)) k
+      ∙ ap (λ (t : Bool). kept most (cond t (items ++ (x ∷ [])) items)) (sym (lt-ltb (length items) most d))
 
 -- ---- the image
 

@@ -1,38 +1,17 @@
--- Sums and end pointers, one turn at a time and of two lists; bytes copied behind others.
+-- Sums and end pointers of two lists; bytes copied behind others.
 -- Assumes nothing.
 use mathlib.Core.Path.{◌≡◌, refl, sym, ap, ◌∙◌}
 use mathlib.Core.List.{List, [], ◌∷◌, ◌++◌, map, append_assoc, append-nil}
-use Prim.Native.Nat.{ℕ, suc, ◌+◌, ◌-◌, ◌≤◌, ◌<◌}
+use Prim.Native.Nat.{ℕ, suc, ◌+◌, ◌≤◌}
 use native.Mathlib.Decide.{dec_le}
-use native.Mathlib.Numerals.{add-one}
 use native.Mathlib.Nat.{add-zero}
 use native.Mathlib.Omega.{arith}
-use lib.ListN.{length, take, drop, get_or, set, length-append, length-take, length-drop, drop_of_length-le}
-use lib.Seq.{drop-cons, sets, take_all, take_at, drop_at, drop-drop, take-append-le, take-append-add}
+use lib.ListN.{length, take, drop, length-append, length-take, length-drop, drop_of_length-le}
+use lib.Seq.{take_all, take_at, drop_at, drop-drop, take-append-le, take-append-add}
 use Rattle.laws.specs.Copied.{copied, over}
 use Rattle.laws.specs.Lists.{joined}
 use Rattle.memory.specs.Image.{endPointers}
 use Rattle.assemble.specs.Kept.{sumOf, ends}
-
--- ---- one turn
-
-next : (l : List ℕ) (i : ℕ) → i < length l → drop i l ≡ get_or l i 0 ∷ drop (i + 1) l
-next l i h = rw (add-one) (drop-cons l i 0 h)
-
-pub sumOf-next : (l : List ℕ) (i : ℕ) → i < length l → sumOf (drop i l) ≡ get_or l i 0 + sumOf (drop (i + 1) l)
-sumOf-next l i h = ap sumOf (next l i h)
-
-pub sumOf-done : (l : List ℕ) (i : ℕ) → length l ≤ i → sumOf (drop i l) ≡ 0
-sumOf-done l i h = ap sumOf (drop_of_length-le l {i = i} h)
-
-pub ends_next : (l out : List ℕ) (at i last : ℕ) → i < length l
-    → sets out (at + i) (ends last (drop i l)) ≡ sets (set out (at + i) (last + get_or l i 0)) (at + (i + 1)) (ends (last + get_or l i 0) (drop (i + 1) l))
-ends_next l out at i last h =
-    ap (λ (m : List ℕ). sets out (at + i) (ends last m)) (next l i h)
-    ∙ ap (λ (k : ℕ). sets (set out (at + i) (last + get_or l i 0)) k (ends (last + get_or l i 0) (drop (i + 1) l))) (let e : suc (at + i) ≡ at + (i + 1) = omega arith in e)
-
-pub ends-done : (l out : List ℕ) (j i last : ℕ) → length l ≤ i → sets out j (ends last (drop i l)) ≡ out
-ends-done l out j i last h = ap (λ (m : List ℕ). sets out j (ends last m)) (drop_of_length-le l {i = i} h)
 
 -- ---- of items
 
@@ -102,5 +81,3 @@ over-more l a b at next e h =
     ∙ ap (λ (k : ℕ). p ++ b ++ drop k (p ++ d)) q
     ∙ ap (λ (m : List ℕ). p ++ b ++ m) (r ∙ t)
     ∙ ap (λ (m : List ℕ). m ++ drop (at + length (a ++ b)) l) (append_assoc (take at l) a b)
-
--- ---- bytes copied into a part that is put back

@@ -8,33 +8,25 @@ use native.Mathlib.Decide.{ℕ_discrete, dec_le}
 use native.Mathlib.Omega.{arith}
 use borrow.Author.Tests.{lt-ltb, ltb-true, ltb-false}
 use lib.Dec.{ltb}
-use lib.ListN.{length, take, drop, get_or, set, get_or-eq_default}
+use lib.ListN.{length, take, drop, get_or, set, get_or-eq_default, replicate}
 use lib.Seq.{sets}
 use Rattle.laws.specs.Bytes.{All}
 use Rattle.laws.specs.Copied.{copied}
 use Rattle.laws.proofs.Answers.{sets-copied}
-use Rattle.errors.specs.Told.{Handed, Built}
-use Rattle.snippet.specs.declared.Snippet.{Snippet}
-use Rattle.snippet.specs.declared.SnippetBuilder.{SnippetBuilder}
-use Rattle.snippet.specs.Snippet.{builtSnippet}
-use Rattle.sequence.specs.declared.Sequence.{Sequence}
-use Rattle.sequence.specs.declared.SequenceBuilder.{SequenceBuilder}
-use Rattle.sequence.specs.Sequence.{builtSequence}
+use Rattle.errors.specs.Told.{Handed}
 use Rattle.calls.specs.Said.{Call}
-use Rattle.calls.specs.Said as Call
 use Rattle.frame.specs.Read.{gainAt, timebaseAt}
 use Rattle.pattern.specs.Calls.{gain, timebase}
 use Rattle.calls.specs.declared.Record.{Record}
 use Rattle.calls.specs.declared.Builders.{Builders}
-use Rattle.calls.specs.Calls.{callsByCode, firstRecord, callOf, callsIn, calledBy}
+use Rattle.calls.specs.Calls.{started, callsByCode, firstRecord, callOf, callsIn, calledBy}
 use Rattle.calls.proofs.Turns.{calls-next, calls-none, chosen-either}
 use Rattle.memory.specs.declared.WaveformMemoryBuilder.{WaveformMemoryBuilder}
-use Rattle.pattern.proofs.Items.{withBuiltSnippet, withBuiltSequence}
 use Rattle.assemble.specs.Lists.{withPlace, firstRefused}
-use Rattle.assemble.specs.Flat.{State, state, lessSnippet, lessSequence, flatCalled}
+use Rattle.assemble.specs.Flat.{State, state, flatCalled}
 use Rattle.assemble.proofs.Flat.{nothingYet, flatAfter, flatAnswers}
-use Rattle.assemble.specs.Holding.{KeepsMemory, StepsSnippets, StepsSequences, StepsMemory, shownBy}
-use Rattle.assemble.proofs.Holding.{spares-sequences, spares-snippets}
+use Rattle.assemble.specs.Holding.{KeepsMemory, StepsMemory, shownBy}
+use Rattle.assemble.proofs.Holding.{keeps-none}
 
 -- ---- one call
 
@@ -83,26 +75,6 @@ module _ (b : Builders) (call : Call) (l k : List ℕ) (t : Handed Builders) whe
     kept Call.AddSequence h = absurd h
     kept Call.Unknown h = w
 
-  pub snippet-step : (l' : List ℕ) (n : ℕ) (r : Built Snippet SnippetBuilder) → call ≡ Call.AddSnippet → r ≡ builtSnippet b.snippet
-      → StepsSnippets (λ m. withBuiltSnippet m r) l n l' → t ≡ record { number = n; builder = lessSnippet b n } → StepsMemory b call l k t l' k
-  snippet-step l' n r e f s g =
-      subst (λ (c : Call). StepsMemory b c l k t l' k) (sym e)
-      (subst (λ (x : Built Snippet SnippetBuilder). (m : WaveformMemoryBuilder) → KeepsMemory m l k
-      → (t ≡ record { number = (withBuiltSnippet m x).number; builder = lessSnippet b (withBuiltSnippet m x).number }) × KeepsMemory (withBuiltSnippet m x).builder l' k) f
-      (λ m w.
-      let p = s m w.0 in
-      (g ∙ ap (λ (j : ℕ). record { number = j; builder = lessSnippet b j }) p.0, (p.1, spares-sequences r k m w.1))))
-
-  pub sequence-step : (k' : List ℕ) (n : ℕ) (r : Built Sequence SequenceBuilder) → call ≡ Call.AddSequence → r ≡ builtSequence b.sequence
-      → StepsSequences (λ m. withBuiltSequence m r) k n k' → t ≡ record { number = n; builder = lessSequence b n } → StepsMemory b call l k t l k'
-  sequence-step k' n r e f s g =
-      subst (λ (c : Call). StepsMemory b c l k t l k') (sym e)
-      (subst (λ (x : Built Sequence SequenceBuilder). (m : WaveformMemoryBuilder) → KeepsMemory m l k
-      → (t ≡ record { number = (withBuiltSequence m x).number; builder = lessSequence b (withBuiltSequence m x).number }) × KeepsMemory (withBuiltSequence m x).builder l k') f
-      (λ m w.
-      let p = s m w.1 in
-      (g ∙ ap (λ (j : ℕ). record { number = j; builder = lessSequence b j }) p.0, (spares-snippets r l m w.0, p.1))))
-
 -- ---- where a run stands
 
 pub record Running (bytes answers₀ answers snippets sequences : List ℕ) (b : Builders) (at i told : ℕ) : Type 0 where
@@ -112,6 +84,13 @@ pub record Running (bytes answers₀ answers snippets sequences : List ℕ) (b :
   pub stored : sets answers₀ 0 (flatAnswers nothingYet (callsIn bytes)) ≡ sets answers i (flatAnswers (state b memory) (callsIn (drop at bytes)))
   pub tells : firstRefused 0 (flatAnswers nothingYet (callsIn bytes)) ≡ cond (ltb 0 told) told (firstRefused i (flatAnswers (state b memory) (callsIn (drop at bytes))))
   pub counts : length (callsIn bytes) ≡ i + length (callsIn (drop at bytes))
+
+-- before the first call
+pub begun : (bytes answers : List ℕ) {b : Builders} {ls qs : List ℕ} → b ≡ started → ls ≡ replicate 116 0 → qs ≡ replicate 117 0
+    → Running bytes answers answers ls qs b 0 0 0
+begun bytes answers e f g =
+    rw (e, f, g)
+    (record { memory = nothingYet.memory; holds = keeps-none; rest = refl; stored = refl; tells = refl; counts = omega arith })
 
 -- the first refusal, with one answer more
 first_more : (told n i : ℕ) (ns : List ℕ) (told' : ℕ) → told' ≡ cond (ltb 0 told) told (cond (ltb 0 n) (withPlace n i) 0)

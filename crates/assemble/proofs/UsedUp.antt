@@ -2,7 +2,7 @@
 use mathlib.Core.Path.{◌≡◌, refl, sym, ap, ◌∙◌}
 use mathlib.Core.Bool.{false}
 use mathlib.Core.List.{List, [], ◌∷◌, ◌++◌}
-use Prim.Native.Nat.{ℕ, ◌+◌, ◌<◌}
+use Prim.Native.Nat.{ℕ, ◌<◌}
 use native.Mathlib.Omega.{arith}
 use borrow.Author.Tests.{lt-ltb}
 use Rattle.errors.specs.Told.{Told, gives, refuses, toldNumber}
@@ -14,7 +14,6 @@ use Rattle.frame.specs.declared.Gain.TheVariants.{Full}
 use Rattle.calls.specs.Said.{Call}
 use Rattle.calls.specs.Said as Call
 use Rattle.calls.specs.declared.UnderWay.{UnderWay}
-use Rattle.calls.specs.declared.UnderWay.TheVariants as UnderWay
 use Rattle.calls.specs.declared.Builders.{Builders}
 use Rattle.memory.specs.Memory.{newMemory}
 use Rattle.pattern.specs.Calls.{SnippetCall, snippetStep, snippetFrom, FrameCall, gain, frameStep, Begin, begunBy, FrameCalls, sequenceStep, sequenceFrom, MemoryCall, addSnippet, addSequence, memoryStep, memoryFrom}

@@ -219,7 +219,7 @@ fn methods_cite_their_own_fields() {
                 continue;
             };
             let field = method.trim_start_matches("with_");
-            let cited = format!("≡ {at}(partsOf \"{of}\") \"{field}\" (self .0)");
+            let cited = format!("≡ {at}(partsOf \"{of}\") \"{field}\" self.0");
             assert!(line.contains(&cited), "{of}::{method}");
             assert_eq!(*at == "withAt ", method.starts_with("with_"), "{of}::{method}");
             methods.push((of.clone(), method.clone()));
