@@ -1,8 +1,6 @@
-pub mod Built
 pub mod Canon
 pub mod Frames
 pub mod Packed
 pub mod Parts
 pub mod Reading
-pub mod Slices
 pub mod Written

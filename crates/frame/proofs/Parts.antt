@@ -4,7 +4,6 @@ use mathlib.Core.Bool.{Bool, true, false, cond}
 use mathlib.Core.List.{List, [], ◌∷◌}
 use lib.Dec.{leb}
 use Rattle.frame.specs.declared.LoopCount.{LoopCount}
-use Rattle.frame.specs.declared.LoopCount.TheVariants as LoopCount
 use Rattle.frame.specs.declared.Frequency.{Frequency}
 use Rattle.frame.specs.Frame.{onLoop, onFrequency}
 

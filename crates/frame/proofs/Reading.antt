@@ -1,29 +1,25 @@
 -- Reading undoes writing: a frame's bytes, and any bytes that begin no second byte, are read to the frame and the rest.
 -- Assumes nothing.
-use mathlib.Core.Path.{◌≡◌, refl, sym, ap, ap₂, ◌∙◌, subst}
-use mathlib.Core.Bool.{Bool, true, false, cond, ◌||◌}
+use mathlib.Core.Path.{◌≡◌, refl, sym, ap, ◌∙◌}
+use mathlib.Core.Bool.{Bool, true, false, ◌||◌}
 use mathlib.Core.List.{List, [], ◌∷◌, ◌++◌}
-use mathlib.Core.Option.{Option, none, some, some-injective}
-use Prim.Native.Nat.{ℕ, zero, suc, ◌+◌, ◌*◌, ◌/◌, ◌%◌, ◌<◌, ◌≤◌}
+use Prim.Native.Nat.{ℕ, ◌+◌, ◌*◌, ◌/◌, ◌%◌, ◌<◌, ◌≤◌}
 use native.Mathlib.Omega.{arith}
-use native.Mathlib.Nat.{div-div-eq-div-mul}
-use borrow.Author.Tests.{lt-ltb, le-ltb, le-leb, lt-leb, leb-true, leb-false, ltb-true, ltb-false}
-use lib.Dec.{ltb, leb}
+use borrow.Author.Tests.{lt-ltb, le-ltb, le-leb, lt-leb, leb-true, leb-false}
+use lib.Dec.{leb}
 use Rattle.frame.specs.declared.Gain.{Gain}
 use Rattle.frame.specs.declared.Gain.TheVariants.{Full, Half, Quarter, Eighth}
 use Rattle.frame.specs.declared.Timebase.{Timebase}
 use Rattle.frame.specs.declared.Timebase.TheVariants.{Ms5_44, Ms21_76, Ms43_52, Ms87_04}
 use Rattle.frame.specs.declared.LoopCount.{LoopCount}
-use Rattle.frame.specs.declared.LoopCount.TheVariants as LoopCount
 use Rattle.frame.specs.declared.Frequency.{Frequency}
-use Rattle.frame.specs.declared.Frequency.TheVariants as Frequency
 use Rattle.frame.specs.declared.FrameBuilder.{FrameBuilder}
 use Rattle.frame.specs.Agreement.{FrameAdmitted}
 use Rattle.frame.specs.Builder.{frameWith}
-use Rattle.frame.specs.Frame.{gainCode, timebaseCode, firstByte, secondByte, bytesOf}
-use Rattle.frame.specs.Read.{gainAt, timebaseAt, fieldsIn, oneByte, twoBytes, threeBytes, Parsed, parsed, readThird, readSecond, readAfter, readFrame}
+use Rattle.frame.specs.Frame.{gainCode, timebaseCode, firstByte, bytesOf}
+use Rattle.frame.specs.Read.{gainAt, timebaseAt, fieldsIn, oneByte, twoBytes, threeBytes, parsed, readFrame}
 use Rattle.frame.proofs.Canon.{canon}
-use Rattle.frame.proofs.Parts.{loops, loopGiven, thirdByte, LoopAdmitted, FrequencyAdmitted, absentIsZero, written}
+use Rattle.frame.proofs.Parts.{loops, loopGiven, LoopAdmitted, FrequencyAdmitted, absentIsZero, written}
 
 -- ---- codes, both ways
 

@@ -2,7 +2,6 @@
 -- told by its builder's fields. Admitted frames agree exactly when their bytes are the same: proofs/Frames.antt.
 use Rattle.std.specs.Prelude.{◌≤◌, ◌≡◌, true, cond, leb}
 use Rattle.frame.specs.declared.LoopCount.{LoopCount}
-use Rattle.frame.specs.declared.LoopCount.TheVariants as LoopCount
 use Rattle.frame.specs.declared.FrameBuilder.{FrameBuilder}
 use Rattle.frame.specs.Frame.{onLoop, onFrequency}
 

@@ -8,12 +8,9 @@ use Rattle.frame.specs.declared.Gain.TheVariants.{Full}
 use Rattle.frame.specs.declared.Timebase.{Timebase}
 use Rattle.frame.specs.declared.Timebase.TheVariants.{Ms5_44}
 use Rattle.frame.specs.declared.LoopCount.{LoopCount}
-use Rattle.frame.specs.declared.LoopCount.TheVariants as LoopCount
 use Rattle.frame.specs.declared.Frequency.{Frequency}
-use Rattle.frame.specs.declared.Frequency.TheVariants as Frequency
 use Rattle.frame.specs.declared.FrameBuilder.{FrameBuilder}
 use Rattle.frame.specs.declared.NewFrame.{NewFrame}
-use Rattle.frame.specs.declared.NewFrame.TheVariants as NewFrame
 
 -- a frame of its five fields
 abbrev pub frameWith : ℕ → Gain → Timebase → LoopCount → Frequency → FrameBuilder

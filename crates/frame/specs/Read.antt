@@ -9,12 +9,9 @@ use Rattle.frame.specs.declared.Gain.TheVariants.{Full, Half, Quarter, Eighth}
 use Rattle.frame.specs.declared.Timebase.{Timebase}
 use Rattle.frame.specs.declared.Timebase.TheVariants.{Ms5_44, Ms21_76, Ms43_52, Ms87_04}
 use Rattle.frame.specs.declared.LoopCount.{LoopCount}
-use Rattle.frame.specs.declared.LoopCount.TheVariants as LoopCount
 use Rattle.frame.specs.declared.Frequency.{Frequency}
-use Rattle.frame.specs.declared.Frequency.TheVariants as Frequency
 use Rattle.frame.specs.declared.FrameBuilder.{FrameBuilder}
 use Rattle.frame.specs.declared.FrameRead.{FrameRead}
-use Rattle.frame.specs.declared.FrameRead.TheVariants as FrameRead
 use Rattle.frame.specs.Builder.{frameWith}
 
 -- the gain with a code; a code past the last counts as the last

@@ -379,6 +379,7 @@ fn frequency_word(f: Frequency) -> u16
 
 impl FrameBuilder {
     // The first frame of the bytes from an index on, or NotAnImage.
+    #[tactic(auto, unfolding(crate::specs::Read::readFrame))]
     pub fn read(bytes: &[u8], at: usize) -> FrameRead
         ensures { readTold result ≡ firstFrame (drop at bytes.now) }
     {
