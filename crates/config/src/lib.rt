@@ -1,7 +1,7 @@
 // The settings of an actuator and of the chip (config.rs; document 01, 'Settings to registers'), and the chip's variant (lib.rs).
-// An `Option` is an enum of given or absent. The three triggers are three fields, since a field that is an array of enums is
-// not a covered form. Proved: each choice's code is the Rust's number for it, and a code past the last counts as the last
-// (specs/Codes.antt). Left out: what the Rust derives, as comparing and printing.
+// An `Option` is an enum of given or absent, and the three triggers are three fields, each with its own place in the record.
+// Proved: each choice's code is the Rust's number for it, and a code past the last counts as the last (specs/Codes.antt).
+// Left out: what the Rust derives beside `Clone` and `Copy`, as comparing and printing.
 #![tactic(auto)]
 
 ghost use Rattle.std.specs.Prelude.{◌≡◌};

@@ -4,8 +4,8 @@
 // proofs/Written.antt and Reading.antt: `read` (added) undoes `build`, and reads nothing else. `word` (added) gives the fields as one
 // number. src/bits.rt packs and unpacks the bytes.
 // `build` gives the frame itself, since it cannot refuse; `as_bytes` gives the array, of which the first `byte_len` are the
-// frame's; `encode_into` copies all bytes or none (document 02, CR 5); no function here takes a closure. Left out: `Default` and what the
-// Rust derives.
+// frame's; `encode_into` copies all bytes or none (document 02, CR 5); no function here takes a closure. Left out: `Default`, `==` and
+// printing.
 #![tactic(auto)]
 
 mod bits;

@@ -1,7 +1,7 @@
 // The waveform memory, its image and its builder (waveform/memory.rs; document 01, 'The hundred bytes').
 // Proved: each function answers what specs/ says of its arguments, whatever the counts hold; `build` lays out the image over zeros,
 // and its tail stays zero; the acceleration flag changes nothing. `[Option<Snippet>; 15]` is an array of structs with a count.
-// `as_bytes` gives the array, of which the first `len` are shown; no function here takes a closure. Left out: what the Rust derives.
+// `as_bytes` gives the array, of which the first `len` are shown; no function here takes a closure. Left out: `==` and printing.
 #![tactic(auto)]
 
 ghost use Rattle.std.specs.Prelude.{◌≡◌, map, ◌+◌, ◌*◌, ◌≤◌, ◌<◌, min, ltb, length, take};

@@ -2,7 +2,7 @@
 // The sequence under construction carries its 96 bytes with a length and a frame count.
 // Proved: each function answers what specs/ says of its arguments, whatever the builder's fields hold, and a refusal hands the
 // builder back as it came in. `as_bytes` gives the array, of which the first `byte_len` are the sequence's; `encode_into` copies all bytes
-// or none (document 02, CR 5); no function here takes a closure. Left out: `Default` and what the Rust derives.
+// or none (document 02, CR 5); no function here takes a closure. Left out: `Default` and printing.
 #![tactic(auto)]
 
 ghost use Rattle.std.specs.Prelude.{◌≡◌, length};

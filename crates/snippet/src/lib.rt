@@ -2,7 +2,7 @@
 // Proved: each function answers what specs/ says of its arguments, whatever the builder's fields hold, and a refusal hands the
 // builder back as it came in. proofs/Points.antt: same kind, length and amplitude exactly when same byte.
 // `points` gives the array, of which the first `byte_len` are the snippet's; `encode_into` copies all bytes or none (document 02, CR 5); no
-// function here takes a closure. Left out: `Default` and what the Rust derives.
+// function here takes a closure. Left out: `Default`, `==` and printing.
 #![tactic(auto)]
 
 ghost use Rattle.std.specs.Prelude.{◌≡◌, true, false, map, length};
