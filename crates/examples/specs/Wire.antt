@@ -104,7 +104,7 @@ wireExamples =
     -- where TOP_CFG2 reads 0F and TOP_INT_CFG8 reads 8C: in ETWM_MODE; accelerating, where TOP_CFG2 reads 1F; WIDEBAND with the third trigger alone
     (wire (0x0F ∷ 0x8C ∷ []) (configuring DA7280 (settingsFor 4))
     is (0x4A001380 ∷ 0x4A0114 ∷ 0x4A00141F ∷ 0x4A006E00 ∷ 0x4A000C6A ∷ 0x4A000DFF ∷ 0x4A000E12 ∷ 0x4A000F00 ∷ 0x4A00106D ∷ 0x4A006002 ∷ 0x4A001C02 ∷ 0x4A001D23 ∷ 0x4A001E03 ∷ 0x4A001F00 ∷ 0x4A000A22 ∷ 0x4A000B3B
-    ∷ 0x4A0120 ∷ 0x4A00207C ∷ 0x4A004800 ∷ 0x4A004980 ∷ 0x4A002402 ∷ 0x4A001680 ∷ 0x4A00290C ∷ 0x4A002A15 ∷ 0x4A002B1E ∷ []))
+    ∷ 0x4A0120 ∷ 0x4A00207C ∷ 0x4A004800 ∷ 0x4A004980 ∷ 0x4A002402 ∷ 0x4A001680 ∷ 0x4A002908 ∷ 0x4A002A11 ∷ 0x4A002B1E ∷ []))
     ∷ (wire (0x1F ∷ 0x8C ∷ []) (configuring DA7280 (accelerating 1))
     is (0x4A0013BC ∷ 0x4A0114 ∷ 0x4A00140F ∷ 0x4A006E01 ∷ 0x4A000C33 ∷ 0x4A000D80 ∷ 0x4A000E1F ∷ 0x4A000F04 ∷ 0x4A00103E ∷ 0x4A00600C ∷ 0x4A000A18 ∷ 0x4A000B77 ∷ 0x4A0120 ∷ 0x4A00207C ∷ []))
     -- tracking without acceleration, LRA and ERM; every bit read clear or set; triggers in ETWM_MODE only
@@ -114,6 +114,9 @@ wireExamples =
     ∷ (map (λ mode. length (wire [] (configuring DA7280 (settingsFor mode)))) (0 ∷ 1 ∷ 2 ∷ 3 ∷ 4 ∷ []) is (22 ∷ 22 ∷ 22 ∷ 22 ∷ 25 ∷ []))
     ∷ (drop 16 (wire (0x0F ∷ 0x8C ∷ []) (configuring DA7280 (replaced (settingsFor 4) ((19, 1) ∷ (20, 0) ∷ (24, 0) ∷ []))))
     is (0x4A0120 ∷ 0x4A00207C ∷ 0x4A004800 ∷ 0x4A004980 ∷ 0x4A002B1E ∷ []))
+    -- sequence 5, rising, MultiSequence and SingleSequence, and 15, both edges, SingleSequence; then a mode byte of 2, which counts as 1
+    ∷ (map (λ mode. drop 22 (wire (0x0F ∷ 0x8C ∷ []) (configuring DA7280 (replaced (settingsFor 4) ((21, 5) ∷ (23, 1) ∷ (25, 5) ∷ (26, 0) ∷ (29, 15) ∷ (31, mode) ∷ []))))) (0 ∷ 2 ∷ [])
+    is ((0x4A00292C ∷ 0x4A002A28 ∷ 0x4A002B7A ∷ []) ∷ (0x4A00292C ∷ 0x4A002A28 ∷ 0x4A002B7E ∷ []) ∷ []))
     ∷ (wire (0xBA ∷ []) (operation.new 0x4A DA7280) is (0x4A0100 ∷ [])) ∷ (map revision (DA7280 ∷ DA7281 ∷ DA7282 ∷ []) is (0xBA ∷ 0xCA ∷ 0xDA ∷ []))
     ∷ (wire (0xBA ∷ []) (operation.getChipRev chip) is (0x4A0100 ∷ [])) ∷ ((operation.getChipRev chip).answers (0xBA ∷ []) is 0xBA)
     ∷ (wire (1 ∷ 2 ∷ 3 ∷ []) (operation.getEvents chip) is (0x4A0103 ∷ 0x4A0104 ∷ 0x4A0105 ∷ 0x4A0003FF ∷ [])) ∷ ((operation.getEvents chip).answers (1 ∷ 2 ∷ 3 ∷ []) is 0x010203)

@@ -1,3 +1,4 @@
 pub mod Accepted
 pub mod Lengths
 pub mod Names
+pub mod Trigger

@@ -19,7 +19,7 @@ use Rattle.config.specs.declared.OperationMode.TheVariants.{ETWM_MODE}
 use Rattle.config.specs.declared.Pid.TheVariants as pid
 use Rattle.config.specs.declared.Trigger.{Trigger}
 use Rattle.config.specs.declared.Trigger.TheVariants as trigger
-use Rattle.config.specs.declared.TriggerMode.TheVariants.{SingleSequence}
+use Rattle.config.specs.declared.TriggerMode.TheVariants.{MultiSequence}
 use Rattle.config.specs.declared.TriggerPolarity.TheVariants.{Both}
 use Rattle.exchange.specs.declared.Step.{Step}
 use Rattle.exchange.specs.declared.Step.TheVariants.{Write, Read, Update, Match, Chunk, Store}
@@ -74,7 +74,7 @@ actuator =
     }
 
 abbrev gpi : Trigger
-gpi = trigger.Given (record { sequence_id = 15; polarity = Both; mode = SingleSequence })
+gpi = trigger.Given (record { sequence_id = 15; polarity = Both; mode = MultiSequence })
 
 abbrev pub device : Bool → DeviceConfig
 device accelerates =

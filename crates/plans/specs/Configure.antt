@@ -1,5 +1,5 @@
 -- The steps of `configure`, in the Rust's order: document 01, 'Settings to registers' and 'Exchanges'.
-use Rattle.std.specs.Prelude.{ℕ, ◌/◌, ◌%◌, Bool, true, false, cond, not, ◌&&◌, List, [], ◌∷◌, ◌++◌}
+use Rattle.std.specs.Prelude.{ℕ, ◌/◌, ◌%◌, Bool, cond, not, ◌&&◌, List, [], ◌∷◌, ◌++◌}
 use Prim.Native.String.{String, ◌++◌ as ◌&◌}
 use Rattle.field.specs.Field.{codeOf}
 use Rattle.config.specs.declared.ActuatorConfig.{ActuatorConfig}
@@ -11,7 +11,7 @@ use Rattle.config.specs.declared.Trigger.{Trigger}
 use Rattle.config.specs.declared.Trigger.TheVariants as trigger
 use Rattle.config.specs.declared.DrivingMode.{DrivingMode}
 use Rattle.config.specs.declared.DrivingMode.TheVariants.{FREQUENCY_TRACK, WIDEBAND, CUSTOM_WAVEFORM}
-use Rattle.config.specs.Codes.{actuatorCode, polarityCode}
+use Rattle.config.specs.Codes.{actuatorCode, polarityCode, triggerModeCode}
 use Rattle.checks.specs.Checks.{tracking, etwm}
 use Rattle.convert.specs.Convert.{voltageByte, imaxCode, v2iWord, periodWord, highPart, lowPart}
 use Rattle.convert.specs.Trim.{trim4Byte}
@@ -79,11 +79,12 @@ drivingSteps FREQUENCY_TRACK = []
 drivingSteps WIDEBAND = phaseSteps
 drivingSteps CUSTOM_WAVEFORM = phaseSteps ++ customSteps
 
--- the byte of the GPI register with this digit in its names: "a trigger's `mode` ignored, the GPI mode bit always 1"
+-- the byte of the GPI register with this digit in its names; document 02, CR 4: "it is the trigger's own `mode`: 0 for SingleSequence, 1 for
+-- MultiSequence" (the codes of TriggerMode)
 unfoldable pub gpiByte : String → TriggerConfig → ℕ
 gpiByte digit t =
     fresh ("GPI_" & digit & "_CTL") (put ("GPI" & digit & "_POLARITY") (polarityCode t.polarity)
-    ∷ put ("GPI" & digit & "_MODE") 1 ∷ put ("GPI" & digit & "_SEQUENCE_ID") t.sequence_id ∷ [])
+    ∷ put ("GPI" & digit & "_MODE") (triggerModeCode t.mode) ∷ put ("GPI" & digit & "_SEQUENCE_ID") t.sequence_id ∷ [])
 
 unfoldable pub gpiSteps : String → Trigger → List Step
 gpiSteps digit trigger.Absent = []

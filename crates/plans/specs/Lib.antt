@@ -2,3 +2,4 @@
 pub mod Fields
 pub mod Configure
 pub mod Accepted
+pub mod Trigger

@@ -1,7 +1,8 @@
 // The steps of `configure` (lib.rs; document 01, 'Settings to registers' and 'Exchanges'), pushed to a session that was begun.
 // Each function pushes one part of the Rust's body, in its order; the register types are those of registers.rs.
 // Proved: what is pushed is specs/Configure.antt's list, 14 to 25 steps (proofs/Lengths.antt); of accepted settings no value but a
-// PID word, which loses bit 15, is cut by its register (proofs/Accepted.antt). Left out: the steps where rapid stop is on, which the Rust does not have and `checks` refuses.
+// PID word, which loses bit 15, is cut by its register (proofs/Accepted.antt); a trigger's byte has its number, polarity and mode, and
+// goes to its own register (proofs/Trigger.antt). Left out: the steps where rapid stop is on, which the Rust does not have and `checks` refuses.
 #![tactic(auto)]
 
 ghost use Rattle.std.specs.Prelude.{◌≡◌, ◌&&◌};
@@ -9,10 +10,12 @@ ghost use Rattle.exchange.specs.State.{pushed, pushedAll};
 ghost use Rattle.exchange.specs.declared.Step.TheVariants.{Write, Read, Update};
 ghost use Rattle.config.specs.declared.DrivingMode.TheVariants.{CUSTOM_WAVEFORM};
 ghost use Rattle.config.specs.declared.Pid.TheVariants.{Given};
+ghost use Rattle.config.specs.Codes.{triggerModeCode};
+ghost use Rattle.field.specs.Field.{codeOf};
 ghost use Rattle.checks.specs.Checks.{tracking};
 ghost use Rattle.plans.specs.Configure.{accelerates, topCfg1, featureSteps, limitSteps, calibrationSteps, pidSteps, frequencySteps, rapidStopSteps, phaseSteps, customSteps, drivingSteps, gpiByte, gpiSteps, givenSteps, triggerSteps, configureSteps};
 
-use config::{ActuatorConfig, DeviceConfig, DrivingMode, Pid, Trigger, TriggerConfig};
+use config::{ActuatorConfig, DeviceConfig, DrivingMode, Pid, Trigger, TriggerConfig, TriggerMode};
 use exchange::Step;
 use registers::Register;
 use registers_actuator::{ACTUATOR3, FRQ_LRA_PER_L, TOP_CFG1, TOP_CFG2, TOP_CFG4};
@@ -264,7 +267,6 @@ fn trigger_0(session: &mut [u8], trigger: Trigger)
     }
 }
 
-// The mode bit is always set, whatever the trigger's mode.
 #[tactic(auto, unfolding(crate::specs::Configure::gpiByte))]
 fn gpi_0(t: TriggerConfig) -> u8
     ensures { result ≡ gpiByte "0" t }
@@ -272,7 +274,7 @@ fn gpi_0(t: TriggerConfig) -> u8
     let polarity = t.polarity;
     let gpi = GPI_0_CTL::new()
         .with_GPI0_POLARITY(polarity.code())
-        .with_GPI0_MODE(true)
+        .with_GPI0_MODE(is_multi(t.mode))
         .with_GPI0_SEQUENCE_ID(t.sequence_id);
     gpi.bits()
 }
@@ -287,7 +289,6 @@ fn trigger_1(session: &mut [u8], trigger: Trigger)
     }
 }
 
-// The mode bit is always set, whatever the trigger's mode.
 #[tactic(auto, unfolding(crate::specs::Configure::gpiByte))]
 fn gpi_1(t: TriggerConfig) -> u8
     ensures { result ≡ gpiByte "1" t }
@@ -295,7 +296,7 @@ fn gpi_1(t: TriggerConfig) -> u8
     let polarity = t.polarity;
     let gpi = GPI_1_CTL::new()
         .with_GPI1_POLARITY(polarity.code())
-        .with_GPI1_MODE(true)
+        .with_GPI1_MODE(is_multi(t.mode))
         .with_GPI1_SEQUENCE_ID(t.sequence_id);
     gpi.bits()
 }
@@ -310,7 +311,6 @@ fn trigger_2(session: &mut [u8], trigger: Trigger)
     }
 }
 
-// The mode bit is always set, whatever the trigger's mode.
 #[tactic(auto, unfolding(crate::specs::Configure::gpiByte))]
 fn gpi_2(t: TriggerConfig) -> u8
     ensures { result ≡ gpiByte "2" t }
@@ -318,9 +318,19 @@ fn gpi_2(t: TriggerConfig) -> u8
     let polarity = t.polarity;
     let gpi = GPI_2_CTL::new()
         .with_GPI2_POLARITY(polarity.code())
-        .with_GPI2_MODE(true)
+        .with_GPI2_MODE(is_multi(t.mode))
         .with_GPI2_SEQUENCE_ID(t.sequence_id);
     gpi.bits()
+}
+
+// The mode bit of a trigger.
+fn is_multi(mode: TriggerMode) -> bool
+    ensures { codeOf result ≡ triggerModeCode mode }
+{
+    match mode {
+        TriggerMode::SingleSequence => false,
+        TriggerMode::MultiSequence => true,
+    }
 }
 
 // ---- steps on one register or two

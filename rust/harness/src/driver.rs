@@ -4,6 +4,7 @@ use crate::bus::{Bus, Exchange, Script, Wire, at_once, kind};
 use crate::lists::MARKER;
 use crate::oracle::{matches, number};
 use crate::settings::{Settings, published_variant};
+use crate::triggers;
 use crate::trim::resistance_code;
 use da728x::waveform::{self, WaveformMemory};
 use embedded_hal_async::i2c::ErrorKind;
@@ -232,6 +233,8 @@ pub struct Published {
     pub address: u8,
     pub variant: Variant,
     pub stored: Option<Settings>,
+    /// How many GPI registers were written whose mode bit the published code has as the trigger, and how many where it has not.
+    pub modes: [usize; 2],
 }
 
 impl Published {
@@ -246,7 +249,7 @@ impl Published {
         };
         let log = std::mem::take(&mut wire.borrow_mut().log);
         let outcome = Outcome { answer, made: log.len(), log, lent: markers(5) };
-        (outcome, driver.map(|driver| Self { driver, wire, address, variant, stored: None }))
+        (outcome, driver.map(|driver| Self { driver, wire, address, variant, stored: None, modes: [0; 2] }))
     }
 
     /// What an operation comes to on this script, as documents 01 and 02 have it: by the published driver unless it lies outside
@@ -254,7 +257,10 @@ impl Published {
     pub fn outcome(&mut self, operation: &Operation, script: &Script) -> Outcome {
         let mut outcome = match self.outside(operation) {
             Some(number) => Outcome::refused(number, operation.room()),
-            None => followed(operation, self.run(operation, script)),
+            None => {
+                let outcome = self.run(operation, script);
+                self.followed(operation, outcome)
+            }
         };
         let published = outcome.refusal();
         let number = self.told(operation, published);
@@ -314,6 +320,22 @@ impl Published {
         let answer = at_once(self.call(operation, buffer)).map_err(failure);
         let log = std::mem::take(&mut self.wire.borrow_mut().log);
         Outcome { answer, made: log.len(), log, lent }
+    }
+
+    /// The published outcome with the low two bits of TRIM4 as document 01 has them, and the GPI mode bits as document 02 has them.
+    fn followed(&mut self, operation: &Operation, mut outcome: Outcome) -> Outcome {
+        if let Operation::Configure(Settings { actuator, device }) = operation {
+            for exchange in &mut outcome.log {
+                if exchange.bytes[0] == 0x60 {
+                    let code = resistance_code(actuator.impedance_mOhm, actuator.inductance_uH);
+                    exchange.bytes[1] = exchange.bytes[1] & !3 | code;
+                }
+                if let Some(differs) = triggers::follow(exchange, &device.gpi_triggers) {
+                    self.modes[usize::from(differs)] += 1;
+                }
+            }
+        }
+        outcome
     }
 
     async fn call(
@@ -433,6 +455,11 @@ impl Pair {
         pair
     }
 
+    /// How many GPI registers were written whose mode bit the published code has as the trigger, and how many where it has not.
+    pub fn modes(&self) -> [usize; 2] {
+        self.published.modes
+    }
+
     /// Compares an operation on this script, all that it leaves, and the record in force afterwards; its outcome.
     pub fn compare(&mut self, operation: &Operation, script: &Script) -> Outcome {
         let (ours, _) = run(Some(operation), operation.start(&mut self.record), script);
@@ -445,17 +472,4 @@ impl Pair {
         assert_eq!(*self.record.as_bytes(), wanted, "the record after {operation:?}");
         ours
     }
-}
-
-/// The published outcome with the low two bits of TRIM4 as document 01 has them.
-fn followed(operation: &Operation, mut outcome: Outcome) -> Outcome {
-    if let Operation::Configure(Settings { actuator, .. }) = operation {
-        for exchange in &mut outcome.log {
-            if exchange.bytes[0] == 0x60 {
-                let code = resistance_code(actuator.impedance_mOhm, actuator.inductance_uH);
-                exchange.bytes[1] = exchange.bytes[1] & !3 | code;
-            }
-        }
-    }
-    outcome
 }

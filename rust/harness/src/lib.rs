@@ -14,6 +14,7 @@ pub mod raw;
 pub mod records;
 pub mod registers;
 pub mod settings;
+pub mod triggers;
 pub mod trim;
 pub mod whole;
 

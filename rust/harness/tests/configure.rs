@@ -3,14 +3,14 @@
 //! published `match`. The number is held to documents 01 and 02 as well (`Settings::told`), which the published refusal has to
 //! match; for settings that document 01 adds a check for it is the judge alone (`Settings::outside`).
 
-use harness::bus::Script;
 use harness::compared;
+use harness::bus::{Exchange, Script};
 use harness::driver::{Operation, Pair, Tally};
 use harness::random::Random;
 use harness::settings::{DRIVINGS, MODES, OPERATIONS, POLARITIES, Settings, TYPES, VARIANTS};
 use harness::trim::rows;
 use std::collections::BTreeSet;
-use yambelugo::{DrivingMode, OperationMode, TriggerConfig, Variant};
+use yambelugo::{DrivingMode, OperationMode, TriggerConfig, TriggerMode, Variant};
 
 const TRACK: DrivingMode = DrivingMode::FREQUENCY_TRACK;
 const CUSTOM: DrivingMode = DrivingMode::CUSTOM_WAVEFORM;
@@ -221,7 +221,8 @@ fn every_choice() {
 }
 
 /// Every sequence number, polarity and mode of a trigger at each place, in ETWM mode and in another: refused above 15 in ETWM
-/// mode, accepted and unwritten in another. A DA7281 with two triggers gives 14.
+/// mode, accepted and unwritten in another. A DA7281 with two triggers gives 14. Each byte is the papers' (`triggers::byte`), and differs
+/// from the published one exactly in the mode bit of SingleSequence.
 #[test]
 fn every_trigger() {
     let mut pair = Pair::new(0x4A, Variant::DA7281);
@@ -235,7 +236,15 @@ fn every_trigger() {
                 settings.device.gpi_triggers[place] = Some(trigger);
                 let etwm = operation_mode == ETWM;
                 let wanted = if etwm && sequence_id > 15 { 11 } else { 0 };
+                let [mut as_ours, mut unlike] = pair.modes();
                 assert_eq!(number(&mut pair, settings), wanted, "{trigger:?} at {place}");
+                if etwm && wanted == 0 {
+                    match mode {
+                        TriggerMode::SingleSequence => unlike += 1,
+                        TriggerMode::MultiSequence => as_ours += 1,
+                    }
+                }
+                assert_eq!(pair.modes(), [as_ours, unlike], "{trigger:?} at {place}");
 
                 settings.device.gpi_triggers[(place + 1) % 3] = Some(trigger);
                 assert_eq!(number(&mut pair, settings), if etwm { 14 } else { 0 }, "two");
@@ -244,6 +253,38 @@ fn every_trigger() {
         }
     }
     compared("triggers", cases, 2 * 2 * 3 * 6 * 256);
+    assert_eq!(pair.modes(), [3 * 3 * 16, 3 * 3 * 16]);
+}
+
+/// Three triggers at once, of all modes: each register has the byte of its own trigger. The bytes are written out.
+#[test]
+fn each_trigger_has_its_own_byte() {
+    let mut pair = Pair::new(0x4A, Variant::DA7280);
+    let mut written = Vec::new();
+    for choice in 0..8_usize {
+        let mut settings = Settings::plain(ETWM, CUSTOM);
+        settings.device.gpi_triggers = [(5, 0), (9, 1), (15, 2)].map(|(sequence_id, place)| {
+            let (polarity, mode) = (POLARITIES[place], MODES[choice >> place & 1]);
+            Some(TriggerConfig { sequence_id, polarity, mode })
+        });
+        let outcome = pair.compare(&Operation::Configure(settings), &Script::reading(&[0, 0]));
+        written.push([0x29, 0x2A, 0x2B].map(|register| {
+            let to = |it: &&Exchange| it.bytes.len() == 2 && it.bytes[0] == register;
+            outcome.log.iter().find(to).expect("a write to this register").bytes[1]
+        }));
+    }
+    let bytes = [
+        [0x28, 0x49, 0x7A],
+        [0x2C, 0x49, 0x7A],
+        [0x28, 0x4D, 0x7A],
+        [0x2C, 0x4D, 0x7A],
+        [0x28, 0x49, 0x7E],
+        [0x2C, 0x49, 0x7E],
+        [0x28, 0x4D, 0x7E],
+        [0x2C, 0x4D, 0x7E],
+    ];
+    assert_eq!(written, bytes);
+    assert_eq!(pair.modes(), [12, 12]);
 }
 
 /// An entry of the settings, right or with a fault: the checks that it fails, by their places in document 01's order from 0, and

@@ -59,7 +59,7 @@ pub enum ActuatorType {
     ERM = 1,
 }
 
-/// What a trigger plays. The driver ignores it: the mode bit of the chip is always 1.
+/// What a trigger plays: bit 2 of its GPI register.
 #[derive(Debug, Clone, Copy, PartialEq, Eq)]
 #[repr(u8)]
 pub enum TriggerMode {
@@ -81,7 +81,44 @@ pub enum TriggerPolarity {
     Both = 2,
 }
 
-/// A trigger, which a pin of the chip gives in ETWM mode.
+/// A trigger, which a pin of the chip gives in ETWM mode. `configure` writes it to the pin's GPI register: the polarity in bits 0
+/// and 1, the mode in bit 2, the sequence number in bits 3 to 6.
+///
+/// ```
+/// # use yambelugo::*;
+/// # let actuator = ActuatorConfig {
+/// #     actuator_type: ActuatorType::LRA,
+/// #     nominal_max_mV: 2500,
+/// #     absolute_max_mV: 3500,
+/// #     max_current_mA: 165,
+/// #     impedance_mOhm: 8000,
+/// #     inductance_uH: 50,
+/// #     frequency_Hz: 170,
+/// #     pid_Kp_Ki: None,
+/// # };
+/// # let mut driver = DA728x::from_bytes([0; RECORD]);
+/// /// A button that always starts sequence 5.
+/// const BUTTON: TriggerConfig = TriggerConfig {
+///     sequence_id: 5,
+///     polarity: TriggerPolarity::Rising,
+///     mode: TriggerMode::SingleSequence,
+/// };
+/// let device = DeviceConfig {
+///     operation_mode: OperationMode::ETWM_MODE,
+///     driving_mode: DrivingMode::FREQUENCY_TRACK,
+///     gpi_triggers: [Some(BUTTON), None, None],
+///     acceleration: false,
+///     rapid_stop: false,
+/// };
+/// let mut last = Vec::new();
+/// let bus = |exchange: Exchange| {
+///     last = exchange.bytes().to_vec();
+///     exchange.reply(Ok(0))
+/// };
+/// driver.configure(actuator, device)?.run(bus, &mut [])?;
+/// assert_eq!(last, [0x29, 0x28]); // MultiSequence would be 2C
+/// # Ok::<(), Box<dyn std::error::Error>>(())
+/// ```
 #[derive(Debug, Clone, Copy, PartialEq, Eq)]
 pub struct TriggerConfig {
     /// The sequence that it plays, 0 to 15.
