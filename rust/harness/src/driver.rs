@@ -249,7 +249,17 @@ impl Published {
         };
         let log = std::mem::take(&mut wire.borrow_mut().log);
         let outcome = Outcome { answer, made: log.len(), log, lent: markers(5) };
-        (outcome, driver.map(|driver| Self { driver, wire, address, variant, stored: None, modes: [0; 2] }))
+        (
+            outcome,
+            driver.map(|driver| Self {
+                driver,
+                wire,
+                address,
+                variant,
+                stored: None,
+                modes: [0; 2],
+            }),
+        )
     }
 
     /// What an operation comes to on this script, as documents 01 and 02 have it: by the published driver unless it lies outside

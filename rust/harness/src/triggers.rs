@@ -5,10 +5,10 @@ use crate::bus::Exchange;
 use yambelugo::{TriggerConfig, TriggerMode, TriggerPolarity};
 
 /// GPI_0_CTL, GPI_1_CTL and GPI_2_CTL.
-const REGISTERS: [u8; 3] = [0x29, 0x2A, 0x2B];
+pub const REGISTERS: [u8; 3] = [0x29, 0x2A, 0x2B];
 
 /// The mode bit.
-const MODE: u8 = 1 << 2;
+pub const MODE: u8 = 1 << 2;
 
 /// The polarity in bits 0 and 1, the mode in bit 2, the sequence number in bits 3 to 6.
 pub fn byte(trigger: &TriggerConfig) -> u8 {
@@ -27,7 +27,7 @@ pub fn byte(trigger: &TriggerConfig) -> u8 {
 /// Puts the papers' byte in the place of the published one, which has to be that byte but for the mode bit, by the register's
 /// address and never by the value; whether the two differ. `None` for an exchange with another register.
 pub fn follow(exchange: &mut Exchange, triggers: &[Option<TriggerConfig>; 3]) -> Option<bool> {
-    let [register, published] = exchange.bytes[..] else { return None };
+    let [register, published] = exchange.bytes[..exchange.len] else { return None };
     let place = REGISTERS.iter().position(|it| *it == register)?;
     let trigger = triggers[place].expect("a trigger that is given is written");
     let wanted = byte(&trigger);

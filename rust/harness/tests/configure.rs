@@ -3,8 +3,8 @@
 //! published `match`. The number is held to documents 01 and 02 as well (`Settings::told`), which the published refusal has to
 //! match; for settings that document 01 adds a check for it is the judge alone (`Settings::outside`).
 
-use harness::compared;
 use harness::bus::{Exchange, Script};
+use harness::compared;
 use harness::driver::{Operation, Pair, Tally};
 use harness::random::Random;
 use harness::settings::{DRIVINGS, MODES, OPERATIONS, POLARITIES, Settings, TYPES, VARIANTS};
@@ -269,7 +269,7 @@ fn each_trigger_has_its_own_byte() {
         });
         let outcome = pair.compare(&Operation::Configure(settings), &Script::reading(&[0, 0]));
         written.push([0x29, 0x2A, 0x2B].map(|register| {
-            let to = |it: &&Exchange| it.bytes.len() == 2 && it.bytes[0] == register;
+            let to = |it: &&Exchange| it.len == 2 && it.bytes[0] == register;
             outcome.log.iter().find(to).expect("a write to this register").bytes[1]
         }));
     }

@@ -12,12 +12,17 @@ use harness::patterns::{KINDS, mended};
 use harness::random::Random;
 use harness::raw::{BYTE, DONE, LISTS, SESSION};
 use harness::settings::{Settings, published_variant};
+use harness::triggers;
 use std::hint::black_box;
 use yambelugo::{Call, IMAGE, RECORD, Variant};
 
 const ADDRESS: u8 = 0x4A;
 
 const TRIM4: u8 = 0x60;
+
+const GPI_0_CTL: u8 = triggers::REGISTERS[0];
+
+const GPI_2_CTL: u8 = triggers::REGISTERS[2];
 
 /// Room for the answers to any of the lists.
 const ANSWERS: usize = 512;
@@ -395,8 +400,12 @@ struct Bus(Done);
 
 impl Bus {
     fn exchange(&mut self, address: u8, sent: &[u8]) -> u8 {
-        // Document 01 has other low bits of TRIM4 than the published Rust.
-        let ours = if sent[0] == TRIM4 { 3 } else { 0 };
+        // The papers have other low bits of TRIM4 and another mode bit of a trigger than the published Rust.
+        let ours = match sent[0] {
+            TRIM4 => 3,
+            GPI_0_CTL..=GPI_2_CTL => triggers::MODE,
+            _ => 0,
+        };
         self.0.add(&[address, sent[sent.len() - 1] & !ours]);
         self.0.count += 1;
         revision(VARIANT)
