@@ -352,8 +352,8 @@ size_t da728x_replace_trigger(uint8_t byte, uint8_t value, uint8_t *out, size_t 
  *   19      driving mode: 0 frequency track ("tracking" here), 1 wideband, 2 custom waveform
  *   20..23  the trigger of GPI_0: 1 if it is given, else 0; its sequence number, 0 to 15 (in
  *           another mode than ETWM any is taken, and none is written to the chip);
- *           its polarity: 0 rising, 1 falling, 2 both; its mode: 0 SingleSequence, 1
- *           MultiSequence, which is bit 2 of its GPI register
+ *           its polarity: 0 rising, 1 falling, 2 both; its mode, bit 2 of its GPI
+ *           register: 0 SingleSequence, 1 MultiSequence
  *   24..27  that of GPI_1
  *   28..31  that of GPI_2
  *   32      1 for acceleration, else 0

@@ -198,4 +198,6 @@ answers = record {
       let h = holds-configure r a d st none s in
       let n = ap length (append-nil (configureSteps a d)) in
       (omega (arith, counted h cs, within h cs, at_most a d, n), λ done. omega (arith, counted h cs, all_made h cs done, at_least a d, n));
+  configures = λ r a d b xs e.
+      subst (By (λ (c : Begun) (ys : List Step). ys ≡ configureSteps a d)) e (by-unless (λ (c : Begun) (ys : List Step). ys ≡ configureSteps a d) (configureNumber r.variant a d) _ refl);
 }

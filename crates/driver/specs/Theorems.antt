@@ -20,6 +20,7 @@ use Rattle.exchange.specs.State.{isSession, countIn, completed, indexed, left, B
 use Rattle.exchange.specs.Turn.{resized, reportOf}
 use Rattle.exchange.specs.Session.{AnswerCall, numberAt, afterCall, final, sent, came, brokenOff, exchangesOf, lending, filled}
 use Rattle.checks.specs.Checks.{configureNumber}
+use Rattle.plans.specs.Configure.{configureSteps}
 use Rattle.checks.specs.Blames.{OutOfBand, Fault, faults, OfFirst}
 use Rattle.da728x.specs.declared.DA728x.{DA728x}
 use Rattle.da728x.specs.declared.Settings.{Settings}
@@ -94,6 +95,8 @@ pub record Answers : Type 0 where
   pub counts : (r : DA728x) (a : ActuatorConfig) (d : DeviceConfig) (st : List ℕ) (cs : List AnswerCall) →
       configureNumber r.variant a d ≡ 0 → isSession st ≡ true →
       let after = final (startedIn st (operation.configure r a d).start) cs in (countIn after ≤ 25) × (completed after ≡ true → 14 ≤ countIn after)
+  -- and what it begins are the steps of its own settings, of which `Accepted` and `Trigger` speak
+  pub configures : (r : DA728x) (a : ActuatorConfig) (d : DeviceConfig) (b : Begun) (xs : List Step) → (operation.configure r a d).start ≡ begins b xs → xs ≡ configureSteps a d
 
 -- ---- what a start is refused for: document 01, 'Settings to registers' and its list of differences, with document 02's numbers (CR 3)
 

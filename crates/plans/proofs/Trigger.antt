@@ -1,4 +1,5 @@
--- What `configure` writes for a trigger: a byte is the sum of its fields, by a test computed over all of them, and the sum gives them back.
+-- What `configure` writes of triggers: a byte is the sum of its fields, by a test computed over all of them, and the sum gives them back; the
+-- triggers' writes are the last of its steps, and no other goes to their registers.
 -- Assumes nothing.
 use Rattle.std.proofs.Common.{ℕ, zero, suc, ◌+◌, ◌*◌, ◌%◌, ◌≤◌, ◌<◌, ◌≡◌, refl, sym, ap, ◌∙◌, arith, append_assoc}
 use mathlib.Core.Bool.{cond}
@@ -203,5 +204,6 @@ trigger =
       bytes = (byte "0" tt (λ p m n. with-masked _ 3 4 n), (byte "1" tt (λ p m n. with-masked _ 3 4 n), (byte "2" tt (λ p m n. with-masked _ 3 4 n), tt)));
       code = code;
       writes = writes;
+      sent = λ chip last register byte image. refl;
       only = only;
     }

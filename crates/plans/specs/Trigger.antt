@@ -1,7 +1,7 @@
 -- What `configure` writes of triggers, of any settings (driver/specs/Operations.antt has which of them it takes): document 02, CR 4, "The base writes
 -- the GPI mode bit, bit 2 of the three GPI registers, as 1. From now on it is the trigger's own `mode`: 0 for SingleSequence, 1 for
 -- MultiSequence." Numbers, codes and addresses are said again here, so that a wrong table or code is refused. That it is so: proofs/Trigger.antt.
-use Rattle.std.specs.Prelude.{ℕ, ◌+◌, ◌*◌, ◌%◌, ◌≤◌, ◌≡◌, ◌↔◌, min, Bool, ◌&&◌, leb, List, [], ◌∷◌, ◌++◌, filter}
+use Rattle.std.specs.Prelude.{ℕ, ◌+◌, ◌*◌, ◌%◌, ◌≤◌, ◌≡◌, ◌↔◌, min, Bool, ◌&&◌, leb, List, [], ◌∷◌, ◌++◌, filter, replicate}
 use Prim.Native.String.{String}
 use Rattle.laws.specs.Bytes.{All}
 use Rattle.laws.specs.Lists.{at}
@@ -66,5 +66,8 @@ pub record Trigger : Type 0 where
   -- triggers and ETWM mode change none of the other steps; behind these, in ETWM mode alone, each trigger that is given has its byte written to its own register
   pub writes : (a : ActuatorConfig) (d : DeviceConfig) → configureSteps a d
       ≡ configureSteps a (untriggered d) ++ inEtwm d.operation_mode (gets 0x29 "0" d.gpi_trigger_0 ++ (gets 0x2A "1" d.gpi_trigger_1 ++ gets 0x2B "2" d.gpi_trigger_2))
+  -- such a step sends the address and the byte, whatever was read
+  pub sent : (chip last register byte : ℕ) (image : List ℕ)
+      → exchangeFor chip last image (Write register byte) ≡ record { address = chip; bytes = register ∷ byte ∷ replicate 31 0; len = 2; wanted = 0 }
   -- and no other step goes to the three registers
   pub only : (a : ActuatorConfig) (d : DeviceConfig) → filter toGpi (configureSteps a (untriggered d)) ≡ []

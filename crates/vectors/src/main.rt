@@ -1,6 +1,6 @@
-// Replays the stored sample of the published Rust's answers, with document 02's 21 to 24, which comes by standard input, on the functions
-// exported for C, images also by Rattle's own types, and says of each kind how many cases agree. The sample's head says what it is; a case that does not
-// agree, or is no case, is told by the number of its line; bytes that are no text end the program.
+// Replays the stored sample of the published Rust's answers, with the papers' values where docs/DIFFERENCES.md has them, which comes by
+// standard input, on the functions exported for C, images also by Rattle's own types, and says of each kind how many cases agree. The sample's
+// head says what it is; a case that does not agree, or is no case, is told by the number of its line; bytes that are no text end the program.
 // Proved: every function is safe and returns, whatever the input.
 #![tactic(auto)]
 

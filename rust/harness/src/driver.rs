@@ -233,7 +233,7 @@ pub struct Published {
     pub address: u8,
     pub variant: Variant,
     pub stored: Option<Settings>,
-    /// How many GPI registers were written whose mode bit the published code has as the trigger, and how many where it has not.
+    /// GPI registers written: those where the published mode bit is the trigger's, and those where it is not.
     pub modes: [usize; 2],
 }
 
@@ -465,7 +465,7 @@ impl Pair {
         pair
     }
 
-    /// How many GPI registers were written whose mode bit the published code has as the trigger, and how many where it has not.
+    /// GPI registers written: those where the published mode bit is the trigger's, and those where it is not.
     pub fn modes(&self) -> [usize; 2] {
         self.published.modes
     }

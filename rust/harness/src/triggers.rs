@@ -1,5 +1,4 @@
-//! The bytes of the three GPI registers by the papers, whose mode bit the published code does not take from the trigger: document
-//! 02, CR 4.
+//! What the papers put in the three GPI registers; the published code always sets the mode bit (document 02, CR 4).
 
 use crate::bus::Exchange;
 use yambelugo::{TriggerConfig, TriggerMode, TriggerPolarity};

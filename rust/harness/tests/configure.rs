@@ -1,6 +1,6 @@
 //! `configure` against the published Rust: the answer, every exchange in order, the count, and what is stored, as far as a later
 //! operation shows it and as the record's bytes say it. The low two bits of TRIM4 follow document 01, by the text of the
-//! published `match`. The number is held to documents 01 and 02 as well (`Settings::told`), which the published refusal has to
+//! published `match`, and bit 2 of the GPI registers document 02 (`triggers`). The number is held to documents 01 and 02 as well (`Settings::told`), which the published refusal has to
 //! match; for settings that document 01 adds a check for it is the judge alone (`Settings::outside`).
 
 use harness::bus::{Exchange, Script};

@@ -59,13 +59,13 @@ pub enum ActuatorType {
     ERM = 1,
 }
 
-/// What a trigger plays: bit 2 of its GPI register.
+/// The mode of a trigger: bit 2 of its GPI register. What the chip does with it is in the datasheet.
 #[derive(Debug, Clone, Copy, PartialEq, Eq)]
 #[repr(u8)]
 pub enum TriggerMode {
-    /// One sequence.
+    /// The bit is 0.
     SingleSequence = 0,
-    /// Several sequences.
+    /// The bit is 1.
     MultiSequence = 1,
 }
 
@@ -125,7 +125,7 @@ pub struct TriggerConfig {
     pub sequence_id: u8,
     /// The edge that it acts on.
     pub polarity: TriggerPolarity,
-    /// What it plays.
+    /// Its mode bit.
     pub mode: TriggerMode,
 }
 

@@ -2,8 +2,8 @@
 //! argument `told`, what the program `vectors` has to say of it, `crates/vectors/stdout`.
 //!
 //! No expected value is of the proved library. Answers, bytes and exchanges are the published
-//! Rust's; the numbers of refusals, the layout of records and what lies outside the comparison are
-//! document 01's and 02's; what an image holds is told by the plain reader, and the Rust has to make the same
+//! Rust's; the numbers of refusals, the low two bits of TRIM4, a trigger's mode bit, the layout of records and what lies
+//! outside the comparison are document 01's and 02's; what an image holds is told by the plain reader, and the Rust has to make the same
 //! image of that.
 
 use da728x::waveform::PwlPoint;
@@ -72,13 +72,14 @@ const KINDS: [(u8, &str, usize); 40] = [
 /// The lengths of buffer that the addresses are copied into.
 const ADDRESS_ROOMS: [usize; 8] = [0, 1, 2, 21, 41, 42, 43, 50];
 
-/// The longest line that the program takes.
+/// The longest line that is written.
 const LONGEST: usize = 4096;
 
 const HEAD: &str = "\
 Answers of the published Rust to random calls near the limits, refused ones among them; 24 where a
 buffer is too short for its item, its image or its lists; its InvalidValue as 21, 22 or 23 where
-document 02 tells it apart.
+document 02 tells it apart, the low two bits of TRIM4 as document 01 has them, and bit 2 of a GPI
+register as its trigger's mode.
 Written by `scripts/remake-vectors` (rust/harness/src/bin/sample.rs), never by hand; read by the
 program `vectors`. The Rust is da728x-rs, revision REVISION, in rust/oracle, with these sums:
 SUMS
