@@ -352,10 +352,11 @@ size_t da728x_replace_trigger(uint8_t byte, uint8_t value, uint8_t *out, size_t 
  *   19      driving mode: 0 frequency track ("tracking" here), 1 wideband, 2 custom waveform
  *   20..23  the trigger of GPI_0: 1 if it is given, else 0; its sequence number, 0 to 15 (in
  *           another mode than ETWM any is taken, and none is written to the chip);
- *           its polarity: 0 rising, 1 falling, 2 both; its mode, bit 2 of its GPI
- *           register: 0 SingleSequence, 1 MultiSequence
- *   24..27  that of GPI_1
- *   28..31  that of GPI_2
+ *           its polarity: 0 rising, 1 falling, 2 both; its mode: 0 SingleSequence, 1
+ *           MultiSequence. In ETWM mode its register, GPI_0_CTL at 29 (hexadecimal), gets
+ *           polarity + 4 * mode + 8 * number; in another mode it is stored and not sent
+ *   24..27  that of GPI_1, at 2A
+ *   28..31  that of GPI_2, at 2B
  *   32      1 for acceleration, else 0
  *   33      1 for rapid stop, else 0
  * Missing bytes of settings count as 0 and further ones are ignored. A code past the
@@ -379,7 +380,8 @@ uint8_t da728x_new(uint8_t address, uint8_t variant,
  * that is lent with it, if that is of the same address and variant as the one lent here. If an
  * exchange fails, the chip has a part of the settings and the record stays as it was. It writes
  * no register that these settings do not name: what a custom waveform set in SEQ_CTL1, TOP_CFG4
- * and FRQ_PHASE_L stays when the chip is set up for tracking afterwards.
+ * and FRQ_PHASE_L stays when the chip is set up for tracking afterwards, and a trigger that is not
+ * given is not turned off: one that an earlier da728x_configure gave stays in its GPI register.
  * Settings for a custom waveform write SEQ_CTL1 anew: da728x_set_timebase has to follow them.
  * Refused with the first that holds:
  *   12  acceleration or rapid stop when not tracking

@@ -157,7 +157,8 @@ pub struct DeviceConfig {
     pub operation_mode: OperationMode,
     /// How it drives the actuator.
     pub driving_mode: DrivingMode,
-    /// The triggers of its three pins: in ETWM mode at least one, on the DA7281 at most one.
+    /// The triggers of its three pins: in ETWM mode at least one, on the DA7281 at most one. One that is not given is not turned off:
+    /// what an earlier `configure` wrote stays in its register.
     pub gpi_triggers: [Option<TriggerConfig>; 3],
     /// Active acceleration, only when tracking.
     pub acceleration: bool,
