@@ -437,7 +437,10 @@ uint8_t da728x_enable(const uint8_t *record, size_t record_len,
 uint8_t da728x_disable(const uint8_t *record, size_t record_len,
                        uint8_t *session, size_t session_len);
 
-/* Always refused: 15 without settings, 12 unless they are for a custom waveform, else 14. */
+/* Gives the chip the three points of a wave of one's own, which it then drives the actuator
+ * with: a to SWG_C1, b to SWG_C2 and c to SWG_C3, any bytes, one write each. 15 without settings,
+ * then 12 unless the stored driving mode is CUSTOM_WAVEFORM. If a write fails, the chip may be
+ * left with points of two waves: set all three again. */
 uint8_t da728x_set_custom_drive_waveform(const uint8_t *record, size_t record_len,
                                          uint8_t a, uint8_t b, uint8_t c,
                                          uint8_t *session, size_t session_len);

@@ -1,4 +1,5 @@
-/* Builds a pattern, reads it back, and plays it on a simulated DA7280.
+/* Builds a pattern, reads it back, and plays it on a simulated DA7280; then has the chip drive
+ * with a wave of one's own.
  *
  * C99, no heap: everything lives in arrays of known size. Whatever is not as expected is
  * told, and main then returns 1. On a unit, transfer() is your I2C driver; the rest stays. */
@@ -17,6 +18,7 @@
 #define ACTUATOR3 0x0E
 #define CALIB_V2I_L 0x10
 #define TOP_CTL1 0x22
+#define SWG_C1 0x25
 #define SEQ_CTL2 0x28
 #define MEM_CTL2 0x2D
 #define TRIM4 0x60
@@ -346,6 +348,40 @@ static void play(struct chip *chip)
     expect("RTWM, started", chip->registers[TOP_CTL1], 0x13);
 }
 
+/* A wave of one's own, for another actuator: settings for it, then its three points. */
+static void wave(struct chip *chip)
+{
+    static const uint8_t points[3] = {0x28, 0x5F, 0x80};
+    uint8_t settings[DA728X_SETTINGS];
+    struct end end;
+    expect("points while tracking",
+           da728x_set_custom_drive_waveform(record, sizeof record, points[0], points[1], points[2],
+                                            session, sizeof session), 12);
+    memcpy(settings, record + 3, sizeof settings);
+    settings[19] = 2; /* CUSTOM_WAVEFORM, without acceleration */
+    settings[32] = 0;
+    run_whole(chip, "configure for a wave", da728x_configure(record, sizeof record, settings,
+                                                             sizeof settings, session,
+                                                             sizeof session), 18);
+
+    /* A write is lost: the chip has the first new point alone, so all three are set again. */
+    chip->transfers = 0;
+    chip->fails_at = 2;
+    expect("starting the points",
+           da728x_set_custom_drive_waveform(record, sizeof record, points[0], points[1], points[2],
+                                            session, sizeof session), 0);
+    end = run(chip, NULL, 0);
+    expect("a write lost", end.refusal, 17);
+    expect("writes until then", end.made, 2);
+    expect("SWG_C1", chip->registers[SWG_C1], points[0]);
+    expect("SWG_C2", chip->registers[SWG_C1 + 1], 0);
+    chip->fails_at = 0;
+    run_whole(chip, "points", da728x_set_custom_drive_waveform(record, sizeof record, points[0],
+                                                               points[1], points[2], session,
+                                                               sizeof session), 3);
+    expect_bytes("SWG_C1 to SWG_C3", chip->registers + SWG_C1, points, sizeof points);
+}
+
 int main(void)
 {
     static uint8_t image[DA728X_IMAGE];
@@ -361,6 +397,7 @@ int main(void)
     upload(&chip, image);
     verify(&chip, image);
     play(&chip);
+    wave(&chip);
     if (faults == 0) printf("all as expected\n");
     return faults != 0;
 }

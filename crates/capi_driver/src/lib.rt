@@ -4,7 +4,7 @@
 // Proved: the answer and every lent byte are those of the definitions of `driver` and `exchange` for the record that the bytes hold; how
 // an answer is one number is specs/Words.antt, and proofs/Telling.antt: each word gives back its parts, and
 // an upload sends the bytes that were handed in.
-// Left out: nothing; `set_custom_drive_waveform` is always refused, as document 01 says.
+// Left out: nothing.
 #![tactic(auto)]
 
 ghost use Rattle.std.specs.Prelude.{◌≡◌, ltb, length, take};
@@ -131,11 +131,11 @@ pub extern "C" fn da728x_set_custom_drive_waveform(
     c: u8,
     session: &mut [u8],
 ) -> u8
-    ensures value { result ≡ spec.startNumber (spec.setCustomDriveWaveform (recordAt «record».now)).start }
-    ensures session_unchanged { session.new ≡ session.old }
+    ensures value { result ≡ spec.startNumber (spec.setCustomDriveWaveform (recordAt «record».now) a b c).start }
+    ensures session_after { session.new ≡ spec.startedIn session.old (spec.setCustomDriveWaveform (recordAt «record».now) a b c).start }
 {
     let points = [a, b, c];
-    driver::set_custom_drive_waveform(DA728x::from_bytes(record), points).number()
+    driver::set_custom_drive_waveform(DA728x::from_bytes(record), points, session).number()
 }
 
 #[unsafe(no_mangle)]

@@ -1,20 +1,24 @@
 -- What every operation sends and answers. Assumes nothing.
-use Prim.Native.Nat.{ℕ, suc, zero, ◌≤◌, min}
+use Prim.Native.Nat.{ℕ, suc, zero, ◌≤◌, ◌<◌, min}
 use native.Mathlib.Omega.{arith}
 use mathlib.Core.Path.{◌≡◌, refl, sym, ap, subst}
-use mathlib.Core.Bool.{true, false}
+use mathlib.Core.Bool.{true, false, not}
 use mathlib.Core.List.{List, [], ◌∷◌, append-nil}
+use lib.Dec.{eqb}
 use lib.ListN.{length}
+use Rattle.laws.specs.Bytes.{All}
+use Rattle.field.specs.Field.{withOf}
 use Rattle.config.specs.declared.ActuatorConfig.{ActuatorConfig}
 use Rattle.config.specs.declared.DeviceConfig.{DeviceConfig}
-use Rattle.config.specs.Codes.{operationCode}
+use Rattle.config.specs.Codes.{operationCode, drivingCode}
+use Rattle.config.specs.declared.DrivingMode.TheVariants.{CUSTOM_WAVEFORM}
 use Rattle.config.specs.declared.OperationMode.TheVariants.{INACTIVE}
 use Rattle.checks.specs.Checks.{firstFailing, configureNumber, outsideBand}
 use Rattle.exchange.specs.declared.Step.{Step}
 use Rattle.exchange.specs.declared.Step.TheVariants.{Write, Read}
 use Rattle.registers.specs.Table.{addressOf}
 use Rattle.exchange.specs.State.{isSession, Begun, begunIn}
-use Rattle.exchange.specs.Session.{exchangesOf}
+use Rattle.exchange.specs.Session.{AnswerCall, exchangesOf}
 use Rattle.plans.specs.Configure.{configureSteps, frequencySteps}
 use Rattle.plans.proofs.Lengths.{at_least, at_most, frequency}
 use Rattle.da728x.specs.declared.DA728x.{DA728x}
@@ -28,8 +32,8 @@ use Rattle.sessions.specs.Sessions.{noImage, blank, carrying, enabled, selectSte
 use Rattle.outcome.specs.declared.Change.TheVariants.{Same}
 use Rattle.driver.specs.Operations as operation
 use Rattle.outcome.specs.Outcome.{bigEndian, changeFor}
-use Rattle.driver.specs.Operations.{Start, declines, begins, startedIn, unless, withSettings, runs, Operation, overrideChecks, numberChecks}
-use Rattle.driver.specs.Theorems.{Others, Each, Course, Answers, allSteps}
+use Rattle.driver.specs.Operations.{Start, declines, begins, startedIn, unless, withSettings, runs, Operation, overrideChecks, drivePointChecks, drivePointSteps, numberChecks}
+use Rattle.driver.specs.Theorems.{Others, Each, Course, AnswersAs, InStored, Answers, allSteps}
 use Rattle.driver.proofs.Begun.{Fits, Holds, holds, no-image, no_record, valueOf, answered, counted, within, all_made}
 use Rattle.exchange.proofs.Latest.{bytesWanted}
 use Rattle.driver.proofs.Mismatch.{AllPlain, all_plain, frequency-plain, configure-plain, send-plain, never}
@@ -112,7 +116,8 @@ quiet = record {
   enable = λ r. by-settings _ r.settings _ (λ a d. quiet-runs r (Write (addressOf "TOP_CTL1") (enabled d.operation_mode) ∷ []) (omega arith) (tt, tt));
   disable = λ r. by-settings _ r.settings _ (λ a d.
       quiet-runs r (updated "TOP_CTL1" (put "OPERATION_MODE" (operationCode INACTIVE))) (omega arith) (tt, (tt, tt)));
-  set-custom-drive-waveform = λ r. by-settings _ r.settings _ (λ a d. tt);
+  set-custom-drive-waveform = λ r p1 p2 p3. by-settings _ r.settings _ (λ a d.
+      by-unless _ (firstFailing (drivePointChecks d)) _ (quiet-runs r (drivePointSteps p1 p2 p3) (omega arith) (tt, (tt, (tt, tt)))));
   unlock-waveform-memory = λ r. quiet-runs r (setUnlocked true ∷ []) (omega arith) (tt, tt);
   lock-waveform-memory = λ r. quiet-runs r (setUnlocked false ∷ []) (omega arith) (tt, tt);
   upload-waveform-memory = λ r m lockAfter e. ((few m lockAfter, omega arith, e, no_record), λ bytes h. refl, refl, λ next s. refl, send-plain (min m.len 100) lockAfter);
@@ -134,7 +139,7 @@ each-others f e = record {
   set-timebase = λ r timebase. f _ _ (e.set-timebase r timebase);
   enable = λ r. f _ _ (e.enable r);
   disable = λ r. f _ _ (e.disable r);
-  set-custom-drive-waveform = λ r. f _ _ (e.set-custom-drive-waveform r);
+  set-custom-drive-waveform = λ r p1 p2 p3. f _ _ (e.set-custom-drive-waveform r p1 p2 p3);
   unlock-waveform-memory = λ r. f _ _ (e.unlock-waveform-memory r);
   lock-waveform-memory = λ r. f _ _ (e.lock-waveform-memory r);
   upload-waveform-memory = λ r m lockAfter h. f _ _ (e.upload-waveform-memory r m lockAfter h);
@@ -182,12 +187,40 @@ holds-configure r a d st none s =
 abbrev Unmatched : Begun → List Step → Type 0
 Unmatched b xs = Fits b xs × AllPlain xs
 
+courses : Each AnswersAs
+courses =
+    each-sound (λ address o f b xs e st s cs.
+    let g = subst (λ (x : Start). By (Sound address o.answers) x) e f in
+    subst (λ (x : ℕ). Course (begunIn st b xs) x b.image (allSteps b xs) o.answers cs) g.2
+    (answered (holds st b xs s g.0) cs o.answers g.1))
+
+-- ---- custom drive points
+
+-- where CUSTOM_WAVEFORM is stored, nothing is refused
+custom-begins : (s : Settings) (x : Start) → InStored (λ a d. d.driving_mode ≡ CUSTOM_WAVEFORM) s →
+    withSettings s (λ a d. unless (firstFailing (drivePointChecks d)) x) ≡ x
+custom-begins Absent x h = absurd h
+custom-begins (Given a d) x h = λ i. unless (firstFailing ((not (eqb (drivingCode (h i)) (drivingCode CUSTOM_WAVEFORM)), 12) ∷ [])) x
+
+-- a field as wide as the register is the byte
+whole-register : (p : ℕ) → p < 256 → withOf 0 0 8 p ≡ p
+unfolding withOf
+whole-register p h = omega arith
+
+drive-points : (r : DA728x) (p1 p2 p3 : ℕ) (st : List ℕ) (cs : List AnswerCall) → InStored (λ a d. d.driving_mode ≡ CUSTOM_WAVEFORM) r.settings →
+    All (λ p. p < 256) (p1 ∷ p2 ∷ p3 ∷ []) → isSession st ≡ true →
+    Course (startedIn st (operation.setCustomDriveWaveform r p1 p2 p3).start) r.address noImage (Write 0x25 p1 ∷ Write 0x26 p2 ∷ Write 0x27 p3 ∷ []) (λ bytes. 0) cs
+drive-points r p1 p2 p3 st cs h p s =
+    let xs = drivePointSteps p1 p2 p3 in
+    let e = custom-begins r.settings (runs r xs) h in
+    subst (λ (x : Start). Course (startedIn st x) r.address noImage (Write 0x25 p1 ∷ Write 0x26 p2 ∷ Write 0x27 p3 ∷ []) (λ bytes. 0) cs) (sym e)
+    (subst (λ (ys : List Step). Course (begunIn st (blank 0 r.address) xs) r.address noImage ys (λ bytes. 0) cs)
+    (λ i. Write 0x25 (whole-register p1 p.0 i) ∷ Write 0x26 (whole-register p2 p.1.0 i) ∷ Write 0x27 (whole-register p3 p.1.1.0 i) ∷ [])
+    (courses.others.set-custom-drive-waveform r p1 p2 p3 (blank 0 r.address) xs e st s cs))
+
 pub answers : Answers
 answers = record {
-  courses = each-sound (λ address o f b xs e st s cs.
-      let g = subst (λ (x : Start). By (Sound address o.answers) x) e f in
-      subst (λ (x : ℕ). Course (begunIn st b xs) x b.image (allSteps b xs) o.answers cs) g.2
-      (answered (holds st b xs s g.0) cs o.answers g.1));
+  courses = courses;
   mismatch = (
     each-others (λ address o q b xs e st s cs. let h = quiet-holds address o q b xs e st s in never h.0 (all_plain b xs h.2) cs) quiet,
     λ r a d b xs e st s cs.
@@ -200,4 +233,5 @@ answers = record {
       (omega (arith, counted h cs, within h cs, at_most a d, n), λ done. omega (arith, counted h cs, all_made h cs done, at_least a d, n));
   configures = λ r a d b xs e.
       subst (By (λ (c : Begun) (ys : List Step). ys ≡ configureSteps a d)) e (by-unless (λ (c : Begun) (ys : List Step). ys ≡ configureSteps a d) (configureNumber r.variant a d) _ refl);
+  drivePoints = drive-points;
 }

@@ -2,7 +2,7 @@
 use Prim.Native.Nat.{ℕ, zero, suc, ◌<◌}
 use native.Mathlib.Omega.{arith}
 use mathlib.Core.Path.{◌≡◌, refl, ap}
-use mathlib.Core.Bool.{Bool, true, false, not, cond, true≢false, false≢true}
+use mathlib.Core.Bool.{Bool, true, false, not, true≢false, false≢true}
 use mathlib.Core.List.{List, [], ◌∷◌}
 use mathlib.Core.Logic.{◌↔◌, inl, inr}
 use lib.Dec.{eqb}
@@ -21,7 +21,7 @@ use Rattle.exchange.specs.declared.Step.{Step}
 use Rattle.exchange.specs.State.{Begun}
 use Rattle.da728x.specs.declared.Settings.{Settings}
 use Rattle.da728x.specs.declared.Settings.TheVariants.{Absent, Given}
-use Rattle.driver.specs.Operations.{Start, declines, begins, unless, withSettings, negative, overrideChecks, numberChecks}
+use Rattle.driver.specs.Operations.{Start, declines, begins, unless, withSettings, negative, overrideChecks, drivePointChecks, numberChecks}
 use Rattle.driver.specs.Theorems.{InStored, BelowZero, BeginsUnless, Refusals}
 
 begins-unless : (n : ℕ) (b : Begun) (xs : List Step) (fs : List Fault) → OfFirst n fs → BeginsUnless (unless n (begins b xs)) fs
@@ -58,10 +58,10 @@ in-dro PWM_MODE = (λ e p. omega (arith, ap operationCode p), λ n. refl)
 in-dro RTWM_MODE = (λ e p. omega (arith, ap operationCode p), λ n. refl)
 in-dro ETWM_MODE = (λ e p. omega (arith, ap operationCode p), λ n. refl)
 
-custom : (m : DrivingMode) → BeginsUnless (declines (cond (eqb (drivingCode m) (drivingCode CUSTOM_WAVEFORM)) 14 12)) ((12, ¬ (m ≡ CUSTOM_WAVEFORM)) ∷ (14, Unit) ∷ [])
-custom FREQUENCY_TRACK = (omega arith, inl (λ p. omega (arith, ap drivingCode p), refl))
-custom WIDEBAND = (omega arith, inl (λ p. omega (arith, ap drivingCode p), refl))
-custom CUSTOM_WAVEFORM = (omega arith, inr (λ n. n refl, inl (tt, refl)))
+custom : (m : DrivingMode) → (not (eqb (drivingCode m) (drivingCode CUSTOM_WAVEFORM)) ≡ true) ↔ ¬ (m ≡ CUSTOM_WAVEFORM)
+custom FREQUENCY_TRACK = (λ e p. omega (arith, ap drivingCode p), λ n. refl)
+custom WIDEBAND = (λ e p. omega (arith, ap drivingCode p), λ n. refl)
+custom CUSTOM_WAVEFORM = (λ e. absurd (false≢true e), λ n. absurd (n refl))
 
 pub refusals : Refusals
 refusals = record {
@@ -76,6 +76,7 @@ refusals = record {
   play-sequence = λ r id loops. checked (numberChecks id loops) _ _ ((11, 15 < id) ∷ (11, 15 < loops) ∷ []) (refl, above 15 id, (refl, above 15 loops, tt));
   enable = λ r. settled r.settings _ (λ s. []) (λ a d. refl);
   disable = λ r. settled r.settings _ (λ s. []) (λ a d. refl);
-  set-custom-drive-waveform = λ r. settled r.settings _ (λ s. (12, InStored (λ a d. ¬ (d.driving_mode ≡ CUSTOM_WAVEFORM)) s) ∷ (14, Unit) ∷ []) (λ a d. custom d.driving_mode);
+  set-custom-drive-waveform = λ r p1 p2 p3. settled r.settings _ (λ s. (12, InStored (λ a d. ¬ (d.driving_mode ≡ CUSTOM_WAVEFORM)) s) ∷ []) (λ a d.
+      checked (drivePointChecks d) _ _ ((12, ¬ (d.driving_mode ≡ CUSTOM_WAVEFORM)) ∷ []) (refl, custom d.driving_mode, tt));
   others = λ r address v timebase m lockAfter len room. (refl, (refl, (refl, (refl, (refl, (refl, (refl, (refl, (refl, (refl, tt))))))))));
 }

@@ -1,6 +1,6 @@
 -- Every operation of lib.rs: what it refuses before its first exchange, else its steps, and what it answers once they are made.
--- Document 01, 'Settings to registers', 'Exchanges' and 'Who can cause which answer'.
-use Rattle.std.specs.Prelude.{ℕ, zero, suc, min, Bool, true, false, cond, not, ◌&&◌, List, [], ◌∷◌, ltb, eqb, ℤ, pos, negsuc}
+-- Document 01, 'Settings to registers', 'Exchanges' and 'Who can cause which answer'; document 02, CR 3 and CR 8.
+use Rattle.std.specs.Prelude.{ℕ, zero, suc, min, Bool, true, false, not, ◌&&◌, List, [], ◌∷◌, ltb, eqb, ℤ, pos, negsuc}
 use Rattle.registers.specs.Table.{addressOf}
 use Rattle.config.specs.declared.ActuatorConfig.{ActuatorConfig}
 use Rattle.config.specs.declared.DeviceConfig.{DeviceConfig}
@@ -19,7 +19,7 @@ use Rattle.exchange.specs.declared.Step.TheVariants.{Read, Match}
 use Rattle.exchange.specs.declared.Reply.{Reply}
 use Rattle.exchange.specs.State.{Begun, begunWith, begunIn}
 use Rattle.exchange.specs.Turn.{stateAfter, reportOf}
-use Rattle.plans.specs.Fields.{put, written, updated}
+use Rattle.plans.specs.Fields.{put, written, writtenWith, updated}
 use Rattle.plans.specs.Configure.{frequencySteps, configureSteps}
 use Rattle.da728x.specs.declared.DA728x.{DA728x}
 use Rattle.da728x.specs.declared.Settings.{Settings}
@@ -137,9 +137,17 @@ enable r = plain (withSettings r.settings (λ a d. runs r (written "TOP_CTL1" (e
 abbrev pub disable : DA728x → Operation
 disable r = plain (withSettings r.settings (λ a d. runs r (updated "TOP_CTL1" (put "OPERATION_MODE" (operationCode INACTIVE)))))
 
--- "15 comes first", then "that the mode is CUSTOM_WAVEFORM (12)"; "We refuse, the last with 14 after its Rust checks"
-abbrev pub setCustomDriveWaveform : DA728x → Operation
-setCustomDriveWaveform r = plain (withSettings r.settings (λ a d. declines (cond (eqb (drivingCode d.driving_mode) (drivingCode CUSTOM_WAVEFORM)) 14 12)))
+-- behind 15: "that the mode is CUSTOM_WAVEFORM (12)"
+abbrev pub drivePointChecks : DeviceConfig → List Check
+drivePointChecks d = (not (eqb (drivingCode d.driving_mode) (drivingCode CUSTOM_WAVEFORM)), 12) ∷ []
+
+-- document 02, CR 8: `set_custom_drive_waveform` "writes its three bytes to SWG_C1, SWG_C2 and SWG_C3, in that order"
+abbrev pub drivePointSteps : ℕ → ℕ → ℕ → List Step
+drivePointSteps p1 p2 p3 =
+    writtenWith "SWG_C1" (put "CUSTOM_WAVE_GEN_COEFF1" p1 ∷ []) ∷ writtenWith "SWG_C2" (put "CUSTOM_WAVE_GEN_COEFF2" p2 ∷ []) ∷ writtenWith "SWG_C3" (put "CUSTOM_WAVE_GEN_COEFF3" p3 ∷ []) ∷ []
+
+abbrev pub setCustomDriveWaveform : DA728x → ℕ → ℕ → ℕ → Operation
+setCustomDriveWaveform r p1 p2 p3 = plain (withSettings r.settings (λ a d. unless (firstFailing (drivePointChecks d)) (runs r (drivePointSteps p1 p2 p3))))
 
 abbrev pub unlockWaveformMemory : DA728x → Operation
 unlockWaveformMemory r = plain (runs r (setUnlocked true ∷ []))

@@ -13,7 +13,7 @@ use Rattle.laws.specs.Copied.{over}
 use Rattle.laws.specs.Lists.{at}
 use Rattle.registers.specs.Table.{addressOf}
 use Rattle.exchange.specs.declared.Step.{Step}
-use Rattle.exchange.specs.declared.Step.TheVariants.{Store}
+use Rattle.exchange.specs.declared.Step.TheVariants.{Write, Store}
 use Rattle.exchange.specs.declared.Exchange.{Exchange}
 use Rattle.exchange.specs.declared.Reply.{Reply}
 use Rattle.exchange.specs.State.{isSession, countIn, completed, indexed, left, Begun, begunIn}
@@ -25,6 +25,7 @@ use Rattle.checks.specs.Blames.{OutOfBand, Fault, faults, OfFirst}
 use Rattle.da728x.specs.declared.DA728x.{DA728x}
 use Rattle.da728x.specs.declared.Settings.{Settings}
 use Rattle.da728x.specs.declared.Settings.TheVariants.{Absent, Given}
+use Rattle.sessions.specs.Sessions.{noImage}
 use Rattle.outcome.specs.declared.Change.TheVariants.{Same}
 use Rattle.outcome.specs.Outcome.{isChipOf, outcomeOf}
 use Rattle.driver.specs.Operations as operation
@@ -42,7 +43,7 @@ pub record Others (P : ℕ → Operation → Type 0) : Type 0 where
   pub set-timebase : (r : DA728x) (timebase : WaveformMemoryTimebase) → P r.address (operation.setTimebase r timebase)
   pub enable : (r : DA728x) → P r.address (operation.enable r)
   pub disable : (r : DA728x) → P r.address (operation.disable r)
-  pub set-custom-drive-waveform : (r : DA728x) → P r.address (operation.setCustomDriveWaveform r)
+  pub set-custom-drive-waveform : (r : DA728x) (p1 p2 p3 : ℕ) → P r.address (operation.setCustomDriveWaveform r p1 p2 p3)
   pub unlock-waveform-memory : (r : DA728x) → P r.address (operation.unlockWaveformMemory r)
   pub lock-waveform-memory : (r : DA728x) → P r.address (operation.lockWaveformMemory r)
   pub upload-waveform-memory : (r : DA728x) (m : WaveformMemory) (lockAfter : Bool) → length m.«data» ≡ 100 → P r.address (operation.uploadWaveformMemory r m lockAfter)
@@ -87,6 +88,11 @@ abbrev pub NoMismatch : ℕ → Operation → Type 0
 NoMismatch address o = (b : Begun) (xs : List Step) → o.start ≡ begins b xs → (st : List ℕ) → isSession st ≡ true → (cs : List AnswerCall) (c : AnswerCall) →
     ¬ (numberAt (final (begunIn st b xs) cs) c ≡ 16)
 
+-- something that is said of the settings stored; where none are, it does not hold
+abbrev pub InStored : (ActuatorConfig → DeviceConfig → Type 0) → Settings → Type 0
+InStored P Absent = ⊥
+InStored P (Given a d) = P a d
+
 pub record Answers : Type 0 where
   pub courses : Each AnswersAs
   -- "16 VariantMismatch, in `new`": in no other operation
@@ -97,13 +103,14 @@ pub record Answers : Type 0 where
       let after = final (startedIn st (operation.configure r a d).start) cs in (countIn after ≤ 25) × (completed after ≡ true → 14 ≤ countIn after)
   -- and what it begins are the steps of its own settings, of which `Accepted` and `Trigger` speak
   pub configures : (r : DA728x) (a : ActuatorConfig) (d : DeviceConfig) (b : Begun) (xs : List Step) → (operation.configure r a d).start ≡ begins b xs → xs ≡ configureSteps a d
+  -- document 02, CR 8: where CUSTOM_WAVEFORM is stored, the three points, any bytes, go to SWG_C1, SWG_C2 and SWG_C3 (their addresses are said again
+  -- here), in this order, each in a write of its own, and that is all; no value is answered
+  pub drivePoints : (r : DA728x) (p1 p2 p3 : ℕ) (st : List ℕ) (cs : List AnswerCall) → InStored (λ a d. d.driving_mode ≡ CUSTOM_WAVEFORM) r.settings →
+      All (λ p. p < 256) (p1 ∷ p2 ∷ p3 ∷ []) → isSession st ≡ true →
+      Course (startedIn st (operation.setCustomDriveWaveform r p1 p2 p3).start) r.address noImage (Write 0x25 p1 ∷ Write 0x26 p2 ∷ Write 0x27 p3 ∷ []) (λ bytes. 0) cs
 
--- ---- what a start is refused for: document 01, 'Settings to registers' and its list of differences, with document 02's numbers (CR 3)
-
--- a fault that depends on what is stored
-abbrev pub InStored : (ActuatorConfig → DeviceConfig → Type 0) → Settings → Type 0
-InStored P Absent = ⊥
-InStored P (Given a d) = P a d
+-- ---- what a start is refused for: document 01, 'Settings to registers' and its list of differences, with document 02's numbers (CR 3), and without the
+-- 14 that `set_custom_drive_waveform` had there (CR 8)
 
 abbrev pub BelowZero : ℤ → Type 0
 BelowZero (pos n) = ⊥
@@ -127,9 +134,9 @@ pub record Refusals : Type 0 where
   pub play-sequence : (r : DA728x) (id loops : ℕ) → BeginsUnless (operation.playSequence r id loops).start ((11, 15 < id) ∷ (11, 15 < loops) ∷ [])
   pub enable : (r : DA728x) → BeginsUnless (operation.enable r).start ((15, r.settings ≡ Absent) ∷ [])
   pub disable : (r : DA728x) → BeginsUnless (operation.disable r).start ((15, r.settings ≡ Absent) ∷ [])
-  -- always
-  pub set-custom-drive-waveform : (r : DA728x) → BeginsUnless (operation.setCustomDriveWaveform r).start
-      ((15, r.settings ≡ Absent) ∷ (12, InStored (λ a d. ¬ (d.driving_mode ≡ CUSTOM_WAVEFORM)) r.settings) ∷ (14, Unit) ∷ [])
+  -- document 02, CR 8: "keeps its two checks"
+  pub set-custom-drive-waveform : (r : DA728x) (p1 p2 p3 : ℕ) → BeginsUnless (operation.setCustomDriveWaveform r p1 p2 p3).start
+      ((15, r.settings ≡ Absent) ∷ (12, InStored (λ a d. ¬ (d.driving_mode ≡ CUSTOM_WAVEFORM)) r.settings) ∷ [])
   -- never
   pub others : (r : DA728x) (address : ℕ) (v : Variant) (timebase : WaveformMemoryTimebase) (m : WaveformMemory) (lockAfter : Bool) (len room : ℕ) →
       All (λ o. BeginsUnless o.start []) (operation.new address v ∷ operation.getChipRev r ∷ operation.getEvents r ∷ operation.getStatus r

@@ -1,18 +1,21 @@
 // Every operation of the driver (lib.rs; document 01, 'Settings to registers' and 'Exchanges'), begun as a session in bytes that the
 // caller lends; a refused one writes nothing. The `DA728x` of lib.rs is `da728x::DA728x` without its bus: it goes in by value with the
 // start and with each answer, and `answer` gives it back, changed only by the answer that completes `new` or `configure`.
-// Left out: the `defmt` prints, and the body that `set_custom_drive_waveform` does not have in the Rust either.
+// `set_custom_drive_waveform`, which has no finished body there, writes the registers that document 02 (CR 8) names.
+// Left out: the `defmt` prints.
 //
 // Proved: the answer is the papers' number and the session's bytes are those of the operation's steps (specs/Operations.antt).
-// proofs/Refusals.antt: for which fault each of the eighteen starts is refused, and by which number. proofs/Answers.antt: what is sent, in which order and how much, and what every operation answers, 16 in `new` only. proofs/Stored.antt: the
+// proofs/Refusals.antt: for which fault each of the eighteen starts is refused, and by which number. proofs/Answers.antt: what is sent, in which order and how much, and what every operation answers, 16 in `new` only; custom drive points go to SWG_C1, SWG_C2 and SWG_C3. proofs/Stored.antt: the
 // record changes exactly by the answer that completes `new` or `configure`, and by none to a session that has ended or was never begun.
 // proofs/Transfers.antt: an upload sends the memory's bytes, each to its own address; a read fills the front of the buffer.
 #![tactic(auto)]
 
 ghost use Rattle.std.specs.Prelude.{◌≡◌, ◌&&◌, ◌∷◌, eqb, length};
+ghost use Rattle.laws.specs.Lists.{at};
 ghost use Rattle.errors.specs.Number.{answerNumber};
 ghost use Rattle.registers.specs.Table.{addressOf};
-ghost use Rattle.config.specs.Codes.{operationCode};
+ghost use Rattle.config.specs.Codes.{operationCode, drivingCode};
+ghost use Rattle.config.specs.declared.DrivingMode.TheVariants.{CUSTOM_WAVEFORM};
 ghost use Rattle.config.specs.declared.OperationMode.TheVariants.{DRO_MODE};
 ghost use Rattle.exchange.specs.declared.Step.TheVariants.{Write};
 ghost use Rattle.exchange.specs.State.{begunIn};
@@ -26,7 +29,7 @@ use errors::{Answer, Error};
 use exchange::{Reply, Step, Turn};
 use memory::{WaveformMemory, WaveformMemoryTimebase};
 use registers::Register;
-use registers_control::{SEQ_CTL1, TOP_CTL1};
+use registers_control::{SEQ_CTL1, SWG_C1, SWG_C2, SWG_C3, TOP_CTL1};
 
 // What an answer gives: the turn of the session, and the record in force.
 #[derive(Clone, Copy)]
@@ -243,22 +246,54 @@ pub fn disable(driver: DA728x, session: &mut [u8]) -> Answer
     }
 }
 
-// Refused, once its checks have passed: the Rust has no body for it.
-pub fn set_custom_drive_waveform(driver: DA728x, _points: [u8; 3]) -> Answer
-    ensures { answerNumber result ≡ spec.startNumber (spec.setCustomDriveWaveform driver).start }
+// Gives the chip the three points of the wave that it drives the actuator with; for CUSTOM_WAVEFORM only.
+pub fn set_custom_drive_waveform(driver: DA728x, points: [u8; 3], session: &mut [u8]) -> Answer
+    ensures result_value { answerNumber result
+        ≡ spec.startNumber (spec.setCustomDriveWaveform driver (at points 0) (at points 1) (at points 2)).start }
+    ensures session_after { session.new
+        ≡ spec.startedIn session.old (spec.setCustomDriveWaveform driver (at points 0) (at points 1) (at points 2)).start }
 {
     let settings = driver.settings;
     match settings {
         Settings::Absent => Answer::Refused(Error::NotConfigured),
         Settings::Given(_, d) => {
             let mode = d.driving_mode;
-            match mode {
-                DrivingMode::FREQUENCY_TRACK => Answer::Refused(Error::WrongMode),
-                DrivingMode::WIDEBAND => Answer::Refused(Error::WrongMode),
-                DrivingMode::CUSTOM_WAVEFORM => Answer::Refused(Error::NotSupported),
+            if is_custom(mode) {
+                drive_points(session, driver.address, points[0], points[1], points[2]);
+                return Answer::Done;
             }
+            Answer::Refused(Error::WrongMode)
         }
     }
+}
+
+fn is_custom(mode: DrivingMode) -> bool
+    ensures { result ≡ eqb (drivingCode mode) (drivingCode CUSTOM_WAVEFORM) }
+{
+    let custom = DrivingMode::CUSTOM_WAVEFORM;
+    mode.code() == custom.code()
+}
+
+fn drive_points(session: &mut [u8], address: u8, p1: u8, p2: u8, p3: u8)
+    ensures { session.new ≡ begunIn session.old (blank 0 address) (spec.drivePointSteps p1 p2 p3) }
+{
+    let swg_c1 = SWG_C1::new().with_CUSTOM_WAVE_GEN_COEFF1(p1);
+    let swg_c2 = SWG_C2::new().with_CUSTOM_WAVE_GEN_COEFF2(p2);
+    let swg_c3 = SWG_C3::new().with_CUSTOM_WAVE_GEN_COEFF3(p3);
+    sessions::run(
+        session,
+        address,
+        outcome::COMMAND,
+        Step::Write(Register::SWG_C1.address(), swg_c1.bits()),
+    );
+    exchange::push(
+        session,
+        Step::Write(Register::SWG_C2.address(), swg_c2.bits()),
+    );
+    exchange::push(
+        session,
+        Step::Write(Register::SWG_C3.address(), swg_c3.bits()),
+    );
 }
 
 // ---- waveform memory

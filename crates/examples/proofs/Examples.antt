@@ -18,7 +18,7 @@ checked = (refl, (refl, (refl, (refl, (refl, (refl, (refl, (refl, (refl, (refl, 
 
 wired : Hold wireExamples
 unfolding withOf recordAt featureSteps limitSteps calibrationSteps pidSteps frequencySteps rapidStopSteps phaseSteps customSteps drivingSteps gpiByte gpiSteps givenSteps triggerSteps noImage blankRecord begunIn left completed fitOf stateAfter afterCall outcomeOf enabled seqCtl2 memCtl2 chunkStep chunkSteps lockSteps sendSteps
-wired = (refl, (refl, (refl, (refl, (refl, (refl, (refl, (refl, (refl, (refl, (refl, (refl, (refl, (refl, (refl, (refl, (refl, (refl, (refl, (refl, (refl, (refl, (refl, (refl, (refl, (refl, (refl, (refl, (refl, (refl, (refl, (refl, (refl, (refl, (refl, (refl, (refl, (refl, (refl, (refl, (refl, (refl, (refl, (refl, (refl, (refl, (refl, (refl, (refl, (refl, (refl, tt)))))))))))))))))))))))))))))))))))))))))))))))))))
+wired = (refl, (refl, (refl, (refl, (refl, (refl, (refl, (refl, (refl, (refl, (refl, (refl, (refl, (refl, (refl, (refl, (refl, (refl, (refl, (refl, (refl, (refl, (refl, (refl, (refl, (refl, (refl, (refl, (refl, (refl, (refl, (refl, (refl, (refl, (refl, (refl, (refl, (refl, (refl, (refl, (refl, (refl, (refl, (refl, (refl, (refl, (refl, (refl, (refl, (refl, (refl, (refl, (refl, tt)))))))))))))))))))))))))))))))))))))))))))))))))))))
 
 pub examples : Examples
 examples = record { checked = checked; wired = wired }

@@ -10,7 +10,7 @@ use Rattle.convert.specs.Trim.{capCode, resistanceCode}
 use Rattle.memory.specs.declared.WaveformMemory.{WaveformMemory}
 use Rattle.memory.specs.declared.WaveformMemoryTimebase.TheVariants.{TIMEBASE_544_2176_4352_8704, TIMEBASE_136_544_2176_4352}
 use Rattle.memory.specs.Timebase.{memoryTimebaseAt}
-use Rattle.exchange.specs.declared.Reply.TheVariants.{Byte}
+use Rattle.exchange.specs.declared.Reply.TheVariants.{Done, Byte, Failed}
 use Rattle.exchange.specs.State.{indexed}
 use Rattle.exchange.specs.Session.{final, exchangesOf}
 use Rattle.da728x.specs.declared.DA728x.{DA728x}
@@ -71,11 +71,11 @@ abbrev pub refusedExamples : List Example
 refusedExamples =
     -- without settings
     (map (λ o. refusal (o (newRecord 0x4A DA7280))) ((λ r. operation.setFrequency r 170) ∷ (λ r. operation.setOverrideValue r (negsuc 0)) ∷ operation.enable
-    ∷ operation.disable ∷ operation.setCustomDriveWaveform ∷ []) is replicate 5 15)
-    -- those that need none; for a custom waveform, in WIDEBAND and while tracking
+    ∷ operation.disable ∷ (λ r. operation.setCustomDriveWaveform r 1 2 3) ∷ []) is replicate 5 15)
+    -- those that need none; drive points in CUSTOM_WAVEFORM, in WIDEBAND and while tracking
     ∷ (map (λ o. refusal (o (newRecord 0x4A DA7280))) (operation.getChipRev ∷ operation.getEvents ∷ operation.getStatus ∷ operation.unlockWaveformMemory ∷ operation.lockWaveformMemory ∷ operation.startSequence
     ∷ (λ r. operation.setTimebase r TIMEBASE_136_544_2176_4352) ∷ (λ r. operation.selectSequence r 3 2) ∷ (λ r. operation.playSequence r 3 2) ∷ []) is replicate 9 0)
-    ∷ (map (λ settings. refusal (operation.setCustomDriveWaveform (chipWith settings))) (settingsFor 1 ∷ replaced (settingsFor 1) ((19, 1) ∷ []) ∷ accelerating 1 ∷ []) is (14 ∷ 12 ∷ 12 ∷ []))
+    ∷ (map (λ settings. refusal (operation.setCustomDriveWaveform (chipWith settings) 1 2 3)) (settingsFor 1 ∷ replaced (settingsFor 1) ((19, 1) ∷ []) ∷ accelerating 1 ∷ []) is (0 ∷ 12 ∷ 12 ∷ []))
     ∷ (map (λ hz. refusal (operation.setFrequency chip hz)) (24 ∷ 25 ∷ 1024 ∷ 1025 ∷ []) is (23 ∷ 0 ∷ 0 ∷ 23 ∷ []))
     ∷ (map (λ hz. refusal (operation.setFrequency (chipWith (accelerating 1)) hz)) (49 ∷ 50 ∷ 300 ∷ 301 ∷ []) is (23 ∷ 0 ∷ 0 ∷ 23 ∷ []))
     -- −1 in ETWM_MODE, accelerating and not; −1, 0 and 127 in DRO_MODE, accelerating; 1 in the other modes
@@ -128,6 +128,7 @@ wireExamples =
     is (((0x4A0124 ∷ 0x4A002400 ∷ []) ∷ (0x4A0124 ∷ 0x4A0024FB ∷ []) ∷ []) ∷ ((0x4A0124 ∷ 0x4A002404 ∷ []) ∷ (0x4A0124 ∷ 0x4A0024FF ∷ []) ∷ [])
     ∷ ((0x4A0122 ∷ 0x4A002200 ∷ []) ∷ (0x4A0122 ∷ 0x4A0022F8 ∷ []) ∷ []) ∷ ((0x4A0122 ∷ 0x4A002210 ∷ []) ∷ (0x4A0122 ∷ 0x4A0022FF ∷ []) ∷ []) ∷ []))
     ∷ (map (λ mode. wire [] (operation.enable (chipWith (settingsFor mode)))) (0 ∷ 1 ∷ 2 ∷ 3 ∷ 4 ∷ []) is map (λ byte. byte ∷ []) (0x4A002200 ∷ 0x4A002201 ∷ 0x4A002202 ∷ 0x4A002203 ∷ 0x4A002204 ∷ []))
+    ∷ (wire [] (operation.setCustomDriveWaveform chip 0x12 0x80 0xFF) is (0x4A002512 ∷ 0x4A002680 ∷ 0x4A0027FF ∷ []))
     ∷ (wire [] (operation.unlockWaveformMemory chip) is (0x4A002D80 ∷ [])) ∷ (wire [] (operation.lockWaveformMemory chip) is (0x4A002D00 ∷ []))
     ∷ (wire [] (operation.uploadWaveformMemory chip (loadedTo 98) true)
     is (0x4A002D80 ∷ bigEndian 0x4A0084 (replicate 32 7) ∷ bigEndian 0x4A00A4 (replicate 32 7) ∷ bigEndian 0x4A00C4 (replicate 32 7) ∷ 0x4A00E40809 ∷ 0x4A002D00 ∷ []))
@@ -135,8 +136,9 @@ wireExamples =
     ∷ (wire (5 ∷ 6 ∷ []) (operation.readWaveformMemory chip 2 5) is (0x4A0184 ∷ 0x4A0185 ∷ [])) ∷ (wire [] (operation.readWaveformMemory chip 200 150) is indexed (λ i. 0x4A0184 + i) 0 100) ∷ ((operation.readWaveformMemory chip 2 5).answers (5 ∷ 6 ∷ []) is 2)
     ∷ (wire [] (operation.selectSequence chip 3 2) is (0x4A002823 ∷ [])) ∷ (wire [] (operation.selectSequence chip 15 15) is (0x4A0028FF ∷ []))
     ∷ (map (λ b. wire (b ∷ []) (operation.playSequence chip 3 2)) (0x00 ∷ 0xFF ∷ []) is ((0x4A002823 ∷ 0x4A0122 ∷ 0x4A002210 ∷ []) ∷ (0x4A002823 ∷ 0x4A0122 ∷ 0x4A0022FF ∷ []) ∷ []))
-    -- a session that runs, with a buffer lent; what goes into a buffer; codes that C hands in
+    -- sessions that run, one with a buffer lent, one whose second of three writes fails; what goes into a buffer; codes that C hands in
     ∷ (outcomeOf (final (startedIn (replicate 279 0) (operation.getStatus chip).start) (record { reply = Byte 9; buffer = 0 ∷ [] } ∷ [])) is record { made = 1; completed = true; value = 9 })
+    ∷ (outcomeOf (final (startedIn (replicate 279 0) (operation.setCustomDriveWaveform chip 1 2 3).start) (record { reply = Done; buffer = [] } ∷ record { reply = Failed 5; buffer = [] } ∷ record { reply = Done; buffer = [] } ∷ [])) is record { made = 2; completed = false; value = 0 })
     ∷ (copied (1 ∷ 2 ∷ 3 ∷ []) (8 ∷ 9 ∷ []) is (8 ∷ 9 ∷ 3 ∷ [])) ∷ (copied (1 ∷ []) (8 ∷ 9 ∷ []) is (8 ∷ []))
     ∷ (map memoryTimebaseAt (0 ∷ 1 ∷ []) is (TIMEBASE_544_2176_4352_8704 ∷ TIMEBASE_136_544_2176_4352 ∷ [])) ∷ (map variantAt (0 ∷ 1 ∷ 2 ∷ []) is (DA7280 ∷ DA7281 ∷ DA7282 ∷ []))
     -- TRIM4's codes: inductances around each limit of the cap code; whole ohms at 25 and at 113 µH; columns at 18 ohms

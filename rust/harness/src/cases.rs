@@ -8,17 +8,18 @@ use crate::settings::{DRIVINGS, MEMORY_TIMEBASES, MODES, POLARITIES, Settings, V
 use yambelugo::{DrivingMode, OperationMode, RECORD, TriggerConfig, Variant};
 
 /// How many operations [`cases`] has, and how many exchanges they make together.
-pub const CASES: usize = 48;
-pub const EXCHANGES: usize = 379;
+pub const CASES: usize = 49;
+pub const EXCHANGES: usize = 382;
 
 type Start = dyn Fn(&mut [u8]) -> u8;
 
-/// How an operation starts (`new` where there is none), what its first exchange reads (a later one that plus its number), the length of
-/// its read buffer, how many bytes of memory it reads, and what its last answer does to the record.
+/// How an operation starts (`new` where there is none), the record lent with its answers, what its first exchange reads (a later one that
+/// plus its number), the length of its read buffer, how many bytes of memory it reads, and what its last answer does to the record.
 pub struct Case {
     pub name: String,
     pub operation: Option<Operation>,
     pub start: Box<Start>,
+    pub record: [u8; RECORD],
     pub read: u8,
     pub room: usize,
     pub reads: usize,
@@ -32,7 +33,7 @@ impl Case {
     }
 }
 
-/// A stored record, in DRO mode: the one that each case but `new` is started from.
+/// A stored record, in DRO mode.
 pub fn stored() -> [u8; RECORD] {
     let settings = Settings::plain(OperationMode::DRO_MODE, DrivingMode::FREQUENCY_TRACK);
     record_bytes(0x4A, Variant::DA7282, Some(&settings))
@@ -49,7 +50,17 @@ pub fn longest() -> Settings {
     settings
 }
 
-/// The operations that are accepted on a stored record.
+/// The record that an operation is started from: the stored one; for drive points one with settings for a custom waveform.
+pub fn record_for(operation: &Operation) -> [u8; RECORD] {
+    match operation {
+        Operation::SetCustomDriveWaveform(_) => {
+            record_bytes(0x4A, Variant::DA7282, Some(&longest()))
+        }
+        _ => stored(),
+    }
+}
+
+/// Operations that are accepted, each from its record.
 pub fn accepted() -> Vec<Operation> {
     let mut operations = vec![
         Operation::Configure(longest()),
@@ -62,6 +73,7 @@ pub fn accepted() -> Vec<Operation> {
         Operation::SetTimebase(MEMORY_TIMEBASES[1]),
         Operation::Enable,
         Operation::Disable,
+        Operation::SetCustomDriveWaveform([0x28, 0x80, 0xFF]),
         Operation::UnlockWaveformMemory,
         Operation::LockWaveformMemory,
         Operation::SelectSequence(15, 7),
@@ -83,20 +95,21 @@ pub fn accepted() -> Vec<Operation> {
     operations
 }
 
-/// An operation on a stored record.
+/// An operation on its record.
 pub fn case(operation: Operation) -> Case {
+    let record = record_for(&operation);
     let (name, room) = (format!("{operation:?}"), operation.room());
     let reads = match operation {
         Operation::ReadWaveformMemory(len, room) => len.min(100).min(room),
         _ => 0,
     };
     let stores = match &operation {
-        Operation::Configure(it) => Stores::configured(&stored(), &it.encode()),
+        Operation::Configure(it) => Stores::configured(&record, &it.encode()),
         _ => Stores::Nothing,
     };
     let started = operation.clone();
-    let start = Box::new(move |session: &mut [u8]| raw::start(&started, &stored(), session));
-    Case { name, operation: Some(operation), start, read: 0x96, room, reads, stores }
+    let start = Box::new(move |session: &mut [u8]| raw::start(&started, &record, session));
+    Case { name, operation: Some(operation), start, record, read: 0x96, room, reads, stores }
 }
 
 /// `new` for a variant.
@@ -105,6 +118,7 @@ pub fn new(variant: Variant) -> Case {
         name: format!("new {variant:?}"),
         operation: None,
         start: Box::new(move |session| raw::new(0x4A, variant as u8, session)),
+        record: stored(),
         read: revision(variant),
         room: 2,
         reads: 0,
@@ -120,7 +134,7 @@ pub fn cases() -> Vec<Case> {
 /// A session between two answers.
 #[derive(Clone)]
 pub struct Point {
-    /// The record lent with each answer; at first the stored one.
+    /// The record lent with each answer; at first the case's.
     pub record: Vec<u8>,
     pub session: Vec<u8>,
     pub buffer: Vec<u8>,
@@ -136,7 +150,7 @@ impl Point {
         let mut session = vec![MARKER; SESSION];
         assert_eq!((case.start)(&mut session), 0, "{}", case.name);
         let pending = raw::pending(&session, &mut []);
-        let (record, buffer) = (stored().to_vec(), vec![MARKER; case.room]);
+        let (record, buffer) = (case.record.to_vec(), vec![MARKER; case.room]);
         Self { record, session, buffer, pending, made: 0, read: vec![] }
     }
 

@@ -1,6 +1,7 @@
 //! The operations of the driver, run by the library and by the published Rust on the same script.
 
 use crate::bus::{Bus, Exchange, Script, Wire, at_once, kind};
+use crate::drive_points;
 use crate::lists::MARKER;
 use crate::oracle::{matches, number};
 use crate::settings::{Settings, published_variant};
@@ -9,6 +10,7 @@ use crate::trim::resistance_code;
 use da728x::waveform::{self, WaveformMemory};
 use embedded_hal_async::i2c::ErrorKind;
 use std::cell::RefCell;
+use std::panic::{AssertUnwindSafe, catch_unwind};
 use std::rc::Rc;
 use yambelugo::{DA728x, DrivingMode, Error, IMAGE, RECORD, Session, Started};
 use yambelugo::{Variant, WaveformMemoryTimebase};
@@ -265,9 +267,14 @@ impl Published {
     /// What an operation comes to on this script, as documents 01 and 02 have it: by the published driver unless it lies outside
     /// the comparison. The number is document 02's (CR 3), which the published one has to match.
     pub fn outcome(&mut self, operation: &Operation, script: &Script) -> Outcome {
-        let mut outcome = match self.outside(operation) {
-            Some(number) => Outcome::refused(number, operation.room()),
-            None => {
+        let mut outcome = match (self.outside(operation), operation) {
+            (Some(number), _) => Outcome::refused(number, operation.room()),
+            (None, Operation::SetCustomDriveWaveform(points)) if self.is_custom() => {
+                let (log, failure) = drive_points::written(self.address, *points, script);
+                let answer = failure.map_or(Ok(Value::Nothing), |it| Err((17, Some(it))));
+                Outcome { answer, made: log.len(), log, lent: markers(operation.room()) }
+            }
+            (None, _) => {
                 let outcome = self.run(operation, script);
                 self.followed(operation, outcome)
             }
@@ -297,13 +304,21 @@ impl Published {
                     number
                 }))
             }
-            Operation::SetCustomDriveWaveform(_) => {
-                let custom = DrivingMode::CUSTOM_WAVEFORM;
-                self.stored.filter(|it| it.device.driving_mode == custom).map(|_| 14)
-            }
             Operation::UploadWaveformMemory(image, _) => (image.len() > IMAGE).then_some(8),
             _ => None,
         }
+    }
+
+    /// Whether settings for a custom waveform are stored; there the published `set_custom_drive_waveform` has no finished body.
+    pub fn is_custom(&self) -> bool {
+        let custom = DrivingMode::CUSTOM_WAVEFORM;
+        self.stored.is_some_and(|it| it.device.driving_mode == custom)
+    }
+
+    /// Whether the published driver comes to a body that is not finished.
+    pub fn is_unfinished(&mut self, operation: &Operation) -> bool {
+        let script = Script::reading(&[0]);
+        catch_unwind(AssertUnwindSafe(|| self.run(operation, &script))).is_err()
     }
 
     /// The number by which an operation is told that the published driver refuses with this one, or with none: 0.
@@ -463,6 +478,11 @@ impl Pair {
         let outcome = pair.compare(&Operation::Configure(*settings), &script);
         assert_eq!(outcome.answer, Ok(Value::Nothing), "{settings:?}");
         pair
+    }
+
+    /// The published driver, to be asked on its own.
+    pub fn published(&mut self) -> &mut Published {
+        &mut self.published
     }
 
     /// GPI registers written: those where the published mode bit is the trigger's, and those where it is not.

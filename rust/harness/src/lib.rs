@@ -3,6 +3,7 @@
 pub mod boundary;
 pub mod bus;
 pub mod cases;
+pub mod drive_points;
 pub mod driver;
 pub mod generate;
 pub mod images;

@@ -428,7 +428,7 @@ fn a_long_life() {
             stored += usize::from(last && stores != Stores::Nothing);
         }
     }
-    compared("refused starts in a long life", refused, 3_627);
-    compared("completed sessions", completed, 11_120);
-    compared("of these that stored settings", stored, 2_731);
+    compared("refused starts in a long life", refused, 3_794);
+    compared("completed sessions", completed, 11_139);
+    compared("of these that stored settings", stored, 2_711);
 }

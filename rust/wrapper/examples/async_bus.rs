@@ -1,4 +1,5 @@
-//! Finds, configures and fills a DA7280 over an async I2C bus that fails now and then, and plays.
+//! Finds, configures and fills a DA7280 over an async I2C bus that fails now and then, and plays;
+//! then has the chip drive with a wave of one's own.
 //!
 //! `cargo run --example async_bus`
 //!
@@ -155,6 +156,24 @@ async fn switch_on(chip: &mut Chip) -> Result<(), Error> {
     retried(chip, &mut driver, |it| it.play_sequence(0, 2)).await?;
     assert_eq!((chip.registers[0x28], chip.registers[0x22]), (0x20, 0x13)); // SEQ_CTL2, TOP_CTL1
     println!("  started, two loops");
+
+    wave(chip, &mut driver).await
+}
+
+/// A wave of one's own, for another actuator: settings for it, then its three points.
+async fn wave(chip: &mut Chip, driver: &mut DA728x) -> Result<(), Error> {
+    const POINTS: [u8; 3] = [0x28, 0x5F, 0x80];
+    assert_eq!(driver.set_custom_drive_waveform(POINTS), Err(Error::WrongMode));
+
+    println!("configure for a wave, and its points, of which the second is lost:");
+    let driving_mode = DrivingMode::CUSTOM_WAVEFORM;
+    let device = DeviceConfig { driving_mode, acceleration: false, ..DEVICE };
+    retried(chip, driver, |it| it.configure(ACTUATOR, device)).await?;
+    chip.fail(2, ErrorKind::ArbitrationLoss);
+    let made = retried(chip, driver, |it| it.set_custom_drive_waveform(POINTS)).await?;
+    assert_eq!((made, chip.transfers), (3, 2 + 3));
+    assert_eq!(chip.registers[0x25..0x28], POINTS); // SWG_C1, SWG_C2 and SWG_C3
+    println!("  written");
     Ok(())
 }
 
@@ -265,8 +284,8 @@ fn main() {
     let (result, waits) = block_on(switch_on(&mut chip));
     assert_eq!(result, Ok(()));
     // Every transfer made the task wait once, with a session held: two of new, configure and upload
-    // with a failure each, the memory read back, enable and play.
-    assert_eq!(waits, 2 + (5 + 14) + (4 + 6) + 100 + 1 + 3);
+    // with a failure each, the memory read back, enable and play, configure again and the points.
+    assert_eq!(waits, 2 + (5 + 14) + (4 + 6) + 100 + 1 + 3 + 18 + (2 + 3));
 
     println!("memory:");
     let task = async |chip: &mut Chip| {

@@ -312,17 +312,28 @@ impl DA728x {
         self.begins(plain(ffi::da728x_disable))
     }
 
-    /// Is always refused: the published driver has no body for it.
+    /// Gives the chip the three points of a wave of one's own, which it then drives the actuator with: any bytes, to SWG_C1, SWG_C2
+    /// and SWG_C3, one write each. If a write fails the chip may be left with points of two waves: set all three again.
     ///
     /// # Errors
-    /// `NotConfigured`; `WrongMode` unless in CUSTOM_WAVEFORM; else `NotSupported`.
+    /// `NotConfigured`; `WrongMode` unless the stored driving mode is CUSTOM_WAVEFORM.
     ///
     /// ```
-    /// # use yambelugo::{DA728x, Error, RECORD};
+    /// # use yambelugo::{DA728x, Error, RECORD, Reply};
     /// # let mut record = [0; RECORD];
     /// # (record[2], record[22]) = (2, 2);
     /// # let mut driver = DA728x::from_bytes(record);
-    /// assert_eq!(driver.set_custom_drive_waveform([1, 2, 3]), Err(Error::NotSupported));
+    /// let mut session = driver.set_custom_drive_waveform([0x28, 0x5F, 0x80])?;
+    /// for bytes in [[0x25, 0x28], [0x26, 0x5F], [0x27, 0x80]] {
+    ///     assert_eq!(session.pending().unwrap().bytes(), bytes);
+    ///     session.answer(Reply::Done, &mut [])?;
+    /// }
+    /// assert!(session.completed());
+    ///
+    /// # record[22] = 0;
+    /// let mut tracking = DA728x::from_bytes(record);
+    /// assert_eq!(tracking.set_custom_drive_waveform([0; 3]), Err(Error::WrongMode));
+    /// # Ok::<(), Error>(())
     /// ```
     pub fn set_custom_drive_waveform(&mut self, points: [u8; 3]) -> Started<'_> {
         let [a, b, c] = points;

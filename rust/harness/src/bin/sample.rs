@@ -78,8 +78,8 @@ const LONGEST: usize = 4096;
 const HEAD: &str = "\
 Answers of the published Rust to random calls near the limits, refused ones among them; 24 where a
 buffer is too short for its item, its image or its lists; its InvalidValue as 21, 22 or 23 where
-document 02 tells it apart, the low two bits of TRIM4 as document 01 has them, and bit 2 of a GPI
-register as its trigger's mode.
+document 02 tells it apart, the low two bits of TRIM4 as document 01 has them, bit 2 of a GPI
+register as its trigger's mode, and custom drive points written, where the Rust has no body for it.
 Written by `scripts/remake-vectors` (rust/harness/src/bin/sample.rs), never by hand; read by the
 program `vectors`. The Rust is da728x-rs, revision REVISION, in rust/oracle, with these sums:
 SUMS
@@ -598,7 +598,7 @@ fn operation(kind: u8, random: &mut Random) -> (Operation, usize) {
         0x28 => (Operation::Enable, 1),
         0x29 => (Operation::Disable, 2),
         0x2A => {
-            (Operation::SetCustomDriveWaveform([random.byte(), random.byte(), random.byte()]), 1)
+            (Operation::SetCustomDriveWaveform([random.byte(), random.byte(), random.byte()]), 3)
         }
         0x2B => (Operation::UnlockWaveformMemory, 1),
         0x2C => (Operation::LockWaveformMemory, 1),

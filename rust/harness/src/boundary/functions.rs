@@ -57,7 +57,7 @@ functions! {
     da728x_set_timebase: 0;
     da728x_enable: 0, 15;
     da728x_disable: 0, 15;
-    da728x_set_custom_drive_waveform: 12, 14, 15;
+    da728x_set_custom_drive_waveform: 0, 12, 15;
     da728x_unlock_waveform_memory: 0;
     da728x_lock_waveform_memory: 0;
     da728x_upload_waveform_memory: 0, 8;

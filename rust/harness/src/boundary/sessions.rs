@@ -404,12 +404,17 @@ impl Session {
 impl Begun {
     /// The most and the least exchanges of a session in which none fails.
     fn most(&self) -> usize {
-        if self.function == da728x_read_waveform_memory { self.reads } else { 25 }
+        match self.function {
+            da728x_set_custom_drive_waveform => 3,
+            da728x_read_waveform_memory => self.reads,
+            _ => 25,
+        }
     }
 
     fn least(&self) -> usize {
         match self.function {
             da728x_configure => 14,
+            da728x_set_custom_drive_waveform => 3,
             da728x_read_waveform_memory => self.reads,
             _ => 1,
         }
@@ -610,6 +615,9 @@ fn plain(
     if function == da728x_set_frequency && stored {
         let band = if record[3 + 19] == 0 { 50..=300 } else { 25..=1024 };
         assert_eq!(told == 23, !band.contains(&hz), "{hz} Hz");
+    }
+    if function == da728x_set_custom_drive_waveform && stored {
+        assert_eq!(told == 12, record[3 + 19] < 2, "driving mode {}", record[3 + 19]);
     }
     told
 }
