@@ -4,13 +4,12 @@ use native.Mathlib.Omega.{arith}
 use mathlib.Core.Path.{◌≡◌, refl, sym, ap, subst}
 use mathlib.Core.Bool.{true, false, not}
 use mathlib.Core.List.{List, [], ◌∷◌, append-nil}
-use lib.Dec.{eqb}
 use lib.ListN.{length}
 use Rattle.laws.specs.Bytes.{All}
 use Rattle.field.specs.Field.{withOf}
 use Rattle.config.specs.declared.ActuatorConfig.{ActuatorConfig}
 use Rattle.config.specs.declared.DeviceConfig.{DeviceConfig}
-use Rattle.config.specs.Codes.{operationCode, drivingCode}
+use Rattle.config.specs.Codes.{operationCode}
 use Rattle.config.specs.declared.DrivingMode.TheVariants.{CUSTOM_WAVEFORM}
 use Rattle.config.specs.declared.OperationMode.TheVariants.{INACTIVE}
 use Rattle.checks.specs.Checks.{firstFailing, configureNumber, outsideBand}
@@ -32,7 +31,7 @@ use Rattle.sessions.specs.Sessions.{noImage, blank, carrying, enabled, selectSte
 use Rattle.outcome.specs.declared.Change.TheVariants.{Same}
 use Rattle.driver.specs.Operations as operation
 use Rattle.outcome.specs.Outcome.{bigEndian, changeFor}
-use Rattle.driver.specs.Operations.{Start, declines, begins, startedIn, unless, withSettings, runs, Operation, overrideChecks, drivePointChecks, drivePointSteps, numberChecks}
+use Rattle.driver.specs.Operations.{Start, declines, begins, startedIn, unless, withSettings, runs, Operation, overrideChecks, isCustom, drivePointChecks, drivePointSteps, numberChecks}
 use Rattle.driver.specs.Theorems.{Others, Each, Course, AnswersAs, InStored, Answers, allSteps}
 use Rattle.driver.proofs.Begun.{Fits, Holds, holds, no-image, no_record, valueOf, answered, counted, within, all_made}
 use Rattle.exchange.proofs.Latest.{bytesWanted}
@@ -200,7 +199,7 @@ courses =
 custom-begins : (s : Settings) (x : Start) → InStored (λ a d. d.driving_mode ≡ CUSTOM_WAVEFORM) s →
     withSettings s (λ a d. unless (firstFailing (drivePointChecks d)) x) ≡ x
 custom-begins Absent x h = absurd h
-custom-begins (Given a d) x h = λ i. unless (firstFailing ((not (eqb (drivingCode (h i)) (drivingCode CUSTOM_WAVEFORM)), 12) ∷ [])) x
+custom-begins (Given a d) x h = λ i. unless (firstFailing ((not (isCustom (h i)), 12) ∷ [])) x
 
 -- a field as wide as the register is the byte
 whole-register : (p : ℕ) → p < 256 → withOf 0 0 8 p ≡ p

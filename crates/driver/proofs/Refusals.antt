@@ -21,7 +21,7 @@ use Rattle.exchange.specs.declared.Step.{Step}
 use Rattle.exchange.specs.State.{Begun}
 use Rattle.da728x.specs.declared.Settings.{Settings}
 use Rattle.da728x.specs.declared.Settings.TheVariants.{Absent, Given}
-use Rattle.driver.specs.Operations.{Start, declines, begins, unless, withSettings, negative, overrideChecks, drivePointChecks, numberChecks}
+use Rattle.driver.specs.Operations.{Start, declines, begins, unless, withSettings, negative, overrideChecks, isCustom, drivePointChecks, numberChecks}
 use Rattle.driver.specs.Theorems.{InStored, BelowZero, BeginsUnless, Refusals}
 
 begins-unless : (n : ℕ) (b : Begun) (xs : List Step) (fs : List Fault) → OfFirst n fs → BeginsUnless (unless n (begins b xs)) fs
@@ -58,7 +58,7 @@ in-dro PWM_MODE = (λ e p. omega (arith, ap operationCode p), λ n. refl)
 in-dro RTWM_MODE = (λ e p. omega (arith, ap operationCode p), λ n. refl)
 in-dro ETWM_MODE = (λ e p. omega (arith, ap operationCode p), λ n. refl)
 
-custom : (m : DrivingMode) → (not (eqb (drivingCode m) (drivingCode CUSTOM_WAVEFORM)) ≡ true) ↔ ¬ (m ≡ CUSTOM_WAVEFORM)
+custom : (m : DrivingMode) → (not (isCustom m) ≡ true) ↔ ¬ (m ≡ CUSTOM_WAVEFORM)
 custom FREQUENCY_TRACK = (λ e p. omega (arith, ap drivingCode p), λ n. refl)
 custom WIDEBAND = (λ e p. omega (arith, ap drivingCode p), λ n. refl)
 custom CUSTOM_WAVEFORM = (λ e. absurd (false≢true e), λ n. absurd (n refl))

@@ -4,6 +4,7 @@ use Rattle.std.specs.Prelude.{ℕ, zero, suc, min, Bool, true, false, not, ◌&&
 use Rattle.registers.specs.Table.{addressOf}
 use Rattle.config.specs.declared.ActuatorConfig.{ActuatorConfig}
 use Rattle.config.specs.declared.DeviceConfig.{DeviceConfig}
+use Rattle.config.specs.declared.DrivingMode.{DrivingMode}
 use Rattle.config.specs.declared.DrivingMode.TheVariants.{CUSTOM_WAVEFORM}
 use Rattle.config.specs.declared.OperationMode.TheVariants.{INACTIVE, DRO_MODE}
 use Rattle.config.specs.declared.Variant.{Variant}
@@ -137,9 +138,12 @@ enable r = plain (withSettings r.settings (λ a d. runs r (written "TOP_CTL1" (e
 abbrev pub disable : DA728x → Operation
 disable r = plain (withSettings r.settings (λ a d. runs r (updated "TOP_CTL1" (put "OPERATION_MODE" (operationCode INACTIVE)))))
 
+abbrev pub isCustom : DrivingMode → Bool
+isCustom mode = eqb (drivingCode mode) (drivingCode CUSTOM_WAVEFORM)
+
 -- behind 15: "that the mode is CUSTOM_WAVEFORM (12)"
 abbrev pub drivePointChecks : DeviceConfig → List Check
-drivePointChecks d = (not (eqb (drivingCode d.driving_mode) (drivingCode CUSTOM_WAVEFORM)), 12) ∷ []
+drivePointChecks d = (not (isCustom d.driving_mode), 12) ∷ []
 
 -- document 02, CR 8: `set_custom_drive_waveform` "writes its three bytes to SWG_C1, SWG_C2 and SWG_C3, in that order"
 abbrev pub drivePointSteps : ℕ → ℕ → ℕ → List Step

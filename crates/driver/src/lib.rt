@@ -14,8 +14,7 @@ ghost use Rattle.std.specs.Prelude.{◌≡◌, ◌&&◌, ◌∷◌, eqb, length}
 ghost use Rattle.laws.specs.Lists.{at};
 ghost use Rattle.errors.specs.Number.{answerNumber};
 ghost use Rattle.registers.specs.Table.{addressOf};
-ghost use Rattle.config.specs.Codes.{operationCode, drivingCode};
-ghost use Rattle.config.specs.declared.DrivingMode.TheVariants.{CUSTOM_WAVEFORM};
+ghost use Rattle.config.specs.Codes.{operationCode};
 ghost use Rattle.config.specs.declared.OperationMode.TheVariants.{DRO_MODE};
 ghost use Rattle.exchange.specs.declared.Step.TheVariants.{Write};
 ghost use Rattle.exchange.specs.State.{begunIn};
@@ -268,7 +267,7 @@ pub fn set_custom_drive_waveform(driver: DA728x, points: [u8; 3], session: &mut 
 }
 
 fn is_custom(mode: DrivingMode) -> bool
-    ensures { result ≡ eqb (drivingCode mode) (drivingCode CUSTOM_WAVEFORM) }
+    ensures { result ≡ spec.isCustom mode }
 {
     let custom = DrivingMode::CUSTOM_WAVEFORM;
     mode.code() == custom.code()
