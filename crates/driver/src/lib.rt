@@ -1,13 +1,15 @@
 // Every operation of the driver (lib.rs; document 01, 'Settings to registers' and 'Exchanges'), begun as a session in bytes that the
 // caller lends; a refused one writes nothing. The `DA728x` of lib.rs is `da728x::DA728x` without its bus: it goes in by value with the
 // start and with each answer, and `answer` gives it back, changed only by the answer that completes `new` or `configure`.
-// `set_custom_drive_waveform`, which has no finished body there, writes the registers that document 02 (CR 8) names.
+// `set_custom_drive_waveform`, which has no finished body in the Rust, writes the registers that document 02 (CR 8) names.
 // Left out: the `defmt` prints.
 //
 // Proved: the answer is the papers' number and the session's bytes are those of the operation's steps (specs/Operations.antt).
-// proofs/Refusals.antt: for which fault each of the eighteen starts is refused, and by which number. proofs/Answers.antt: what is sent, in which order and how much, and what every operation answers, 16 in `new` only; custom drive points go to SWG_C1, SWG_C2 and SWG_C3. proofs/Stored.antt: the
-// record changes exactly by the answer that completes `new` or `configure`, and by none to a session that has ended or was never begun.
-// proofs/Transfers.antt: an upload sends the memory's bytes, each to its own address; a read fills the front of the buffer.
+// proofs/Refusals.antt: for which fault each of the eighteen starts is refused, and by which number. proofs/Answers.antt: what is sent, in
+// which order and how much, and what every operation answers, 16 in `new` only; the points of a custom wave go to SWG_C1, SWG_C2 and
+// SWG_C3. proofs/Stored.antt: the record changes exactly by the answer that completes `new` or `configure`, and by none to a session that
+// has ended or was never begun. proofs/Transfers.antt: an upload sends the memory's bytes, each to its own address; a read fills the front
+// of the buffer.
 #![tactic(auto)]
 
 ghost use Rattle.std.specs.Prelude.{◌≡◌, ◌&&◌, ◌∷◌, eqb, length};
