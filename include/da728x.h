@@ -273,7 +273,8 @@ size_t da728x_replace_trigger(uint8_t byte, uint8_t value, uint8_t *out, size_t 
  *
  * The usual order is da728x_new, da728x_configure, da728x_upload_waveform_memory,
  * da728x_enable, da728x_play_sequence, each a session that is run to its end. One that fails
- * is begun anew.
+ * is begun anew. For a custom waveform da728x_set_custom_drive_waveform comes behind
+ * da728x_configure and before da728x_enable.
  *
  * The record says what the driver knows of a chip: keep one for each chip, and lend it with the
  * start of every session of that chip, which only reads it, and with each answer. The answer that
@@ -295,9 +296,10 @@ size_t da728x_replace_trigger(uint8_t byte, uint8_t value, uint8_t *out, size_t 
  *                                stores its settings, although the chip has a mix of both
  *   two sessions at a time on    NO refusal: one may write back a byte that it read before the
  *   a chip                       other changed it
- *   one session buffer for two   fine, one session after the other. A start replaces a session
- *   chips                        that is under way: NO refusal, and the exchanges that were left
- *                                are not made
+ *   a start in a session that    NO refusal: it replaces that session, whose exchanges that were
+ *   is under way                 left are not made, so that the chip has a part of what was meant
+ *   one session buffer for two   fine, one session after the other
+ *   chips
  *   another chip's record, lent  the operation goes to that other chip: NO refusal
  *   with the start
  *   another chip's record, lent  NO refusal, and the record stays as it is if its address or its
@@ -309,7 +311,8 @@ size_t da728x_replace_trigger(uint8_t byte, uint8_t value, uint8_t *out, size_t 
  *   with the answer of
  *   da728x_new
  *   a record that da728x_new     NO refusal: it is what its bytes say. Zeros are a DA7280 at
- *   has not made                 address 0, and da728x_configure sets that up
+ *   has not made, or whose       address 0, and da728x_configure sets that up. A driving mode that
+ *   bytes were changed           is written into it by hand is taken for the chip's
  *   a record of another length   lent with a start: it has no settings, address 0, and is a DA7280.
  *   than DA728X_RECORD           Lent with an answer: NO refusal, and it is never written
  *   settings that are cut short  missing bytes count as 0. With up to 8 bytes it is 22 (21 for a
@@ -329,7 +332,8 @@ size_t da728x_replace_trigger(uint8_t byte, uint8_t value, uint8_t *out, size_t 
  *   a result not looked at       a session that failed has nothing pending, as one that is
  *                                completed: bit 32 of da728x_result tells them apart
  *   a chip that lost its supply  NO refusal: the record still says what was set up. Run
- *                                da728x_configure and da728x_upload_waveform_memory again
+ *                                da728x_configure and da728x_upload_waveform_memory again, and
+ *                                da728x_set_custom_drive_waveform, whose points no record holds
  *
  * A record is:
  *    0      chip address, of 7 bits, handed to the bus as it is (0x4A by the datasheet)
@@ -437,10 +441,13 @@ uint8_t da728x_enable(const uint8_t *record, size_t record_len,
 uint8_t da728x_disable(const uint8_t *record, size_t record_len,
                        uint8_t *session, size_t session_len);
 
-/* Gives the chip the three points of a wave of one's own, which it then drives the actuator
- * with: a to SWG_C1, b to SWG_C2 and c to SWG_C3, any bytes, one write each. 15 without settings,
- * then 12 unless the stored driving mode is CUSTOM_WAVEFORM. If a write fails, the chip may be
- * left with points of two waves: set all three again. */
+/* Gives the chip the three drive points of a custom waveform: a to SWG_C1, b to SWG_C2 and c to
+ * SWG_C3, one write each. They are no points of a snippet; any bytes are taken, and what a byte
+ * means is the datasheet's (5.7.6, Custom Waveform Operation). 15 without settings, then 12 unless
+ * the stored driving mode is the custom waveform, 2. Starts nothing, and the record stays: it does
+ * not hold the points. No other function writes these registers, da728x_configure included, so the
+ * chip keeps the points until they are set anew. If a write fails, it may be left with points of
+ * two waves: set all three again. */
 uint8_t da728x_set_custom_drive_waveform(const uint8_t *record, size_t record_len,
                                          uint8_t a, uint8_t b, uint8_t c,
                                          uint8_t *session, size_t session_len);

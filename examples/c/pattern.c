@@ -1,5 +1,5 @@
-/* Builds a pattern, reads it back, and plays it on a simulated DA7280; then has the chip drive
- * with a wave of one's own.
+/* Builds a pattern, reads it back, and plays it on a simulated DA7280; then sets up a custom
+ * waveform.
  *
  * C99, no heap: everything lives in arrays of known size. Whatever is not as expected is
  * told, and main then returns 1. On a unit, transfer() is your I2C driver; the rest stays. */
@@ -348,17 +348,18 @@ static void play(struct chip *chip)
     expect("RTWM, started", chip->registers[TOP_CTL1], 0x13);
 }
 
-/* A wave of one's own, for another actuator: settings for it, then its three points. */
+/* A custom waveform: settings for it, then its three drive points. */
 static void wave(struct chip *chip)
 {
-    static const uint8_t points[3] = {0x28, 0x5F, 0x80};
+    static const uint8_t points[3] = {0x28, 0x5F, 0x80}; /* made up */
     uint8_t settings[DA728X_SETTINGS];
     struct end end;
     expect("points while tracking",
            da728x_set_custom_drive_waveform(record, sizeof record, points[0], points[1], points[2],
                                             session, sizeof session), 12);
+    run_whole(chip, "disable", da728x_disable(record, sizeof record, session, sizeof session), 2);
     memcpy(settings, record + 3, sizeof settings);
-    settings[19] = 2; /* CUSTOM_WAVEFORM, without acceleration */
+    settings[19] = 2; /* custom waveform, without acceleration */
     settings[32] = 0;
     run_whole(chip, "configure for a wave", da728x_configure(record, sizeof record, settings,
                                                              sizeof settings, session,
@@ -380,6 +381,7 @@ static void wave(struct chip *chip)
                                                                points[1], points[2], session,
                                                                sizeof session), 3);
     expect_bytes("SWG_C1 to SWG_C3", chip->registers + SWG_C1, points, sizeof points);
+    run_whole(chip, "enable", da728x_enable(record, sizeof record, session, sizeof session), 1);
 }
 
 int main(void)

@@ -2,10 +2,10 @@
 //! in document 02 (CR 8), written here: SWG_C1, SWG_C2, SWG_C3, one byte each.
 
 use harness::bus::{Exchange, Script, kind};
-use harness::compared;
 use harness::driver::{Operation, Pair, Value};
 use harness::random::Random;
 use harness::settings::{DRIVINGS, OPERATIONS, Settings, VARIANTS};
+use harness::{compared, text};
 use yambelugo::{DrivingMode, OperationMode, Variant};
 
 /// A driver with settings for a custom waveform.
@@ -60,6 +60,13 @@ fn the_two_checks_in_every_mode() {
     }
     assert_eq!(refused, [3, 3 * 5 * 2]);
     compared("modes with custom drive points", written, 3 * 5);
+}
+
+/// No other operation writes the three registers: the published source does not, and the others make its exchanges.
+#[test]
+fn no_other_operation_writes_them() {
+    assert!(!text("rust/oracle/src/lib.rs").contains("SWG_C"));
+    assert!(text("rust/oracle/src/registers.rs").contains("SWG_C1"));
 }
 
 /// Every byte at each of the three places, and random points.

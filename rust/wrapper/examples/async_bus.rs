@@ -1,5 +1,5 @@
 //! Finds, configures and fills a DA7280 over an async I2C bus that fails now and then, and plays;
-//! then has the chip drive with a wave of one's own.
+//! then sets up a custom waveform.
 //!
 //! `cargo run --example async_bus`
 //!
@@ -160,12 +160,13 @@ async fn switch_on(chip: &mut Chip) -> Result<(), Error> {
     wave(chip, &mut driver).await
 }
 
-/// A wave of one's own, for another actuator: settings for it, then its three points.
+/// A custom waveform: settings for it, then its three drive points.
 async fn wave(chip: &mut Chip, driver: &mut DA728x) -> Result<(), Error> {
-    const POINTS: [u8; 3] = [0x28, 0x5F, 0x80];
+    const POINTS: [u8; 3] = [0x28, 0x5F, 0x80]; // made up
     assert_eq!(driver.set_custom_drive_waveform(POINTS), Err(Error::WrongMode));
 
-    println!("configure for a wave, and its points, of which the second is lost:");
+    println!("configure for a custom waveform, and its points, of which the second is lost:");
+    retried(chip, driver, |it| it.disable()).await?;
     let driving_mode = DrivingMode::CUSTOM_WAVEFORM;
     let device = DeviceConfig { driving_mode, acceleration: false, ..DEVICE };
     retried(chip, driver, |it| it.configure(ACTUATOR, device)).await?;
@@ -173,6 +174,7 @@ async fn wave(chip: &mut Chip, driver: &mut DA728x) -> Result<(), Error> {
     let made = retried(chip, driver, |it| it.set_custom_drive_waveform(POINTS)).await?;
     assert_eq!((made, chip.transfers), (3, 2 + 3));
     assert_eq!(chip.registers[0x25..0x28], POINTS); // SWG_C1, SWG_C2 and SWG_C3
+    retried(chip, driver, |it| it.enable()).await?;
     println!("  written");
     Ok(())
 }
@@ -284,8 +286,9 @@ fn main() {
     let (result, waits) = block_on(switch_on(&mut chip));
     assert_eq!(result, Ok(()));
     // Every transfer made the task wait once, with a session held: two of new, configure and upload
-    // with a failure each, the memory read back, enable and play, configure again and the points.
-    assert_eq!(waits, 2 + (5 + 14) + (4 + 6) + 100 + 1 + 3 + 18 + (2 + 3));
+    // with a failure each, the memory read back, enable and play; disable, configure again, the
+    // points with a failure, enable.
+    assert_eq!(waits, 2 + (5 + 14) + (4 + 6) + 100 + 1 + 3 + 2 + 18 + (2 + 3) + 1);
 
     println!("memory:");
     let task = async |chip: &mut Chip| {

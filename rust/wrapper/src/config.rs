@@ -192,7 +192,8 @@ pub enum DrivingMode {
     FREQUENCY_TRACK = 0,
     /// At a frequency that is set.
     WIDEBAND = 1,
-    /// With a waveform that is set.
+    /// With a waveform that is set
+    /// ([`set_custom_drive_waveform`](crate::DA728x::set_custom_drive_waveform)).
     CUSTOM_WAVEFORM = 2,
 }
 

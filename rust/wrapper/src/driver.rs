@@ -312,8 +312,12 @@ impl DA728x {
         self.begins(plain(ffi::da728x_disable))
     }
 
-    /// Gives the chip the three points of a wave of one's own, which it then drives the actuator with: any bytes, to SWG_C1, SWG_C2
-    /// and SWG_C3, one write each. If a write fails the chip may be left with points of two waves: set all three again.
+    /// Gives the chip the three drive points of a custom waveform: to SWG_C1, SWG_C2 and SWG_C3,
+    /// one write each. They are no [`PwlPoint`](crate::PwlPoint); any bytes are taken, and what a
+    /// byte means is the datasheet's (5.7.6, Custom Waveform Operation). Starts nothing, and the
+    /// driver does not hold the points: the chip keeps them until they are set anew, also through a
+    /// [`DA728x::configure`]. If a write fails the chip may be left with points of two waves: set
+    /// all three again.
     ///
     /// # Errors
     /// `NotConfigured`; `WrongMode` unless the stored driving mode is CUSTOM_WAVEFORM.
@@ -323,6 +327,7 @@ impl DA728x {
     /// # let mut record = [0; RECORD];
     /// # (record[2], record[22]) = (2, 2);
     /// # let mut driver = DA728x::from_bytes(record);
+    /// // on a driver that was configured for CUSTOM_WAVEFORM
     /// let mut session = driver.set_custom_drive_waveform([0x28, 0x5F, 0x80])?;
     /// for bytes in [[0x25, 0x28], [0x26, 0x5F], [0x27, 0x80]] {
     ///     assert_eq!(session.pending().unwrap().bytes(), bytes);
