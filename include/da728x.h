@@ -384,8 +384,9 @@ uint8_t da728x_new(uint8_t address, uint8_t variant,
  * that is lent with it, if that is of the same address and variant as the one lent here. If an
  * exchange fails, the chip has a part of the settings and the record stays as it was. It writes
  * no register that these settings do not name: what a custom waveform set in SEQ_CTL1, TOP_CFG4
- * and FRQ_PHASE_L stays when the chip is set up for tracking afterwards, and a trigger that is not
- * given is not turned off: one that an earlier da728x_configure gave stays in its GPI register.
+ * and FRQ_PHASE_L stays when the chip is set up for tracking afterwards, and so do its points. A
+ * trigger that is not given is not turned off: one that an earlier da728x_configure gave stays in
+ * its GPI register.
  * Settings for a custom waveform write SEQ_CTL1 anew: da728x_set_timebase has to follow them.
  * Refused with the first that holds:
  *   12  acceleration or rapid stop when not tracking
@@ -446,8 +447,9 @@ uint8_t da728x_disable(const uint8_t *record, size_t record_len,
  * means is the datasheet's (5.7.6, Custom Waveform Operation). 15 without settings, then 12 unless
  * the stored driving mode is the custom waveform, 2. Starts nothing, and the record stays: it does
  * not hold the points. No other function writes these registers, da728x_configure included, so the
- * chip keeps the points until they are set anew. If a write fails, it may be left with points of
- * two waves: set all three again. */
+ * chip keeps the points until they are set anew. They go out one by one: while it drives, if a
+ * write fails, or if the session is left half-way, it may have points of two waves. So set them
+ * before da728x_enable, and after a failure set all three again. */
 uint8_t da728x_set_custom_drive_waveform(const uint8_t *record, size_t record_len,
                                          uint8_t a, uint8_t b, uint8_t c,
                                          uint8_t *session, size_t session_len);

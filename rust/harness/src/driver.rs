@@ -315,10 +315,13 @@ impl Published {
         self.stored.is_some_and(|it| it.device.driving_mode == custom)
     }
 
-    /// Whether the published driver comes to a body that is not finished.
-    pub fn is_unfinished(&mut self, operation: &Operation) -> bool {
+    /// What the published driver panics with, where it comes to a body that is not finished; it then has made no exchange.
+    pub fn unfinished(&mut self, operation: &Operation) -> Option<String> {
         let script = Script::reading(&[0]);
-        catch_unwind(AssertUnwindSafe(|| self.run(operation, &script))).is_err()
+        let panic = catch_unwind(AssertUnwindSafe(|| self.run(operation, &script))).err()?;
+        assert_eq!(self.wire.borrow().log, []);
+        let text = panic.downcast_ref::<&str>().map(|it| it.to_string());
+        Some(text.or(panic.downcast_ref::<String>().cloned()).unwrap())
     }
 
     /// The number by which an operation is told that the published driver refuses with this one, or with none: 0.

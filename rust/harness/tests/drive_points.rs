@@ -2,8 +2,10 @@
 //! in document 02 (CR 8), written here: SWG_C1, SWG_C2, SWG_C3, one byte each.
 
 use harness::bus::{Exchange, Script, kind};
-use harness::driver::{Operation, Pair, Value};
+use harness::driver::{Operation, Pair, Value, record_bytes};
+use harness::lists::MARKER;
 use harness::random::Random;
+use harness::raw::{self, DONE, SESSION, result_word, word};
 use harness::settings::{DRIVINGS, OPERATIONS, Settings, VARIANTS};
 use harness::{compared, text};
 use yambelugo::{DrivingMode, OperationMode, Variant};
@@ -39,7 +41,7 @@ fn the_two_checks_in_every_mode() {
             None => Pair::new(0x4B, variant),
         };
         let outcome = pair.compare(&operation, &Script::reading(&[0]));
-        let unfinished = pair.published().is_unfinished(&operation);
+        let unfinished = pair.published().unfinished(&operation);
         match modes {
             None => {
                 assert_eq!((outcome.answer, outcome.made), (Err((15, None)), 0));
@@ -55,11 +57,31 @@ fn the_two_checks_in_every_mode() {
                 refused[1] += 1;
             }
         }
+        let todo = "not yet implemented: Set custom drive waveform is not yet implemented";
         let custom = matches!(modes, Some((_, DrivingMode::CUSTOM_WAVEFORM)));
-        assert_eq!(unfinished, custom, "{modes:?}");
+        assert_eq!(unfinished.as_deref(), custom.then_some(todo), "{modes:?}");
     }
     assert_eq!(refused, [3, 3 * 5 * 2]);
     compared("modes with custom drive points", written, 3 * 5);
+}
+
+/// The same by the C functions, without the wrapper.
+#[test]
+fn the_three_writes_in_c() {
+    let settings = Settings::plain(OperationMode::PWM_MODE, DrivingMode::CUSTOM_WAVEFORM);
+    let mut record = record_bytes(0x4B, Variant::DA7281, Some(&settings));
+    let mut session = [MARKER; SESSION];
+    let operation = Operation::SetCustomDriveWaveform([0x28, 0x5F, 0x80]);
+    assert_eq!(raw::start(&operation, &record, &mut session), 0);
+    for (made, wanted) in [[0x25, 0x28], [0x26, 0x5F], [0x27, 0x80]].into_iter().enumerate() {
+        let mut bytes = [MARKER; 3];
+        assert_eq!(raw::pending(&session, &mut bytes), 2 + 256 * 0x4B);
+        assert_eq!(bytes, [wanted[0], wanted[1], MARKER]);
+        let told = raw::answer(&mut record, &mut session, DONE, 0, &mut []);
+        assert_eq!(told, word(0, 0, made + 1, made == 2));
+    }
+    assert_eq!(raw::result(&session), result_word(0, 3, true));
+    assert_eq!(record, record_bytes(0x4B, Variant::DA7281, Some(&settings)));
 }
 
 /// No other operation writes the three registers: the published source does not, and the others make its exchanges.

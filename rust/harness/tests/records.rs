@@ -14,8 +14,7 @@ use harness::settings::{MEMORY_TIMEBASES, Settings, VARIANTS};
 use yambelugo::{DrivingMode, OperationMode, RECORD, Variant};
 
 /// Records that may be lent with an answer: the one of the start, others of the chip, of other chips, and of other lengths.
-fn lendable() -> Vec<Vec<u8>> {
-    let own = stored();
+fn lendable(own: [u8; RECORD]) -> Vec<Vec<u8>> {
     let mut records = vec![own, record_bytes(own[0], Variant::DA7282, None), [0; RECORD]];
     for (at, byte) in [(0, 0x4B), (0, 0), (1, 0), (1, 1), (1, 3), (1, 255), (2, 0), (2, 255)] {
         let mut other = own;
@@ -37,7 +36,7 @@ fn a_record_by_the_last_answer_only() {
     let (mut answers, mut written, mut most) = (0, 0, 0);
     for case in cases() {
         most = most.max(walk(&case, |point| {
-            for lent in lendable() {
+            for lent in lendable(case.record) {
                 let with = Point { record: lent.clone(), ..point.clone() };
                 for kind in [DONE, BYTE, FAILED] {
                     if point.ended() || kind == FAILED || point.wanted() != (kind == BYTE) {
@@ -62,7 +61,7 @@ fn a_record_by_the_last_answer_only() {
     let shortest = Settings::plain(OperationMode::DRO_MODE, DrivingMode::FREQUENCY_TRACK);
     let counts = [longest(), shortest].map(|it| walk(&case(Operation::Configure(it)), |_| {}));
     assert_eq!(counts, [25, 14]);
-    let records = lendable().len();
+    let records = lendable(stored()).len();
     compared("records lent with answers", answers, records * 3 * (EXCHANGES + CASES));
     // `new` makes all thirteen of the right length its own, of which one is so before; six are of the chip that `configure` sets up.
     compared("of these written", written, 3 * 13 + 4 * 6 - 1);
@@ -354,7 +353,7 @@ fn a_session_that_was_never_begun() {
     for session in &sessions {
         let (mut after, mut bytes) = (session.clone(), [MARKER; 40]);
         assert_eq!(raw::pending(session, &mut bytes), 0);
-        for lent in lendable() {
+        for lent in lendable(stored()) {
             let mut record = lent.clone();
             for kind in [DONE, BYTE, FAILED] {
                 let told = raw::answer(&mut record, &mut after, kind, 0x5A, &mut []);

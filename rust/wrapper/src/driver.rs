@@ -316,8 +316,9 @@ impl DA728x {
     /// one write each. They are no [`PwlPoint`](crate::PwlPoint); any bytes are taken, and what a
     /// byte means is the datasheet's (5.7.6, Custom Waveform Operation). Starts nothing, and the
     /// driver does not hold the points: the chip keeps them until they are set anew, also through a
-    /// [`DA728x::configure`]. If a write fails the chip may be left with points of two waves: set
-    /// all three again.
+    /// [`DA728x::configure`]. They go out one by one: while the chip drives, if a write fails, or if
+    /// the session is dropped half-way, it may have points of two waves. So set them before
+    /// [`DA728x::enable`], and after a failure set all three again.
     ///
     /// # Errors
     /// `NotConfigured`; `WrongMode` unless the stored driving mode is CUSTOM_WAVEFORM.
