@@ -2,12 +2,13 @@
 //! in document 02 (CR 8), written here: SWG_C1, SWG_C2, SWG_C3, one byte each.
 
 use harness::bus::{Exchange, Script, kind};
+use harness::cases::{EXCHANGES, case, cases, walk};
 use harness::driver::{Operation, Pair, Value, record_bytes};
 use harness::lists::MARKER;
 use harness::random::Random;
 use harness::raw::{self, DONE, SESSION, result_word, word};
 use harness::settings::{DRIVINGS, OPERATIONS, Settings, VARIANTS};
-use harness::{compared, text};
+use harness::{compared, drive_points};
 use yambelugo::{DrivingMode, OperationMode, Variant};
 
 /// A driver with settings for a custom waveform.
@@ -84,11 +85,25 @@ fn the_three_writes_in_c() {
     assert_eq!(record, record_bytes(0x4B, Variant::DA7281, Some(&settings)));
 }
 
-/// No other operation writes the three registers: the published source does not, and the others make its exchanges.
+/// No other operation writes the three registers: one of each, and `configure` with random settings.
 #[test]
 fn no_other_operation_writes_them() {
-    assert!(!text("rust/oracle/src/lib.rs").contains("SWG_C"));
-    assert!(text("rust/oracle/src/registers.rs").contains("SWG_C1"));
+    let mut random = Random::new(0x5C1C);
+    let settings = (0..5_000).map(|_| case(Operation::Configure(Settings::accepted(&mut random))));
+    let (mut exchanges, mut points) = (0, 0);
+    for case in cases().into_iter().chain(settings) {
+        exchanges += walk(&case, |point| {
+            let mut bytes = [MARKER; 33];
+            raw::pending(&point.session, &mut bytes);
+            if !point.ended() && drive_points::REGISTERS.contains(&bytes[0]) {
+                let own = matches!(case.operation, Some(Operation::SetCustomDriveWaveform(_)));
+                assert!(own, "{}", case.name);
+                points += 1;
+            }
+        });
+    }
+    assert!(exchanges >= EXCHANGES + 14 * 5_000, "{exchanges} exchanges");
+    compared("exchanges with the registers of drive points", points, 3);
 }
 
 /// Every byte at each of the three places, and random points.
