@@ -47,7 +47,7 @@
  *   17 I2c                  the bus failed
  *   18 NotAnImage           the builders cannot make these bytes
  *   19 OutOfTurn            an answer that does not fit the pending exchange
- *   21 InvalidVoltage       a voltage of the settings is out of range (20 is not used)
+ *   21 InvalidVoltage       a voltage of the settings is out of range
  *   22 InvalidCurrentOrImpedance
  *                           the current or the impedance of the settings is out of range
  *   23 InvalidDriveFrequency
@@ -55,6 +55,8 @@
  *                           da728x_set_frequency, is out of range
  *   24 BufferTooShort       the lent buffer is shorter than the item, the image or the lists that
  *                           go into it; no byte of it is written
+ *   28 MissingSequence      no sequence of this number is loaded: the record says how many are
+ * 20 and 25 to 27 are not used.
  */
 #ifndef DA728X_H
 #define DA728X_H
@@ -273,35 +275,52 @@ size_t da728x_replace_trigger(uint8_t byte, uint8_t value, uint8_t *out, size_t 
  *
  * The usual order is da728x_new, da728x_configure, da728x_upload_waveform_memory,
  * da728x_enable, da728x_play_sequence, each a session that is run to its end. One that fails
- * is begun anew. For a custom waveform da728x_set_custom_drive_waveform comes behind
- * da728x_configure and before da728x_enable.
+ * is begun anew. Until an upload is completed da728x_play_sequence is refused with 28. For a
+ * custom waveform da728x_set_custom_drive_waveform comes behind da728x_configure and before
+ * da728x_enable.
  *
- * The record says what the driver knows of a chip: keep one for each chip, and lend it with the
- * start of every session of that chip, which only reads it, and with each answer. The answer that
- * completes da728x_new makes the record; the answer that completes da728x_configure stores the
- * settings in it. No other call writes to it, and nothing is fetched from a session afterwards:
- * where the sessions of a chip are run one after the other, each to its end, the bytes that you
- * keep are the record in force.
+ * The record says what the driver knows of a chip: its address, its variant, its settings, and how
+ * many sequences are loaded ("the count" below). Keep one for each chip, and lend it with the start
+ * of every session of that chip and with each answer. These calls write to it:
+ *   the answer that completes    makes it, without settings and with a count of 0
+ *   da728x_new
+ *   the answer that completes    stores the settings in it; the count stays
+ *   da728x_configure
+ *   the start of an upload       sets the count to 0
+ *   each answer to an upload     sets the count to 0; the one that completes the upload, to that of
+ *                                the image. One that is refused (19) leaves it
+ * No other call does, and nothing is fetched from a session afterwards: where the sessions of a
+ * chip are run one after the other, each to its end, the bytes that you keep are the record in
+ * force.
  *
  * What a wrong use gives:
  *   a refused start, ignored     the session is as it was before. If it had ended, nothing is
  *                                pending, every answer is refused with 19, and da728x_result is
  *                                still that of the operation before: NO sign but the number
  *                                that the start returned. If it was under way, its own exchanges
- *                                go on. The refused settings are stored nowhere
+ *                                go on. The refused settings are stored nowhere, and a refused
+ *                                upload leaves the count
  *   an old session               once it has ended, every answer is refused with 19 and the
- *                                record stays: it brings back no settings. One that was left
- *                                half-way, or a copy of its bytes that was kept, goes on where it
- *                                stopped, also after others: NO refusal. A da728x_configure then
- *                                stores its settings, although the chip has a mix of both
+ *                                record stays: it brings back no settings and no count. One that
+ *                                was left half-way, or a copy of its bytes that was kept, goes on
+ *                                where it stopped, also after others: NO refusal. A
+ *                                da728x_configure then stores its settings, although the chip has
+ *                                a mix of both. An upload sets the count to 0 and, once it is
+ *                                completed, to that of its own image, although the memory may
+ *                                have bytes of a later one. A da728x_play_sequence or
+ *                                da728x_select_sequence that was begun before an upload still
+ *                                sends its number
  *   two sessions at a time on    NO refusal: one may write back a byte that it read before the
  *   a chip                       other changed it
  *   a start in a session that    NO refusal: it replaces that session, whose exchanges that were
  *   is under way                 left are not made, so that the chip has a part of what was meant
+ *   an upload that is not run    the count stays 0, and da728x_select_sequence and
+ *   to its end                   da728x_play_sequence are refused with 28 until an upload is
+ *                                completed, also if nothing was sent
  *   one session buffer for two   fine, one session after the other
  *   chips
- *   another chip's record, lent  the operation goes to that other chip: NO refusal
- *   with the start
+ *   another chip's record, lent  the operation goes to that other chip: NO refusal. An upload sets
+ *   with the start               the count of the record that is lent to 0
  *   another chip's record, lent  NO refusal, and the record stays as it is if its address or its
  *   with the last answer of      variant is another: the chip is set up, but its record has no
  *   da728x_configure             new settings. Run da728x_configure again. (Chips on two buses
@@ -310,11 +329,22 @@ size_t da728x_replace_trigger(uint8_t byte, uint8_t value, uint8_t *out, size_t 
  *   another chip's record, lent  NO refusal: these bytes become the record of the new chip
  *   with the answer of
  *   da728x_new
+ *   another chip's record, lent  NO refusal, and the record stays as it is if its address is
+ *   with an answer of an upload  another. If it was the last answer, the chip has the image, but
+ *                                the count of its own record stays 0: every select and play is
+ *                                refused with 28. Upload again. (Chips on two buses may have the
+ *                                same address: then the count goes to the record that is lent)
+ *   a copy of the record         NO refusal: an upload sets the count of the bytes that are lent.
+ *                                Lent with the start, the copy has a count of 0, and the record
+ *                                keeps its own until it is lent with an answer. A copy that is
+ *                                never lent says what was loaded before
  *   a record that da728x_new     NO refusal: it is what its bytes say. Zeros are a DA7280 at
- *   has not made, or whose       address 0, and da728x_configure sets that up. A driving mode that
- *   bytes were changed           is written into it by hand is taken for the chip's
- *   a record of another length   lent with a start: it has no settings, address 0, and is a DA7280.
- *   than DA728X_RECORD           Lent with an answer: NO refusal, and it is never written
+ *   has not made, or whose       address 0, and da728x_configure sets that up. A driving mode or a
+ *   bytes were changed           count that is written into it by hand is taken for the chip's
+ *   a record of another length   lent with a start: it has no settings, address 0, a count of 0,
+ *   than DA728X_RECORD           and is a DA7280. Lent with an answer: NO refusal. It is never
+ *                                written: also after an upload every select and play is refused
+ *                                with 28
  *   settings that are cut short  missing bytes count as 0. With up to 8 bytes it is 22 (21 for a
  *                                voltage above 6000 mV), with 9 to 11 it is 23 (or the 21 or 22
  *                                that is tested before it); with 12 or more there may be NO
@@ -331,17 +361,31 @@ size_t da728x_replace_trigger(uint8_t byte, uint8_t value, uint8_t *out, size_t 
  *   has written                  completed. Clear a session before its first use
  *   a result not looked at       a session that failed has nothing pending, as one that is
  *                                completed: bit 32 of da728x_result tells them apart
- *   a chip that lost its supply  NO refusal: the record still says what was set up. Run
- *                                da728x_configure and da728x_upload_waveform_memory again, and
+ *   bytes that are no image,     NO refusal: the count is byte 1 of what is uploaded, whatever the
+ *   uploaded                     rest is, and 0 where there is none. Ask da728x_read_counts first
+ *   a memory that is unlocked    NO refusal, and the count stays. Write it by
+ *   and written by other means   da728x_upload_waveform_memory alone
+ *   a selection from before an   NO refusal: da728x_start_sequence starts what the chip has
+ *   upload                       selected, also if the new image has no such sequence. Select anew
+ *   a trigger's sequence number  NO refusal: it is not held against the count. See that the image
+ *   that the image has not       has the sequences of all triggers
+ *   a chip that lost its supply  NO refusal: the record still says what was set up, and its count
+ *                                what was loaded. Run da728x_configure and
+ *                                da728x_upload_waveform_memory again, and
  *                                da728x_set_custom_drive_waveform, whose points no record holds
+ *   a record kept over a reset   NO refusal: it says what was set up and loaded when its bytes were
+ *                                kept, also if an upload was begun since
  *
  * A record is:
  *    0      chip address, of 7 bits, handed to the bus as it is (0x4A by the datasheet)
  *    1      variant: 0 DA7280, 1 DA7281, 2 DA7282
- *    2      2 if settings are stored (above 2 counts as 2), else 1 (0 counts as 1) and the rest
- *           is 0
+ *    2      2 if settings are stored (above 2 counts as 2), else 1 (0 counts as 1) and bytes 3 to
+ *           36 are 0
  *    3..36  the settings
- * A record of another length has no settings, address 0 and is a DA7280. Settings are:
+ *   37      the count: how many sequences the image has that was uploaded last, if that upload was
+ *           completed, else 0. It is kept without settings too
+ * A record of another length has no settings, address 0, a count of 0, and is a DA7280. Settings
+ * are:
  *    0      actuator type: 0 LRA, 1 ERM
  *    1, 2   nominal voltage in mV, at most 5990; here and below the low byte first
  *    3, 4   absolute voltage in mV, at most 5990
@@ -366,17 +410,19 @@ size_t da728x_replace_trigger(uint8_t byte, uint8_t value, uint8_t *out, size_t 
  * Missing bytes of settings count as 0 and further ones are ignored. A code past the
  * last counts as the last; a flag is set unless it is 0. DRO plays the override value, PWM an
  * input pin, RTWM a sequence that is started over the bus, ETWM one that a trigger starts. */
-#define DA728X_SESSION 279
-#define DA728X_RECORD 37
+#define DA728X_SESSION 280
+#define DA728X_RECORD 38
 #define DA728X_SETTINGS 34
 
 /* Each of these starts an operation, from a record (da728x_new: from an address and a variant).
  * Returns 0, and the session is begun if it has DA728X_SESSION bytes (one of another length
- * stays). Or the number of the refusal, and the session stays as it was.
+ * stays). Or the number of the refusal, and the session stays as it was. The record stays, but for
+ * the count at an upload.
  *
  * Reads CHIP_REV, which has to be that of the variant (0xBA, 0xCA, 0xDA; da728x_answer tells
  * 16 otherwise). The answer that is told 0 makes the record, whatever its bytes were: it has this
- * address and variant and no settings. Never refused. */
+ * address and variant, no settings and a count of 0, also if the memory still has an image: upload
+ * it again. Never refused. */
 uint8_t da728x_new(uint8_t address, uint8_t variant,
                    uint8_t *session, size_t session_len);
 
@@ -404,7 +450,8 @@ uint8_t da728x_new(uint8_t address, uint8_t variant,
  * two lines each: look at both. (12 and 23 may also mean that the driving mode is not the one that
  * was meant.)
  * The settings are stored as they are understood, so their bytes may differ from those lent: a
- * code past the last as the last, a flag as 1, PID words and triggers that are not given as 0. */
+ * code past the last as the last, a flag as 1, PID words and triggers that are not given as 0. The
+ * count stays. */
 uint8_t da728x_configure(const uint8_t *record, size_t record_len,
                          const uint8_t *settings, size_t settings_len,
                          uint8_t *session, size_t session_len);
@@ -464,8 +511,14 @@ uint8_t da728x_lock_waveform_memory(const uint8_t *record, size_t record_len,
  * of its bytes, and locks it if lock_after is not 0: 6 exchanges for a hundred bytes and the
  * lock. 8 for more than 100 bytes. The bytes go out as they are: it is da728x_read_counts that
  * tells whether they are an image. The session keeps a copy of them. If an exchange fails, the
- * memory may be unlocked and hold a part of each image: upload again before playing. */
-uint8_t da728x_upload_waveform_memory(const uint8_t *record, size_t record_len,
+ * memory may be unlocked and hold a part of each image: upload again before playing.
+ * The start sets the count of the record to 0, unless it is refused, or the record or the session
+ * is of another length. So does each answer that is taken (da728x_answer says of which records);
+ * that to the last exchange, the lock's if it is asked for, sets it to byte 1 of what was uploaded,
+ * which in an image is how many sequences it has (0 if there is no byte 1). So after a failure, or
+ * if the session is left half-way, da728x_select_sequence and da728x_play_sequence are refused with
+ * 28 until an upload is completed. No other byte of the record changes. */
+uint8_t da728x_upload_waveform_memory(uint8_t *record, size_t record_len,
                                       const uint8_t *image, size_t image_len, uint8_t lock_after,
                                       uint8_t *session, size_t session_len);
 
@@ -477,8 +530,10 @@ uint8_t da728x_read_waveform_memory(const uint8_t *record, size_t record_len,
                                     uint8_t *session, size_t session_len);
 
 /* Selects a sequence, 0 for the first that was added, and how often it loops (0 plays it
- * once); starts the one selected; both. 11 for a sequence number or a loop count above 15;
- * da728x_start_sequence is never refused. That the chip has such a sequence is not checked. */
+ * once); starts the one selected; both. da728x_select_sequence and da728x_play_sequence are
+ * refused with 11 for a sequence number or a loop count above 15, then with 28 for a sequence
+ * number that is not below the count of the record: so for every number until an upload is
+ * completed. da728x_start_sequence does not look at the count, and is never refused. */
 uint8_t da728x_select_sequence(const uint8_t *record, size_t record_len,
                                uint8_t sequence_id, uint8_t loops,
                                uint8_t *session, size_t session_len);
@@ -509,13 +564,17 @@ uint32_t da728x_pending(const uint8_t *session, size_t session_len,
  *   19  the answer does not fit, nothing is pending, or the session reads memory and buffer_len
  *       is not what was said at its start: nothing changes, and what was pending still is;
  *   17  the bus failed, and 16  the chip is of another variant (in da728x_new only): the
- *       session has ended, what was sent stands, and the record stays as it was;
+ *       session has ended, what was sent stands, and the record stays as it was, but for the
+ *       count at an upload;
  *    0  the exchange was made. A byte of memory is stored at its own index of buffer; no
  *       other byte of buffer changes, and none in any other case.
  * If it was the last exchange of da728x_new, the record is made; if it was the last of
  * da728x_configure, the settings are stored in the record, where it is of the chip that the
- * session was started for (a variant code above 2 is then written as 2). In every other case,
- * and if record_len is not DA728X_RECORD, no byte of record changes.
+ * session was started for (a variant code above 2 is then written as 2; the count stays). If the
+ * session is an upload, every answer but a refused one (19) writes the count, byte 37, where the
+ * record has the address that the upload goes to (its variant does not matter): that of the image
+ * if this was the last exchange, else 0, also at 17. In every other case, and if record_len is not
+ * DA728X_RECORD, no byte of record changes.
  * Where no memory is read buffer may be of any length. */
 uint32_t da728x_answer(uint8_t *record, size_t record_len, uint8_t *session, size_t session_len,
                        uint8_t kind, uint8_t byte, uint8_t *buffer, size_t buffer_len);

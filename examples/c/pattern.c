@@ -300,7 +300,13 @@ static uint8_t begin_upload(const uint8_t image[DA728X_IMAGE])
                                          sizeof session);
 }
 
-/* The bus loses the third exchange: the chip then has 32 bytes of the image and is unlocked. */
+static uint8_t begin_play(uint8_t sequence_id, uint8_t loops)
+{
+    return da728x_play_sequence(record, sizeof record, sequence_id, loops, session, sizeof session);
+}
+
+/* The bus loses the third exchange: the chip then has 32 bytes of the image and is unlocked. The
+ * count of sequences, byte 37 of the record, is 0 until an upload is completed. */
 static void upload(struct chip *chip, const uint8_t image[DA728X_IMAGE])
 {
     struct end end;
@@ -314,12 +320,15 @@ static void upload(struct chip *chip, const uint8_t image[DA728X_IMAGE])
     expect_bytes("the memory's front", chip->registers + SNP_MEM_0, image, 32);
     expect("the memory behind", chip->registers[SNP_MEM_0 + 32], 0xFF);
     expect("unlocked", chip->registers[MEM_CTL2], 0x80);
+    expect("sequences after a failure", record[37], 0);
+    expect("playing after a failure", begin_play(0, 0), 28);
     printf("upload: the bus failed with code %u at exchange %u; begun anew\n", end.code, end.made);
 
     chip->fails_at = 0;
     run_whole(chip, "upload", begin_upload(image), 6);
     expect_bytes("the chip's memory", chip->registers + SNP_MEM_0, image, DA728X_IMAGE);
     expect("locked", chip->registers[MEM_CTL2], 0);
+    expect("sequences loaded", record[37], 2);
 }
 
 /* What the chip itself says that its memory holds. */
@@ -339,11 +348,13 @@ static void verify(struct chip *chip, const uint8_t image[DA728X_IMAGE])
 
 static void play(struct chip *chip)
 {
+    uint8_t refused;
     run_whole(chip, "enable", da728x_enable(record, sizeof record, session, sizeof session), 1);
-    expect("sequence 16", da728x_play_sequence(record, sizeof record, 16, 0, session,
-                                               sizeof session), 11);
-    run_whole(chip, "play", da728x_play_sequence(record, sizeof record, 1, 2, session,
-                                                 sizeof session), 3);
+    expect("sequence 16", begin_play(16, 0), 11);
+    refused = begin_play(2, 2);
+    expect("sequence 2, which the image has not", refused, 28);
+    printf("play: no sequence 2, refused with %u\n", refused);
+    run_whole(chip, "play", begin_play(1, 2), 3);
     expect("sequence 1, two loops", chip->registers[SEQ_CTL2], 0x21);
     expect("RTWM, started", chip->registers[TOP_CTL1], 0x13);
 }
@@ -364,6 +375,7 @@ static void wave(struct chip *chip)
     run_whole(chip, "configure for a wave", da728x_configure(record, sizeof record, settings,
                                                              sizeof settings, session,
                                                              sizeof session), 18);
+    expect("sequences after configure", record[37], 2);
 
     /* A write is lost: the chip has the first new point alone, so all three are set again. */
     chip->transfers = 0;

@@ -1,7 +1,10 @@
 -- No word misleads: of every exported function of this crate that answers with several numbers in one, the word gives each of them back.
 -- The record that an answer writes is the changed one, and an upload is that of the bytes that were handed in.
-use Rattle.std.specs.Prelude.{ℕ, ◌-◌, ◌^◌, ◌/◌, ◌%◌, ◌≤◌, ◌<◌, ◌≡◌, Bool, ◌⊎◌, List, ◌++◌, eqb, length, take, replicate}
+use Rattle.std.specs.Prelude.{ℕ, ◌-◌, ◌^◌, ◌/◌, ◌%◌, ◌≤◌, ◌<◌, ◌≡◌, Bool, ◌⊎◌, List, [], ◌∷◌, ◌++◌, eqb, length, take, replicate}
 use Rattle.laws.specs.Bytes.{Bytes}
+use Rattle.laws.specs.Lists.{at}
+use Rattle.config.specs.declared.Variant.TheVariants.{DA7280}
+use Rattle.da728x.specs.declared.Settings.TheVariants.{Absent}
 use Rattle.field.specs.Field.{codeOf}
 use Rattle.memory.specs.Memory.{memory}
 use Rattle.exchange.specs.declared.Reply.TheVariants.{Done, Byte, Failed}
@@ -10,7 +13,7 @@ use Rattle.exchange.specs.Turn.{pendingOf, reportOf}
 use Rattle.da728x.specs.declared.DA728x.{DA728x}
 use Rattle.da728x.specs.Record.{recordAt}
 use Rattle.outcome.specs.declared.Change.{Change}
-use Rattle.outcome.specs.declared.Change.TheVariants.{Same}
+use Rattle.outcome.specs.declared.Change.TheVariants.{Same, Sequences}
 use Rattle.outcome.specs.Outcome.{outcomeOf, recordBy}
 use Rattle.driver.specs.Operations.{declines, uploadWaveformMemory}
 use Rattle.capi_driver.specs.Words.{exchangeWord, replyOf, reportWord, recordOut, resultWord, uploadOf}
@@ -25,13 +28,18 @@ pub record Telling : Type 0 where
       (word % 256 ≡ t.number) × (word / 256 % 256 ≡ t.code) × (word / 65536 % 256 ≡ t.made) × (word / 2 ^ 24 ≡ codeOf t.ended)
   -- what the bus answered: 0 done, 1 a byte, any other kind a failure with its code
   pub replies : (kind byte : ℕ) → (replyOf 0 byte ≡ Done) × (replyOf 1 byte ≡ Byte byte) × (2 ≤ kind → replyOf kind byte ≡ Failed byte)
-  -- the record that it writes: 37 bytes then hold what the change makes of the record in them; other lengths stay, and one that is left keeps its bytes
-  pub records : (l : List ℕ) (c : Change) → length l ≡ 37 → recordAt (recordOut l c) ≡ recordBy (recordAt l) c
-  pub spared : (l : List ℕ) (c : Change) → (¬ (length l ≡ 37)) ⊎ (c ≡ Same) → recordOut l c ≡ l
+  -- the record that it writes, as a start does: 38 bytes then hold what the change makes of the record in them; other lengths stay, and one that is left
+  -- keeps its bytes; another count is in the last byte, and the other 37 stay, whatever they are
+  pub records : (l : List ℕ) (c : Change) → length l ≡ 38 → recordAt (recordOut l c) ≡ recordBy (recordAt l) c
+  pub spared : (l : List ℕ) (c : Change) → (¬ (length l ≡ 38)) ⊎ (c ≡ Same) → recordOut l c ≡ l
+  -- bytes of another length are no record: no sequences, whatever they are
+  pub none : (l : List ℕ) → ¬ (length l ≡ 38) → recordAt l ≡ record { address = 0; variant = DA7280; settings = Absent; sequences = 0 }
+  pub counted : (l : List ℕ) (n : ℕ) → length l ≡ 38 → recordOut l (Sequences n) ≡ take 37 l ++ (n ∷ [])
   -- da728x_result
   pub results : (st : List ℕ) → Bytes st → let o = outcomeOf st in let word = resultWord o in
       (word % 2 ^ 24 ≡ o.value) × (word / 2 ^ 24 % 256 ≡ o.made) × (word / 2 ^ 32 ≡ codeOf o.completed)
-  -- da728x_upload_waveform_memory: 8 for more than a hundred bytes; else the driver's upload of a memory that shows just these
+  -- da728x_upload_waveform_memory: 8 for more than a hundred bytes; else the driver's upload of a memory that shows just these, with as many sequences as
+  -- byte 1 says, 0 where there is none
   pub full : (r : DA728x) (image : List ℕ) (lockAfter : Bool) → 100 < length image → uploadOf r image lockAfter ≡ declines 8
-  pub uploads : (r : DA728x) (image : List ℕ) (lockAfter : Bool) → length image ≤ 100 → let m = memory (image ++ replicate (100 - length image) 0) (length image) 0 0 in
-      (uploadOf r image lockAfter ≡ (uploadWaveformMemory r m lockAfter).start) × (take m.len m.«data» ≡ image) × (length m.«data» ≡ 100)
+  pub uploads : (r : DA728x) (image : List ℕ) (lockAfter : Bool) → length image ≤ 100 → let m = memory (image ++ replicate (100 - length image) 0) (length image) (at image 0) (at image 1) in
+      (uploadOf r image lockAfter ≡ (uploadWaveformMemory r m lockAfter).start) × (take m.len m.«data» ≡ image) × (length m.«data» ≡ 100) × (m.num_sequences ≡ at image 1)

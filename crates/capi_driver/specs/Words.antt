@@ -1,6 +1,8 @@
 -- What the functions exported for C answer as one number, and how they take what the bus answered and the bytes to upload: document 01,
--- "functions exported for C on numbers and byte slices"; "The count of exchanges made stands in every session result"; "8 also for `from_bytes`".
-use Rattle.std.specs.Prelude.{ℕ, ◌+◌, ◌-◌, ◌*◌, Bool, cond, List, [], ◌∷◌, ◌++◌, eqb, length, get_or, replicate}
+-- "functions exported for C on numbers and byte slices"; "The count of exchanges made stands in every session result"; "8 also for `from_bytes`";
+-- document 02, CR 10.
+use Rattle.std.specs.Prelude.{ℕ, ◌+◌, ◌-◌, ◌*◌, Bool, cond, List, [], ◌∷◌, ◌++◌, eqb, length, set, get_or, replicate}
+use Rattle.laws.specs.Lists.{at}
 use Rattle.field.specs.Field.{codeOf}
 use Rattle.memory.specs.Memory.{loaded}
 use Rattle.da728x.specs.declared.DA728x.{DA728x}
@@ -10,7 +12,7 @@ use Rattle.exchange.specs.declared.Reply.{Reply}
 use Rattle.exchange.specs.declared.Reply.TheVariants.{Done, Byte, Failed}
 use Rattle.exchange.specs.Turn.{Report}
 use Rattle.outcome.specs.declared.Change.{Change}
-use Rattle.outcome.specs.declared.Change.TheVariants.{Same, To}
+use Rattle.outcome.specs.declared.Change.TheVariants.{Same, To, Sequences}
 use Rattle.outcome.specs.declared.Outcome.{Outcome}
 use Rattle.driver.specs.Operations.{Start, unless, uploadWaveformMemory}
 
@@ -26,17 +28,19 @@ replyOf kind byte = get_or (Done ∷ Byte byte ∷ []) kind (Failed byte)
 unfoldable pub reportWord : Report → ℕ
 reportWord t = t.number + 256 * t.code + 65536 * t.made + 16777216 * codeOf t.ended
 
--- the caller's record afterwards: bytes of another length stay as they are
+-- the caller's record afterwards: bytes of another length stay as they are, and another count alone moves no other byte
 abbrev pub recordOut : List ℕ → Change → List ℕ
 recordOut l Same = l
-recordOut l (To r) = cond (eqb (length l) 37) (recordBytes r) l
+recordOut l (To r) = cond (eqb (length l) 38) (recordBytes r) l
+recordOut l (Sequences n) = cond (eqb (length l) 38) (set l 37 n) l
 
 -- what the operation answers, the count, and whether every exchange was made
 unfoldable pub resultWord : Outcome → ℕ
 resultWord o = o.value + 16777216 * o.made + 4294967296 * codeOf o.completed
 
--- an upload of bytes: refused as `from_bytes` refuses them, with 8 for more than a hundred
+-- an upload of bytes: refused as `from_bytes` refuses them, with 8 for more than a hundred; the numbers of snippets and of sequences are the image's
+-- first two bytes, 0 where it has none
 unfoldable pub uploadOf : DA728x → List ℕ → Bool → Start
 uploadOf r image lockAfter =
-    let m = loaded (image ++ replicate (100 - length image) 0) (length image) 0 0 in
+    let m = loaded (image ++ replicate (100 - length image) 0) (length image) (at image 0) (at image 1) in
     unless m.number (uploadWaveformMemory r m.builder lockAfter).start

@@ -1,12 +1,14 @@
--- A record is what its bytes give back, and they are 37; the same for the settings alone. Assumes nothing.
-use mathlib.Core.Path.{◌≡◌, refl, ap, ◌∙◌}
+-- A record is what its bytes give back, and they are 38; the same for the settings alone. Assumes nothing.
+use mathlib.Core.Path.{◌≡◌, refl, sym, ap, ◌∙◌}
 use mathlib.Core.Bool.{Bool, true, false}
-use mathlib.Core.List.{List, [], ◌∷◌, ◌++◌}
+use mathlib.Core.List.{List, [], ◌∷◌, ◌++◌, append_assoc}
 use Prim.Native.Nat.{ℕ, suc, ◌+◌, ◌*◌, ◌/◌, ◌%◌}
 use native.Mathlib.Omega.{arith}
 use lib.Dec.{ltb}
-use lib.ListN.{length, get_or}
+use lib.ListN.{length, get_or, length-append}
+use lib.Seq.{get_or-append_seam}
 use borrow.Author.Tests.{eq-eqb}
+use Rattle.laws.specs.Lists.{at}
 use Rattle.field.specs.Field.{codeOf}
 use Rattle.config.specs.declared.ActuatorConfig.{ActuatorConfig}
 use Rattle.config.specs.declared.DeviceConfig.{DeviceConfig}
@@ -126,14 +128,16 @@ actuator-config-kept a r =
       pid_Kp_Ki = pid-kept a.pid_Kp_Ki r i;
     }
 
-device-kept : (d : DeviceConfig) → deviceConfigAt (deviceBytes d) 0 ≡ d
-device-kept d =
-    let flags = codeOf d.acceleration ∷ codeOf d.rapid_stop ∷ [] in
+device-kept : (d : DeviceConfig) (r : List ℕ) → deviceConfigAt (deviceBytes d ++ r) 0 ≡ d
+device-kept d r =
+    let flags = codeOf d.acceleration ∷ codeOf d.rapid_stop ∷ r in
     let third = triggerBytes d.gpi_trigger_2 ++ flags in
     let second = triggerBytes d.gpi_trigger_1 ++ third in
     let flag : (i : ℕ) → get_or (triggerBytes d.gpi_trigger_0 ++ second) (later (later (later i))) 0 ≡ get_or flags i 0 =
     λ i. byte-after d.gpi_trigger_0 second (later (later i)) ∙ byte-after d.gpi_trigger_1 third (later i) ∙ byte-after d.gpi_trigger_2 flags i in
-    λ i. record {
+    let laid : deviceBytes d ++ r ≡ operationCode d.operation_mode ∷ drivingCode d.driving_mode ∷ (triggerBytes d.gpi_trigger_0 ++ second) = simp append_assoc in
+    ap (λ (l : List ℕ). deviceConfigAt l 0) laid
+    ∙ λ i. record {
       operation_mode = operation-kept d.operation_mode i;
       driving_mode = driving-kept d.driving_mode i;
       gpi_trigger_0 = trigger-kept d.gpi_trigger_0 second i;
@@ -144,22 +148,29 @@ device-kept d =
       rapid_stop = (ap (ltb 0) (flag 1) ∙ flag-kept d.rapid_stop) i;
     }
 
--- a device's settings, after an actuator's
-pub device-config-kept : (a : ActuatorConfig) (d : DeviceConfig) → deviceConfigAt (actuatorBytes a ++ deviceBytes d) 18 ≡ d
-device-config-kept a d = after-pid a.pid_Kp_Ki (deviceBytes d) ∙ device-kept d
+-- a device's settings, after an actuator's, whatever stands after them
+pub device-config-kept : (a : ActuatorConfig) (d : DeviceConfig) (r : List ℕ) → deviceConfigAt (actuatorBytes a ++ (deviceBytes d ++ r)) 18 ≡ d
+device-config-kept a d r = after-pid a.pid_Kp_Ki (deviceBytes d ++ r) ∙ device-kept d r
 
 -- ---- the record
 
-pub record-length : (r : DA728x) → length (recordBytes r) ≡ 37
-unfolding recordBytes
-record-length r = go r.settings where
-  go : (s : Settings) → suc (suc (length (settingsBytes s))) ≡ 37
-  go Absent = refl
-  go (Given a d) = simp (pid-length, trigger-length)
+settings-length : (s : Settings) → length (settingsBytes s) ≡ 35
+settings-length Absent = refl
+settings-length (Given a d) = simp (pid-length, trigger-length)
 
-settings-kept : (x y : ℕ) (s : Settings) → settingsAt (x ∷ y ∷ settingsBytes s) ≡ s
-settings-kept x y Absent = refl
-settings-kept x y (Given a d) = λ i. Given (actuator-config-kept a (deviceBytes d) i) (device-config-kept a d i)
+pub record-length : (r : DA728x) → length (recordBytes r) ≡ 38
+unfolding recordBytes
+record-length r = simp length-append (omega (arith, settings-length r.settings))
+
+settings-kept : (x y : ℕ) (s : Settings) (r : List ℕ) → settingsAt (x ∷ y ∷ (settingsBytes s ++ r)) ≡ s
+settings-kept x y Absent r = refl
+settings-kept x y (Given a d) r =
+    let laid : settingsBytes (Given a d) ++ r ≡ 2 ∷ (actuatorBytes a ++ (deviceBytes d ++ r)) = ap (λ (l : List ℕ). 2 ∷ l) (append_assoc (actuatorBytes a) (deviceBytes d) r) in
+    ap (λ (l : List ℕ). settingsAt (x ∷ y ∷ l)) laid ∙ λ i. Given (actuator-config-kept a (deviceBytes d ++ r) i) (device-config-kept a d r i)
+
+-- the last byte
+sequences-kept : (s : Settings) (n : ℕ) → at (settingsBytes s ++ (n ∷ [])) 35 ≡ n
+sequences-kept s n = ap (at (settingsBytes s ++ (n ∷ []))) (sym (settings-length s)) ∙ get_or-append_seam (settingsBytes s) n [] 0
 
 -- what `from_bytes` makes of what `to_bytes` made
 pub record-kept : (r : DA728x) → recordAt (recordBytes r) ≡ r
@@ -169,5 +180,6 @@ record-kept r =
     (λ i. record {
       address = r.address;
       variant = variant-kept r.variant i;
-      settings = settings-kept r.address (variantCode r.variant) r.settings i;
+      settings = settings-kept r.address (variantCode r.variant) r.settings (r.sequences ∷ []) i;
+      sequences = sequences-kept r.settings r.sequences i;
     })

@@ -1,10 +1,11 @@
--- Document 01, 'Rust forms without a counterpart': "the record in and out by value"; the layout is ours.
--- The driver record as 37 bytes: chip address, variant, 1 for a record without settings or 2 where settings are stored, then the
--- settings. Numbers of two bytes have the least byte first; choices are their codes. Read back, a third byte above 1 says that settings are
--- stored, and a flag is set by any byte but 0. Bytes of another length, and zeros, are a DA7280 at address 0
--- without settings.
+-- Document 01, 'Rust forms without a counterpart': "the record in and out by value"; document 02, CR 10: it "gains the sequence count of the last
+-- wholly uploaded image". The layout is ours.
+-- The driver record as 38 bytes: chip address, variant, 1 for a record without settings or 2 where settings are stored, then the
+-- settings, and last the count. Numbers of two bytes have the least byte first; choices are their codes. Read back, a third byte above 1 says
+-- that settings are stored, and a flag is set by any byte but 0. Bytes of another length, and zeros, are a DA7280 at address 0
+-- without settings and without sequences.
 --   3 actuator type, 4 nominal mV, 6 absolute mV, 8 current mA, 10 impedance mOhm, 12 inductance µH, 14 frequency Hz,
---   16 PID words given, 17 Kp, 19 Ki, 21 operation mode, 22 driving mode, 23 27 31 three triggers, 35 acceleration, 36 rapid stop;
+--   16 PID words given, 17 Kp, 19 Ki, 21 operation mode, 22 driving mode, 23 27 31 three triggers, 35 acceleration, 36 rapid stop, 37 sequences;
 --   a trigger: given, sequence number, polarity, mode
 use Rattle.std.specs.Prelude.{ℕ, ◌+◌, ◌*◌, ◌/◌, ◌%◌, cond, List, [], ◌∷◌, ◌++◌, ltb, eqb, length, replicate}
 use Rattle.laws.specs.Lists.{at}
@@ -50,7 +51,7 @@ settingsBytes Absent = 1 ∷ replicate 34 0
 settingsBytes (Given a d) = 2 ∷ (actuatorBytes a ++ deviceBytes d)
 
 unfoldable pub recordBytes : DA728x → List ℕ
-recordBytes r = r.address ∷ variantCode r.variant ∷ settingsBytes r.settings
+recordBytes r = r.address ∷ variantCode r.variant ∷ (settingsBytes r.settings ++ (r.sequences ∷ []))
 
 -- ---- from bytes to a record
 
@@ -96,9 +97,9 @@ settingsAt l = cond (ltb 1 (at l 2)) (Given (actuatorConfigAt l 3) (deviceConfig
 
 unfoldable pub recordAt : List ℕ → DA728x
 recordAt l =
-    cond (eqb (length l) 37) (record { address = at l 0; variant = variantAt (at l 1); settings = settingsAt l })
-    (record { address = 0; variant = DA7280; settings = Absent })
+    cond (eqb (length l) 38) (record { address = at l 0; variant = variantAt (at l 1); settings = settingsAt l; sequences = at l 37 })
+    (record { address = 0; variant = DA7280; settings = Absent; sequences = 0 })
 
--- its chip alone: address and variant
+-- all but its settings
 abbrev pub chipAt : List ℕ → DA728x
-chipAt l = record { address = (recordAt l).address; variant = (recordAt l).variant; settings = Absent }
+chipAt l = let r = recordAt l in record { address = r.address; variant = r.variant; settings = Absent; sequences = r.sequences }

@@ -1,4 +1,4 @@
-// The driver record (`DA728x` of lib.rs, without the bus) and its 37 bytes, in which a caller keeps it. Document 01, 'Rust forms without a
+// The driver record (`DA728x` of lib.rs, without the bus) and its 38 bytes, in which a caller keeps it. Document 01, 'Rust forms without a
 // counterpart': "the record in and out by value". The two `Option`s of lib.rs are one enum, since both are stored together.
 // Proved: each function equals its definition in specs/Record.antt, for any bytes; proofs/Kept.antt: a record is what its bytes give back.
 // Left out: the bus, which stays the caller's; the operations are in `driver`.
@@ -12,7 +12,7 @@ use config::{
     TriggerConfig, TriggerMode, TriggerPolarity, Variant,
 };
 
-pub const RECORD_SIZE: usize = 37;
+pub const RECORD_SIZE: usize = 38;
 
 #[derive(Clone, Copy)]
 pub enum Settings {
@@ -25,6 +25,8 @@ pub struct DA728x {
     pub address: u8,
     pub variant: Variant,
     pub settings: Settings,
+    // How many sequences the last wholly uploaded image has; 0 while none is.
+    pub sequences: u8,
 }
 
 impl DA728x {
@@ -35,8 +37,8 @@ impl DA728x {
         let variant = self.variant;
         let settings = self.settings;
         match settings {
-            Settings::Absent => blank(self.address, variant.code()),
-            Settings::Given(a, d) => filled(self.address, variant.code(), a, d),
+            Settings::Absent => blank(self.address, variant.code(), self.sequences),
+            Settings::Given(a, d) => filled(self.address, variant.code(), a, d, self.sequences),
         }
     }
 
@@ -49,17 +51,19 @@ impl DA728x {
                 address: byte_at(bytes, 0),
                 variant: Variant::from_code(byte_at(bytes, 1)),
                 settings: stored_at(bytes),
+                sequences: byte_at(bytes, 37),
             };
         }
         DA728x {
             address: 0,
             variant: Variant::DA7280,
             settings: Settings::Absent,
+            sequences: 0,
         }
     }
 }
 
-// The chip of a record's bytes, for what looks at no settings.
+// All but the settings of a record's bytes, for what looks at none.
 #[tactic(auto, unfolding(crate::specs::Record::recordAt))]
 pub fn chip(bytes: &[u8]) -> DA728x
     ensures { result ≡ chipAt bytes.now }
@@ -69,12 +73,14 @@ pub fn chip(bytes: &[u8]) -> DA728x
             address: byte_at(bytes, 0),
             variant: Variant::from_code(byte_at(bytes, 1)),
             settings: Settings::Absent,
+            sequences: byte_at(bytes, 37),
         };
     }
     DA728x {
         address: 0,
         variant: Variant::DA7280,
         settings: Settings::Absent,
+        sequences: 0,
     }
 }
 
@@ -93,18 +99,25 @@ pub fn device_config(bytes: &[u8]) -> DeviceConfig
 
 // ---- to bytes
 
-fn blank(address: u8, variant: u8) -> [u8; RECORD_SIZE]
-    ensures { result ≡ address ∷ variant ∷ 1 ∷ replicate 34 0 }
+fn blank(address: u8, variant: u8, sequences: u8) -> [u8; RECORD_SIZE]
+    ensures { result ≡ address ∷ variant ∷ 1 ∷ (replicate 34 0 ++ (sequences ∷ [])) }
 {
     let mut bytes = [0u8; RECORD_SIZE];
     bytes[0] = address;
     bytes[1] = variant;
     bytes[2] = 1;
+    bytes[37] = sequences;
     bytes
 }
 
-fn filled(address: u8, variant: u8, a: ActuatorConfig, d: DeviceConfig) -> [u8; RECORD_SIZE]
-    ensures { result ≡ address ∷ variant ∷ 2 ∷ (actuatorBytes a ++ deviceBytes d) }
+fn filled(
+    address: u8,
+    variant: u8,
+    a: ActuatorConfig,
+    d: DeviceConfig,
+    sequences: u8,
+) -> [u8; RECORD_SIZE]
+    ensures { result ≡ address ∷ variant ∷ 2 ∷ ((actuatorBytes a ++ deviceBytes d) ++ (sequences ∷ [])) }
 {
     let actuator_type = a.actuator_type;
     let pid = a.pid_Kp_Ki;
@@ -155,6 +168,7 @@ fn filled(address: u8, variant: u8, a: ActuatorConfig, d: DeviceConfig) -> [u8; 
         t2[3],
         d.acceleration as u8,
         d.rapid_stop as u8,
+        sequences,
     ]
 }
 

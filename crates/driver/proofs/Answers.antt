@@ -2,13 +2,15 @@
 use Prim.Native.Nat.{ℕ, suc, zero, ◌≤◌, ◌<◌, min}
 use native.Mathlib.Omega.{arith}
 use mathlib.Core.Path.{◌≡◌, refl, sym, ap, subst}
-use mathlib.Core.Bool.{true, false, not}
+use mathlib.Core.Bool.{Bool, true, false, not, true≢false}
 use mathlib.Core.List.{List, [], ◌∷◌, append-nil}
 use lib.ListN.{length}
 use Rattle.laws.specs.Bytes.{All}
 use Rattle.field.specs.Field.{withOf}
 use Rattle.config.specs.declared.ActuatorConfig.{ActuatorConfig}
 use Rattle.config.specs.declared.DeviceConfig.{DeviceConfig}
+use Rattle.config.specs.declared.Variant.{Variant}
+use Rattle.memory.specs.declared.WaveformMemory.{WaveformMemory}
 use Rattle.config.specs.Codes.{operationCode}
 use Rattle.config.specs.declared.DrivingMode.TheVariants.{CUSTOM_WAVEFORM}
 use Rattle.config.specs.declared.OperationMode.TheVariants.{INACTIVE}
@@ -28,11 +30,11 @@ use Rattle.convert.specs.Convert.{overrideByte}
 use Rattle.memory.specs.Timebase.{timebaseBit}
 use Rattle.plans.specs.Fields.{put, updated}
 use Rattle.sessions.specs.Sessions.{noImage, blank, carrying, enabled, selectStep, startSteps, setUnlocked}
-use Rattle.outcome.specs.declared.Change.TheVariants.{Same}
 use Rattle.driver.specs.Operations as operation
-use Rattle.outcome.specs.Outcome.{bigEndian, changeFor}
-use Rattle.driver.specs.Operations.{Start, declines, begins, startedIn, unless, withSettings, runs, Operation, overrideChecks, isCustom, drivePointChecks, drivePointSteps, numberChecks}
-use Rattle.driver.specs.Theorems.{Others, Each, Course, AnswersAs, InStored, Answers, allSteps}
+use Rattle.outcome.specs.Outcome.{bigEndian}
+use Rattle.driver.specs.Operations.{Start, declines, begins, startedIn, unless, withSettings, runs, Operation, overrideChecks, isCustom, drivePointChecks, drivePointSteps, uploadRecord, uploadBegun, uploadSteps, sequenceChecks}
+use Rattle.driver.specs.Theorems.{Request, Configure, GetChipRev, GetEvents, GetStatus, SetFrequency, SetOverrideValue, SetTimebase, Enable, Disable, SetCustomDriveWaveform, UnlockWaveformMemory, LockWaveformMemory, UploadWaveformMemory, ReadWaveformMemory, SelectSequence, StartSequence, PlaySequence, operationOf, Typed, isUpload, isConfigure, Course, AnswersAs, InStored, Answers, allSteps}
+use Rattle.driver.proofs.Records.{Leaves}
 use Rattle.driver.proofs.Begun.{Fits, Holds, holds, no-image, no_record, valueOf, answered, counted, within, all_made}
 use Rattle.exchange.proofs.Latest.{bytesWanted}
 use Rattle.driver.proofs.Mismatch.{AllPlain, all_plain, frequency-plain, configure-plain, send-plain, never}
@@ -42,11 +44,11 @@ use Rattle.driver.proofs.Upload.{few}
 -- ---- what an operation is begun with
 
 -- refused, or a beginning of which this holds
-abbrev By : (Begun → List Step → Type 0) → Start → Type 0
+abbrev pub By : (Begun → List Step → Type 0) → Start → Type 0
 By Q (declines number) = Unit
 By Q (begins b xs) = Q b xs
 
-by-unless : (Q : Begun → List Step → Type 0) (n : ℕ) (s : Start) → By Q s → By Q (unless n s)
+pub by-unless : (Q : Begun → List Step → Type 0) (n : ℕ) (s : Start) → By Q s → By Q (unless n s)
 by-unless Q zero s q = q
 by-unless Q (suc n) s q = tt
 
@@ -56,37 +58,46 @@ by-settings Q Absent f q = tt
 by-settings Q (Given a d) f q = q a d
 
 -- its session answers as its result says
-abbrev Gives : (List ℕ → ℕ) → Begun → List Step → Type 0
+abbrev pub Gives : (List ℕ → ℕ) → Begun → List Step → Type 0
 Gives result b xs = (bytes : List ℕ) → length bytes ≡ bytesWanted (exchangesOf b.address 0 b.image (allSteps b xs) bytes) →
     valueOf b.purpose bytes (min b.reads 100) ≡ result bytes
 
-abbrev Sound : ℕ → (List ℕ → ℕ) → Begun → List Step → Type 0
+abbrev pub Sound : ℕ → (List ℕ → ℕ) → Begun → List Step → Type 0
 Sound address result b xs = Fits b xs × Gives result b xs × (b.address ≡ address)
 
 abbrev pub SoundOperation : ℕ → Operation → Type 0
 SoundOperation address o = By (Sound address o.answers) o.start
 
--- and leaves the record, and compares nothing
-abbrev Quiet : ℕ → (List ℕ → ℕ) → Begun → List Step → Type 0
-Quiet address result b xs = Fits b xs × Gives result b xs × (b.address ≡ address) × ((next r : DA728x) → changeFor b.purpose next r ≡ Same) × AllPlain xs
+-- and compares nothing
+abbrev pub Calm : ℕ → (List ℕ → ℕ) → Begun → List Step → Type 0
+Calm address result b xs = Sound address result b xs × AllPlain xs
+
+-- and leaves the record
+abbrev pub Quiet : ℕ → (List ℕ → ℕ) → Begun → List Step → Type 0
+Quiet address result b xs = Calm address result b xs × Leaves b.purpose
 
 abbrev pub QuietOperation : ℕ → Operation → Type 0
 QuietOperation address o = By (Quiet address o.answers) o.start
 
+-- from one claim on what is begun to another
+pub by-both : {P Q : Begun → List Step → Type 0} → ((b : Begun) (xs : List Step) → P b xs → Q b xs) → (s : Start) → By P s → By Q s
+by-both f (declines number) p = p
+by-both f (begins b xs) p = f b xs p
+
 quiet-runs : (r : DA728x) (xs : List Step) → length xs ≤ 25 → AllPlain xs → By (Quiet r.address (λ bytes. 0)) (runs r xs)
-quiet-runs r xs h p = ((h, omega arith, no-image, no_record), λ bytes e. refl, refl, λ next s. refl, p)
+quiet-runs r xs h p = ((((h, omega arith, no-image, no_record), λ bytes e. refl, refl), p), (λ next s. refl, refl))
 
 -- so its session holds what it was begun with
 pub quiet-holds : (address : ℕ) (o : Operation) → QuietOperation address o → (b : Begun) (xs : List Step) → o.start ≡ begins b xs → (st : List ℕ) → isSession st ≡ true →
-    Holds (begunIn st b xs) b (allSteps b xs) × ((next r : DA728x) → changeFor b.purpose next r ≡ Same) × AllPlain xs
-quiet-holds address o q b xs e st s = let g = subst (λ (x : Start). By (Quiet address o.answers) x) e q in (holds st b xs s g.0, g.3, g.4)
+    Holds (begunIn st b xs) b (allSteps b xs) × Leaves b.purpose
+quiet-holds address o q b xs e st s = let g = subst (λ (x : Start). By (Quiet address o.answers) x) e q in (holds st b xs s g.0.0.0, g.1)
 
--- ---- the sixteen
+-- ---- the fifteen that leave the record
 
 one_byte : (r : DA728x) (xs : List Step) → length xs ≤ 25 → AllPlain xs →
     ((bytes : List ℕ) → length bytes ≡ bytesWanted (exchangesOf r.address 0 noImage (allSteps (blank 3 r.address) xs) bytes) → length bytes ≡ 1) →
     By (Quiet r.address (bigEndian 0)) (begins (blank 3 r.address) xs)
-one_byte r xs h p w = ((h, omega arith, no-image, no_record), λ bytes e. go bytes (w bytes e), refl, λ next s. refl, p)
+one_byte r xs h p w = ((((h, omega arith, no-image, no_record), λ bytes e. go bytes (w bytes e), refl), p), (λ next s. refl, refl))
   where
     go : (bytes : List ℕ) → length bytes ≡ 1 → valueOf 3 bytes (min 0 100) ≡ bigEndian 0 bytes
     go [] e = absurd (omega (arith, e))
@@ -100,79 +111,48 @@ three-bytes (a ∷ b ∷ []) e = absurd (omega (arith, e))
 three-bytes (a ∷ b ∷ c ∷ []) e = refl
 three-bytes (a ∷ b ∷ c ∷ d ∷ bytes) e = absurd (omega (arith, e))
 
-pub quiet : Others QuietOperation
-quiet = record {
-  get-chip-rev = λ r. one_byte r (Read (addressOf "CHIP_REV") ∷ []) (omega arith) (tt, tt) (λ bytes e. e);
-  get-events = λ r. ((omega arith, omega arith, no-image, no_record), λ bytes e. three-bytes bytes e, refl, λ next s. refl, (tt, (tt, (tt, (tt, tt)))));
-  get-status = λ r. one_byte r (Read (addressOf "IRQ_STATUS1") ∷ []) (omega arith) (tt, tt) (λ bytes e. e);
-  set-frequency = λ r hz. by-settings _ r.settings _ (λ a d.
-      by-unless _ (firstFailing ((outsideBand d.driving_mode hz, 23) ∷ [])) _
-      (quiet-runs r (frequencySteps hz) (omega (arith, frequency hz)) (frequency-plain hz)));
-  set-override-value = λ r value. by-settings _ r.settings _ (λ a d.
-      by-unless _ (firstFailing (overrideChecks d value)) _ (quiet-runs r (Write (addressOf "TOP_CTL2") (overrideByte value) ∷ []) (omega arith) (tt, tt)));
-  set-timebase = λ r timebase.
-      quiet-runs r (updated "SEQ_CTL1" (put "FREQ_WAVEFORM_TIMEBASE" (timebaseBit timebase))) (omega arith) (tt, (tt, tt));
-  enable = λ r. by-settings _ r.settings _ (λ a d. quiet-runs r (Write (addressOf "TOP_CTL1") (enabled d.operation_mode) ∷ []) (omega arith) (tt, tt));
-  disable = λ r. by-settings _ r.settings _ (λ a d.
-      quiet-runs r (updated "TOP_CTL1" (put "OPERATION_MODE" (operationCode INACTIVE))) (omega arith) (tt, (tt, tt)));
-  set-custom-drive-waveform = λ r p1 p2 p3. by-settings _ r.settings _ (λ a d.
-      by-unless _ (firstFailing (drivePointChecks d)) _ (quiet-runs r (drivePointSteps p1 p2 p3) (omega arith) (tt, (tt, (tt, tt)))));
-  unlock-waveform-memory = λ r. quiet-runs r (setUnlocked true ∷ []) (omega arith) (tt, tt);
-  lock-waveform-memory = λ r. quiet-runs r (setUnlocked false ∷ []) (omega arith) (tt, tt);
-  upload-waveform-memory = λ r m lockAfter e. ((few m lockAfter, omega arith, e, no_record), λ bytes h. refl, refl, λ next s. refl, send-plain (min m.len 100) lockAfter);
-  read-waveform-memory = λ r len room h. ((omega arith, h, no-image, no_record), λ bytes e. omega arith, refl, λ next s. refl, tt);
-  select-sequence = λ r id loops. by-unless _ (firstFailing (numberChecks id loops)) _ (quiet-runs r (selectStep id loops ∷ []) (omega arith) (tt, tt));
-  start-sequence = λ r. quiet-runs r startSteps (omega arith) (tt, (tt, tt));
-  play-sequence = λ r id loops. by-unless _ (firstFailing (numberChecks id loops)) _ (quiet-runs r (selectStep id loops ∷ startSteps) (omega arith) (tt, (tt, (tt, tt))));
-}
-
--- ---- from one claim on all of them to another
-
-pub each-others : {P Q : ℕ → Operation → Type 0} → ((address : ℕ) (o : Operation) → P address o → Q address o) → Others P → Others Q
-each-others f e = record {
-  get-chip-rev = λ r. f _ _ (e.get-chip-rev r);
-  get-events = λ r. f _ _ (e.get-events r);
-  get-status = λ r. f _ _ (e.get-status r);
-  set-frequency = λ r hz. f _ _ (e.set-frequency r hz);
-  set-override-value = λ r value. f _ _ (e.set-override-value r value);
-  set-timebase = λ r timebase. f _ _ (e.set-timebase r timebase);
-  enable = λ r. f _ _ (e.enable r);
-  disable = λ r. f _ _ (e.disable r);
-  set-custom-drive-waveform = λ r p1 p2 p3. f _ _ (e.set-custom-drive-waveform r p1 p2 p3);
-  unlock-waveform-memory = λ r. f _ _ (e.unlock-waveform-memory r);
-  lock-waveform-memory = λ r. f _ _ (e.lock-waveform-memory r);
-  upload-waveform-memory = λ r m lockAfter h. f _ _ (e.upload-waveform-memory r m lockAfter h);
-  read-waveform-memory = λ r len room h. f _ _ (e.read-waveform-memory r len room h);
-  select-sequence = λ r id loops. f _ _ (e.select-sequence r id loops);
-  start-sequence = λ r. f _ _ (e.start-sequence r);
-  play-sequence = λ r id loops. f _ _ (e.play-sequence r id loops);
-}
+pub quiet : (r : DA728x) (q : Request) → Typed q → isUpload q ≡ false → isConfigure q ≡ false → QuietOperation r.address (operationOf r q)
+quiet r (Configure a d) t u c = absurd (true≢false c)
+quiet r GetChipRev t u c = one_byte r (Read (addressOf "CHIP_REV") ∷ []) (omega arith) (tt, tt) (λ bytes e. e)
+quiet r GetEvents t u c = ((((omega arith, omega arith, no-image, no_record), λ bytes e. three-bytes bytes e, refl), (tt, (tt, (tt, (tt, tt))))), (λ next s. refl, refl))
+quiet r GetStatus t u c = one_byte r (Read (addressOf "IRQ_STATUS1") ∷ []) (omega arith) (tt, tt) (λ bytes e. e)
+quiet r (SetFrequency hz) t u c =
+    by-settings _ r.settings _ (λ a d. by-unless _ (firstFailing ((outsideBand d.driving_mode hz, 23) ∷ [])) _
+    (quiet-runs r (frequencySteps hz) (omega (arith, frequency hz)) (frequency-plain hz)))
+quiet r (SetOverrideValue value) t u c =
+    by-settings _ r.settings _ (λ a d. by-unless _ (firstFailing (overrideChecks d value)) _
+    (quiet-runs r (Write (addressOf "TOP_CTL2") (overrideByte value) ∷ []) (omega arith) (tt, tt)))
+quiet r (SetTimebase timebase) t u c = quiet-runs r (updated "SEQ_CTL1" (put "FREQ_WAVEFORM_TIMEBASE" (timebaseBit timebase))) (omega arith) (tt, (tt, tt))
+quiet r Enable t u c = by-settings _ r.settings _ (λ a d. quiet-runs r (Write (addressOf "TOP_CTL1") (enabled d.operation_mode) ∷ []) (omega arith) (tt, tt))
+quiet r Disable t u c =
+    by-settings _ r.settings _ (λ a d. quiet-runs r (updated "TOP_CTL1" (put "OPERATION_MODE" (operationCode INACTIVE))) (omega arith) (tt, (tt, tt)))
+quiet r (SetCustomDriveWaveform p1 p2 p3) t u c =
+    by-settings _ r.settings _ (λ a d. by-unless _ (firstFailing (drivePointChecks d)) _
+    (quiet-runs r (drivePointSteps p1 p2 p3) (omega arith) (tt, (tt, (tt, tt)))))
+quiet r UnlockWaveformMemory t u c = quiet-runs r (setUnlocked true ∷ []) (omega arith) (tt, tt)
+quiet r LockWaveformMemory t u c = quiet-runs r (setUnlocked false ∷ []) (omega arith) (tt, tt)
+quiet r (UploadWaveformMemory m lockAfter) t u c = absurd (true≢false u)
+quiet r (ReadWaveformMemory len room) t u c = ((((omega arith, t, no-image, no_record), λ bytes e. omega arith, refl), tt), (λ next s. refl, refl))
+quiet r (SelectSequence id loops) t u c = by-unless _ (firstFailing (sequenceChecks r id loops)) _ (quiet-runs r (selectStep id loops ∷ []) (omega arith) (tt, tt))
+quiet r StartSequence t u c = quiet-runs r startSteps (omega arith) (tt, (tt, tt))
+quiet r (PlaySequence id loops) t u c =
+    by-unless _ (firstFailing (sequenceChecks r id loops)) _ (quiet-runs r (selectStep id loops ∷ startSteps) (omega arith) (tt, (tt, (tt, tt))))
 
 -- ---- all eighteen
 
-pub fits-new : (address : ℕ) (variant : _) → SoundOperation address (operation.new address variant)
+pub fits-new : (address : ℕ) (variant : Variant) → SoundOperation address (operation.new address variant)
 fits-new address variant = ((omega arith, omega arith, no-image, record-length _), λ bytes e. refl, refl)
 
 pub fits-configure : (r : DA728x) (a : ActuatorConfig) (d : DeviceConfig) → Fits (carrying 2 (configured r a d)) (configureSteps a d)
 fits-configure r a d = (at_most a d, omega arith, no-image, record-length (configured r a d))
 
-sound : Each SoundOperation
-sound = record {
-  new = fits-new;
-  configure = λ r a d. by-unless _ (configureNumber r.variant a d) _ (fits-configure r a d, λ bytes e. refl, refl);
-  others = each-others (λ address o q. go address o.answers o.start q) quiet;
-}
-  where
-    go : (address : ℕ) (result : List ℕ → ℕ) (s : Start) → By (Quiet address result) s → By (Sound address result) s
-    go address result (declines number) q = q
-    go address result (begins b xs) q = (q.0, q.1, q.2)
+pub fits-upload : (r : DA728x) (m : WaveformMemory) (lockAfter : Bool) → length m.«data» ≡ 100 → Fits (uploadBegun r m) (uploadSteps m lockAfter)
+fits-upload r m lockAfter e = (few m lockAfter, omega arith, e, record-length (uploadRecord r m))
 
-each-sound : {Q : ℕ → Operation → Type 0} → ((address : ℕ) (o : Operation) → SoundOperation address o → Q address o) → Each Q
-each-sound f = record {
-  new = λ address variant. f _ _ (sound.new address variant);
-  configure = λ r a d. f _ _ (sound.configure r a d);
-  others = each-others f sound.others;
-}
+calm : (r : DA728x) (q : Request) → Typed q → By (Calm r.address (operationOf r q).answers) (operationOf r q).start
+calm r (Configure a d) t = by-unless _ (configureNumber r.variant a d) _ ((fits-configure r a d, λ bytes e. refl, refl), configure-plain a d)
+calm r (UploadWaveformMemory m lockAfter) t = ((fits-upload r m lockAfter t, λ bytes e. refl, refl), send-plain (min m.len 100) lockAfter)
+calm r q t = by-both {P = Quiet r.address (operationOf r q).answers} (λ b xs p. p.0) (operationOf r q).start (quiet r q t refl refl)
 
 -- what an accepted `configure` begins
 pub holds-configure : (r : DA728x) (a : ActuatorConfig) (d : DeviceConfig) (st : List ℕ) → configureNumber r.variant a d ≡ 0 → isSession st ≡ true →
@@ -182,16 +162,14 @@ holds-configure r a d st none s =
     subst (λ (k : ℕ). Holds (startedIn st (unless k (begins b (configureSteps a d)))) b (allSteps b (configureSteps a d))) (sym none)
     (holds st b (configureSteps a d) s (fits-configure r a d))
 
--- what is begun so, and compares nothing
-abbrev Unmatched : Begun → List Step → Type 0
-Unmatched b xs = Fits b xs × AllPlain xs
-
-courses : Each AnswersAs
-courses =
-    each-sound (λ address o f b xs e st s cs.
+answers-as : (address : ℕ) (o : Operation) → SoundOperation address o → AnswersAs address o
+answers-as address o f b xs e st s cs =
     let g = subst (λ (x : Start). By (Sound address o.answers) x) e f in
     subst (λ (x : ℕ). Course (begunIn st b xs) x b.image (allSteps b xs) o.answers cs) g.2
-    (answered (holds st b xs s g.0) cs o.answers g.1))
+    (answered (holds st b xs s g.0) cs o.answers g.1)
+
+courses : (r : DA728x) (q : Request) → Typed q → AnswersAs r.address (operationOf r q)
+courses r q t = answers-as r.address (operationOf r q) (by-both {P = Calm r.address (operationOf r q).answers} (λ b xs p. p.0) (operationOf r q).start (calm r q t))
 
 -- ---- custom drive points
 
@@ -215,17 +193,15 @@ drive-points r p1 p2 p3 st cs h p s =
     subst (λ (x : Start). Course (startedIn st x) r.address noImage (Write 0x25 p1 ∷ Write 0x26 p2 ∷ Write 0x27 p3 ∷ []) (λ bytes. 0) cs) (sym e)
     (subst (λ (ys : List Step). Course (begunIn st (blank 0 r.address) xs) r.address noImage ys (λ bytes. 0) cs)
     (λ i. Write 0x25 (whole-register p1 p.0 i) ∷ Write 0x26 (whole-register p2 p.1.0 i) ∷ Write 0x27 (whole-register p3 p.1.1.0 i) ∷ [])
-    (courses.others.set-custom-drive-waveform r p1 p2 p3 (blank 0 r.address) xs e st s cs))
+    (courses r (SetCustomDriveWaveform p1 p2 p3) tt (blank 0 r.address) xs e st s cs))
 
 pub answers : Answers
 answers = record {
+  news = λ address variant. answers-as address (operation.new address variant) (fits-new address variant);
   courses = courses;
-  mismatch = (
-    each-others (λ address o q b xs e st s cs. let h = quiet-holds address o q b xs e st s in never h.0 (all_plain b xs h.2) cs) quiet,
-    λ r a d b xs e st s cs.
-        let g = subst (By Unmatched) e (by-unless Unmatched (configureNumber r.variant a d) _ (fits-configure r a d, configure-plain a d)) in
-        never (holds st b xs s g.0) (all_plain b xs g.1) cs,
-  );
+  mismatch = λ r q t b xs e st s cs.
+      let g = subst (By (Calm r.address (operationOf r q).answers)) e (calm r q t) in
+      never (holds st b xs s g.0.0) (all_plain b xs g.1) cs;
   counts = λ r a d st cs none s.
       let h = holds-configure r a d st none s in
       let n = ap length (append-nil (configureSteps a d)) in

@@ -31,15 +31,15 @@ pub no-image : length noImage ≡ 100
 unfolding noImage
 no-image = length-replicate {A = ℕ} 100 0
 
-pub no_record : length blankRecord ≡ 37
+pub no_record : length blankRecord ≡ 38
 unfolding blankRecord
-no_record = length-replicate {A = ℕ} 37 0
+no_record = length-replicate {A = ℕ} 38 0
 
 -- ---- what a session holds
 
 -- what a session can be begun with
 abbrev pub Fits : Begun → List Step → Type 0
-Fits b xs = (length xs ≤ 25) × (b.room < 2 ^ 64) × (length b.image ≡ 100) × (length b.«record» ≡ 37)
+Fits b xs = (length xs ≤ 25) × (b.room < 2 ^ 64) × (length b.image ≡ 100) × (length b.«record» ≡ 38)
 
 -- these steps and all else that it was begun with, and none made
 pub record Holds (s : List ℕ) (b : Begun) (xs : List Step) : Type 0 where

@@ -5,7 +5,6 @@ use mathlib.Core.Bool.{Bool, true, false, cond, not, ◌&&◌, true≢false}
 use mathlib.Core.List.{List, [], ◌∷◌, ◌++◌}
 use lib.Dec.{eqb}
 use lib.ListN.{length}
-use borrow.Author.Tests.{eqb-true}
 use Rattle.laws.specs.Lists.{at}
 use Rattle.exchange.specs.declared.Step.{Step}
 use Rattle.exchange.specs.declared.Step.TheVariants.{Match}
@@ -16,27 +15,14 @@ use Rattle.exchange.specs.Turn.{pendingFor, resized, reportOf}
 use Rattle.exchange.specs.Session.{AnswerCall, fitsExchange, taken, numberAt, replyBytes, breaks, afterCall, final, came}
 use Rattle.exchange.proofs.Cases.{Case, same, broken, went, case, idle-state}
 use Rattle.exchange.proofs.Session.{session}
-use Rattle.driver.proofs.Records.{idle, unfinished, finished}
+use Rattle.driver.proofs.Records.{taken_none, untaken, idle, unfinished, finished}
 
 -- nothing comes where no step is left
-taken_none : (st : List ℕ) (a : Reply) (n : ℕ) → left st ≡ [] → taken st a n ≡ false
-taken_none st a n e = ap (λ (l : List Step). fitsExchange (pendingFor st l) a && not (resized st n)) e ∙ go a
-  where
-    go : (a : Reply) → fitsExchange (pendingFor st []) a && not (resized st n) ≡ false
-    go Done = refl
-    go (Byte b) = refl
-    go (Failed code) = refl
-
 came-none : (cs : List AnswerCall) (st : List ℕ) → left st ≡ [] → came st cs ≡ []
 came-none [] st e = refl
 came-none (c ∷ cs) st e =
     ap (λ (k : Bool). cond k (replyBytes c.reply) [] ++ came (afterCall st c) cs) (taken_none st c.reply (length c.buffer) e)
     ∙ ap (λ (t : List ℕ). came t cs) (idle-state st c e) ∙ came-none cs st e
-
--- an answer that is not taken back leaves the session
-untaken : (st : List ℕ) (c : AnswerCall) → taken st c.reply (length c.buffer) ≡ false → afterCall st c ≡ st
-unfolding afterCall
-untaken st c h = (session.refused st c.reply c.buffer (eqb-true _ _ (session.takes st c.reply (length c.buffer) ∙ ap not h))).0
 
 -- whether one byte came, and is this
 abbrev pub cameOnly : List ℕ → ℕ → Bool

@@ -1,12 +1,13 @@
 -- What a start is refused for: the first check that fails is the first fault. Assumes nothing.
-use Prim.Native.Nat.{ℕ, zero, suc, ◌<◌}
+use Prim.Native.Nat.{ℕ, zero, suc, ◌<◌, ◌≤◌}
 use native.Mathlib.Omega.{arith}
 use mathlib.Core.Path.{◌≡◌, refl, ap}
 use mathlib.Core.Bool.{Bool, true, false, not, true≢false, false≢true}
 use mathlib.Core.List.{List, [], ◌∷◌}
 use mathlib.Core.Logic.{◌↔◌, inl, inr}
-use lib.Dec.{eqb}
+use lib.Dec.{eqb, leb}
 use lib.IntN.{ℤ, pos, negsuc}
+use borrow.Author.Tests.{le-leb, leb-true}
 use Rattle.config.specs.declared.ActuatorConfig.{ActuatorConfig}
 use Rattle.config.specs.declared.DeviceConfig.{DeviceConfig}
 use Rattle.config.specs.declared.DrivingMode.{DrivingMode}
@@ -19,9 +20,10 @@ use Rattle.checks.specs.Blames.{OutOfBand, Fault, faults, OfFirst}
 use Rattle.checks.proofs.Blames.{Agree, of-first, flag, and-says, above, out-of-band, blames}
 use Rattle.exchange.specs.declared.Step.{Step}
 use Rattle.exchange.specs.State.{Begun}
+use Rattle.da728x.specs.declared.DA728x.{DA728x}
 use Rattle.da728x.specs.declared.Settings.{Settings}
 use Rattle.da728x.specs.declared.Settings.TheVariants.{Absent, Given}
-use Rattle.driver.specs.Operations.{Start, declines, begins, unless, withSettings, negative, overrideChecks, isCustom, drivePointChecks, numberChecks}
+use Rattle.driver.specs.Operations.{Start, declines, begins, unless, withSettings, negative, overrideChecks, isCustom, drivePointChecks, sequenceChecks}
 use Rattle.driver.specs.Theorems.{InStored, BelowZero, BeginsUnless, Refusals}
 
 begins-unless : (n : ℕ) (b : Begun) (xs : List Step) (fs : List Fault) → OfFirst n fs → BeginsUnless (unless n (begins b xs)) fs
@@ -63,6 +65,15 @@ custom FREQUENCY_TRACK = (λ e p. omega (arith, ap drivingCode p), λ n. refl)
 custom WIDEBAND = (λ e p. omega (arith, ap drivingCode p), λ n. refl)
 custom CUSTOM_WAVEFORM = (λ e. absurd (false≢true e), λ n. absurd (n refl))
 
+not-below : (n m : ℕ) → (leb n m ≡ true) ↔ (n ≤ m)
+not-below n m = (leb-true n m, le-leb n m)
+
+checked-sequence : (r : DA728x) (id loops : ℕ) (b : Begun) (xs : List Step) →
+    BeginsUnless (unless (firstFailing (sequenceChecks r id loops)) (begins b xs)) ((11, 15 < id) ∷ (11, 15 < loops) ∷ (28, r.sequences ≤ id) ∷ [])
+checked-sequence r id loops b xs =
+    checked (sequenceChecks r id loops) b xs ((11, 15 < id) ∷ (11, 15 < loops) ∷ (28, r.sequences ≤ id) ∷ [])
+    (refl, above 15 id, (refl, above 15 loops, (refl, not-below r.sequences id, tt)))
+
 pub refusals : Refusals
 refusals = record {
   configure = λ r a d. begins-unless (configureNumber r.variant a d) _ _ (faults r.variant a d) (blames.first r.variant a d);
@@ -72,8 +83,8 @@ refusals = record {
       ∷ (12, InStored (λ a d. ¬ (d.operation_mode ≡ DRO_MODE)) s) ∷ []) (λ a d.
       checked (overrideChecks d value) _ _ ((11, (d.acceleration ≡ true) × BelowZero value) ∷ (12, ¬ (d.operation_mode ≡ DRO_MODE)) ∷ [])
       (refl, and-says d.acceleration (negative value) _ _ (flag d.acceleration) (below-zero value), (refl, in-dro d.operation_mode, tt)));
-  select-sequence = λ r id loops. checked (numberChecks id loops) _ _ ((11, 15 < id) ∷ (11, 15 < loops) ∷ []) (refl, above 15 id, (refl, above 15 loops, tt));
-  play-sequence = λ r id loops. checked (numberChecks id loops) _ _ ((11, 15 < id) ∷ (11, 15 < loops) ∷ []) (refl, above 15 id, (refl, above 15 loops, tt));
+  select-sequence = λ r id loops. checked-sequence r id loops _ _;
+  play-sequence = λ r id loops. checked-sequence r id loops _ _;
   enable = λ r. settled r.settings _ (λ s. []) (λ a d. refl);
   disable = λ r. settled r.settings _ (λ s. []) (λ a d. refl);
   set-custom-drive-waveform = λ r p1 p2 p3. settled r.settings _ (λ s. (12, InStored (λ a d. ¬ (d.driving_mode ≡ CUSTOM_WAVEFORM)) s) ∷ []) (λ a d.

@@ -1,22 +1,26 @@
--- The record changes exactly by the answer that completes `new` or `configure`, and by no other. Assumes nothing.
+-- The record changes exactly by the answer that completes `new` or `configure`, by the start of an upload and by each answer that it takes. Assumes
+-- nothing.
 use Prim.Native.Nat.{ℕ, ◌≤◌}
 use native.Mathlib.Omega.{arith}
 use mathlib.Core.Path.{◌≡◌, refl, sym, ◌∙◌, ap}
-use mathlib.Core.Bool.{Bool, true, false, cond, and-eq-true_iff}
+use mathlib.Core.Bool.{Bool, true, false, cond, ◌&&◌, and-eq-true_iff, true≢false}
 use mathlib.Core.List.{List, [], ◌∷◌, append-nil}
 use lib.ListN.{length}
 use lib.Dec.{eqb}
-use borrow.Author.Tests.{eq-eqb, eqb-true}
+use borrow.Author.Tests.{eq-eqb, eqb-true, ne_eqb}
+use Rattle.laws.proofs.Tests.{choice}
 use Rattle.registers.specs.Table.{addressOf}
+use Rattle.memory.specs.declared.WaveformMemory.{WaveformMemory}
+use Rattle.checks.specs.Checks.{configureNumber}
 use Rattle.config.specs.declared.ActuatorConfig.{ActuatorConfig}
 use Rattle.config.specs.declared.DeviceConfig.{DeviceConfig}
 use Rattle.config.specs.declared.Variant.{Variant}
 use Rattle.config.specs.Codes.{variantCode, variantAt}
 use Rattle.exchange.specs.declared.Step.{Step}
 use Rattle.exchange.specs.declared.Step.TheVariants.{Match}
-use Rattle.exchange.specs.State.{completed, Begun, begunIn}
-use Rattle.exchange.specs.Session.{AnswerCall, afterCall, final}
-use Rattle.exchange.proofs.Cases.{idle-state, idle-number}
+use Rattle.exchange.specs.State.{isSession, completed, purposeIn, recordIn, Begun, begunBytes, begunIn}
+use Rattle.exchange.specs.Session.{AnswerCall, taken, numberAt, afterCall, final}
+use Rattle.exchange.proofs.Cases.{idle-state}
 use Rattle.exchange.proofs.Keeps.{keeps}
 use Rattle.plans.proofs.Lengths.{at_least}
 use Rattle.plans.specs.Configure.{configureSteps}
@@ -24,17 +28,18 @@ use Rattle.da728x.specs.declared.DA728x.{DA728x}
 use Rattle.da728x.specs.declared.Settings.TheVariants.{Given}
 use Rattle.da728x.specs.Record.{recordAt}
 use Rattle.da728x.proofs.Kept.{variant-kept, record-kept}
-use Rattle.sessions.specs.Sessions.{carrying}
-use Rattle.outcome.specs.declared.Change.TheVariants.{Same, To}
+use Rattle.sessions.specs.Sessions.{carrying, sendSteps}
+use Rattle.outcome.specs.declared.Change.{Change}
+use Rattle.outcome.specs.declared.Change.TheVariants.{Same, To, Sequences}
 use Rattle.driver.specs.Operations as operation
-use Rattle.outcome.specs.Outcome.{changeFor, recordBy, settling, isChipOf}
-use Rattle.driver.specs.Operations.{startedIn, revision, newRecord, changeAfter}
-use Rattle.driver.specs.Theorems.{recordFinal, Stored}
-use Rattle.driver.proofs.Answers.{quiet, quiet-holds, each-others, fits-new, holds-configure}
+use Rattle.outcome.specs.Outcome.{changeFor, recordBy, settling, isChipOf, forUpload, zeroing, withSequences}
+use Rattle.driver.specs.Operations.{Start, declines, begins, startedIn, changeFrom, revision, newRecord, uploadRecord, uploadBegun, uploadSteps}
+use Rattle.driver.specs.Theorems.{Request, Configure, UploadWaveformMemory, operationOf, Typed, isUpload, allSteps, changeBehind, recordFinal, Stored}
+use Rattle.driver.proofs.Answers.{By, by-unless, by-both, Quiet, quiet, quiet-holds, fits-new, fits-upload, holds-configure}
 use Rattle.driver.proofs.Begun.{Holds, holds}
 use Rattle.driver.proofs.Creates.{creates}
 use Rattle.driver.proofs.Starts.{configured}
-use Rattle.driver.proofs.Records.{refused, before, for-none, settles}
+use Rattle.driver.proofs.Records.{Leaves, refused, dead, failed, before, for-none, unfinished, counts, loads, settles}
 
 -- what a session begun so makes of a record
 abbrev madeBy : Begun → DA728x → DA728x
@@ -42,22 +47,72 @@ madeBy b r = recordBy r (changeFor b.purpose (recordAt b.«record») r)
 
 module _ {s : List ℕ} {b : Begun} (cs : List AnswerCall) (r : DA728x) where
   -- with a step left, exactly if it is completed
-  settled : (xs : List Step) → Holds s b xs → 1 ≤ length xs → recordFinal s cs r ≡ cond (completed (final s cs)) (madeBy b r) r
-  settled [] h n = absurd (omega arith)
-  settled (x ∷ xs) h n =
-      settles cs s x xs h.session h.steps r
+  pub settled : (xs : List Step) → Holds s b xs → 1 ≤ length xs → eqb b.purpose forUpload ≡ false → recordFinal s cs r ≡ cond (completed (final s cs)) (madeBy b r) r
+  settled [] h n p = absurd (omega arith)
+  settled (x ∷ xs) h n p =
+      settles cs s x xs h.session h.steps (ap (λ (purpose : ℕ). eqb purpose forUpload) h.purpose ∙ p) r
       ∙ (λ i. cond (completed (final s cs)) (recordBy r (changeFor (h.purpose i) (recordAt (h.«record» i)) r)) r)
 
   -- one that is for no record never does
-  stays : (xs : List Step) → Holds s b xs → ((next r : DA728x) → changeFor b.purpose next r ≡ Same) → (c : AnswerCall) →
-      changeAfter (final s cs) c.reply (length c.buffer) r ≡ Same
-  unfolding afterCall
+  stays : (xs : List Step) → Holds s b xs → Leaves b.purpose → (c : AnswerCall) → changeBehind (final s cs) c r ≡ Same
   stays xs h k c =
       let p = keeps cs s h.session in
-      let q = keeps (c ∷ []) (final s cs) p.session in
-      for-none (final s cs) c.reply (length c.buffer) r (λ next. ap (λ (purpose : ℕ). changeFor purpose next r) (q.purpose ∙ p.purpose ∙ h.purpose) ∙ k next r)
+      let e = p.purpose ∙ h.purpose in
+      for-none (final s cs) c r p.session
+      (λ next q. ap (λ (purpose : ℕ). changeFor purpose next q) e ∙ k.0 next q, ap (λ (purpose : ℕ). eqb purpose forUpload) e ∙ k.1)
 
--- `configure`, for the record lent
+-- ---- what a start does to the record
+
+by_start : (st : List ℕ) (s : Start) → By (λ b xs. eqb b.purpose forUpload ≡ false) s → changeFrom st s ≡ Same
+by_start st (declines number) p = refl
+by_start st (begins b xs) p = ap (λ (upload : Bool). cond upload (zeroing st) Same) p
+
+starts : (r : DA728x) (q : Request) (st : List ℕ) → Typed q → isUpload q ≡ false → changeFrom st (operationOf r q).start ≡ Same
+starts r (Configure a d) st t u = by_start st (operation.configure r a d).start (by-unless _ (configureNumber r.variant a d) _ refl)
+starts r (UploadWaveformMemory m lockAfter) st t u = absurd (true≢false u)
+starts r q st t u = by_start st (operationOf r q).start (by-both {P = Quiet r.address (operationOf r q).answers} (λ b xs p. p.1.1) (operationOf r q).start (quiet r q t u refl))
+
+unbegun : (s : Start) (st : List ℕ) → isSession st ≡ false → (startedIn st s ≡ st) × (changeFrom st s ≡ Same)
+unfolding begunIn
+unbegun (declines number) st e = (refl, refl)
+unbegun (begins b xs) st e = (
+  ap (λ (k : Bool). cond k (begunBytes b xs) st) e,
+  ap (λ (k : Bool). cond (eqb b.purpose forUpload) (cond k (Sequences 0) Same) Same) e ∙ choice (λ (m : Change). m ≡ Same) (eqb b.purpose forUpload) Same Same refl refl,
+)
+
+-- ---- an upload
+
+module _ (r : DA728x) (m : WaveformMemory) (lockAfter : Bool) (st : List ℕ) (l : length m.«data» ≡ 100) (e : isSession st ≡ true) where
+  abbrev s : List ℕ
+  s = begunIn st (uploadBegun r m) (uploadSteps m lockAfter)
+
+  held : Holds s (uploadBegun r m) (allSteps (uploadBegun r m) (uploadSteps m lockAfter))
+  held = holds st (uploadBegun r m) (uploadSteps m lockAfter) e (fits-upload r m lockAfter l)
+
+  carries : recordAt (recordIn s) ≡ uploadRecord r m
+  carries = ap recordAt held.«record» ∙ record-kept (uploadRecord r m)
+
+  pub loaded-by : (cs : List AnswerCall) (c : AnswerCall) (lent : DA728x) →
+      changeBehind (final s cs) c lent ≡ cond (taken (final s cs) c.reply (length c.buffer) && eqb r.address lent.address)
+      (Sequences (cond (completed (afterCall (final s cs) c)) m.num_sequences 0)) Same
+  loaded-by cs c lent =
+      let k = keeps cs s held.session in
+      let n = ap recordAt k.«record» ∙ carries in
+      counts (final s cs) c lent (k.purpose ∙ held.purpose)
+      ∙ (λ i. cond (taken (final s cs) c.reply (length c.buffer) && eqb (n i).address lent.address)
+      (Sequences (cond (completed (afterCall (final s cs) c)) (n i).sequences 0)) Same)
+
+  none-made : completed s ≡ false
+  unfolding sendSteps
+  none-made = unfinished s _ _ held.steps
+
+  pub loaded-in : (cs : List AnswerCall) → recordFinal s cs (withSequences r 0) ≡ withSequences r (cond (completed (final s cs)) m.num_sequences 0)
+  loaded-in cs =
+      ap (λ (k : Bool). recordFinal s cs (withSequences r (cond k m.num_sequences 0))) (sym none-made)
+      ∙ loads (uploadRecord r m) r refl cs s held.session held.purpose carries
+
+-- ---- `configure`, for the record lent
+
 module _ (r : DA728x) (a : ActuatorConfig) (d : DeviceConfig) where
   abbrev b : Begun
   b = carrying 2 (configured r a d)
@@ -65,10 +120,14 @@ module _ (r : DA728x) (a : ActuatorConfig) (d : DeviceConfig) where
   settled-as : (s : DA728x) → madeBy b s ≡ recordBy s (settling (configured r a d) s)
   settled-as s = ap (λ (next : DA728x). recordBy s (settling next s)) (record-kept (configured r a d))
 
-  own-chip : (s : DA728x) → madeBy b s ≡ cond (isChipOf r s) (configured s a d) s
+  -- a record with these settings
+  abbrev storing : DA728x → DA728x
+  storing s = record { address = s.address; variant = s.variant; settings = Given a d; sequences = s.sequences }
+
+  own-chip : (s : DA728x) → madeBy b s ≡ cond (isChipOf r s) (storing s) s
   own-chip s = settled-as s ∙ go (isChipOf r s)
     where
-      go : (k : Bool) → recordBy s (cond k (To (record { address = s.address; variant = s.variant; settings = Given a d })) Same) ≡ cond k (configured s a d) s
+      go : (k : Bool) → recordBy s (cond k (To (storing s)) Same) ≡ cond k (storing s) s
       go true = refl
       go false = refl
 
@@ -84,22 +143,40 @@ module _ (r lent : DA728x) where
   own-from : (r.address ≡ lent.address) × (r.variant ≡ lent.variant) → isChipOf r lent ≡ true
   own-from e = simp (eq-eqb r.address lent.address e.0, eq-eqb (variantCode r.variant) (variantCode lent.variant) (ap variantCode e.1))
 
+-- ---- `new`
+
+pub made-by-new : (address : ℕ) (variant : Variant) (st : List ℕ) (cs : List AnswerCall) (r : DA728x) → isSession st ≡ true →
+    let s = startedIn st (operation.new address variant).start in recordFinal s cs r ≡ cond (completed (final s cs)) (newRecord address variant) r
+made-by-new address variant st cs r s =
+    let b = carrying 1 (newRecord address variant) in
+    let xs = Match (addressOf "CHIP_REV") (revision variant) ∷ [] in
+    settled cs r _ (holds st b xs s (fits-new address variant).0) (omega arith) refl
+    ∙ ap (λ (next : DA728x). cond (completed (final (begunIn st b xs) cs)) next r) (record-kept (newRecord address variant))
+
 pub stored : Stored
 stored = record {
   refused = refused;
-  before = before;
-  ended = λ st c r e. (refused st c.reply (length c.buffer) r (idle-number st c e), idle-state st c e);
-  declined = λ s number st e. ap (startedIn st) e;
+  failed = λ st c r p n. failed st c r (ne_eqb (purposeIn st) forUpload p) (ne_eqb (numberAt st c) 0 n);
+  before = λ st c r p h. before st c r (ne_eqb (purposeIn st) forUpload p) h;
+  counts = counts;
+  ended = λ st c r e. (dead st c r e, idle-state st c e);
+  declined = λ s number st e. (ap (startedIn st) e, ap (changeFrom st) e);
+  unbegun = unbegun;
+  zeroes = λ r m lockAfter st e. ap (λ (k : Bool). cond k (Sequences 0) Same) e;
+  starts = starts;
+  starts-new = λ address variant st. refl;
   creates = λ address variant st cs r s.
-      let b = carrying 1 (newRecord address variant) in
-      let h = holds st b (Match (addressOf "CHIP_REV") (revision variant) ∷ []) s (fits-new address variant).0 in
-      settled cs r _ h (omega arith)
-      ∙ ap (λ (next : DA728x). cond (completed (final (begunIn st b (Match (addressOf "CHIP_REV") (revision variant) ∷ [])) cs)) next r) (record-kept (newRecord address variant))
+      let h = holds st (carrying 1 (newRecord address variant)) (Match (addressOf "CHIP_REV") (revision variant) ∷ []) s (fits-new address variant).0 in
+      made-by-new address variant st cs r s
       ∙ ap (λ (k : Bool). cond k (newRecord address variant) r) (creates (addressOf "CHIP_REV") (revision variant) cs _ h.steps);
   configures = λ r lent a d st cs none e.
       let h = holds-configure r a d st none e in
-      settled cs lent _ h (omega (arith, at_least a d, ap length (append-nil (configureSteps a d))))
+      settled cs lent _ h (omega (arith, at_least a d, ap length (append-nil (configureSteps a d)))) refl
       ∙ ap (λ (next : DA728x). cond (completed (final (startedIn st (operation.configure r a d).start) cs)) next lent) (own-chip r a d lent);
   own = λ r lent. (own-to r lent, own-from r lent);
-  others = each-others (λ address o q b xs e st cs c r s. let h = quiet-holds address o q b xs e st s in stays cs r _ h.0 h.1 c) quiet;
+  loads = λ r lent m lockAfter st cs c l e. loaded-by r m lockAfter st l e cs c lent;
+  uploads = λ r m lockAfter st cs l e.
+      ap (λ (k : Bool). recordFinal (begunIn st (uploadBegun r m) (uploadSteps m lockAfter)) cs (recordBy r (cond k (Sequences 0) Same))) e
+      ∙ loaded-in r m lockAfter st l e cs;
+  others = λ r q t u k b xs e st cs c lent s. let h = quiet-holds r.address (operationOf r q) (quiet r q t u k) b xs e st s in stays cs lent _ h.0 h.1 c;
 }

@@ -1,27 +1,29 @@
 -- An upload sends what the memory shows, and a read fills the front of the buffer. Assumes nothing.
 use Prim.Native.Nat.{ℕ, zero, suc, ◌^◌, ◌<◌, min}
 use native.Mathlib.Omega.{arith}
-use mathlib.Core.Path.{◌≡◌, refl, ◌∙◌, ap}
-use mathlib.Core.Bool.{Bool, true, not, ◌&&◌}
-use mathlib.Core.List.{List, [], append-nil}
+use mathlib.Core.Path.{◌≡◌, refl, sym, ◌∙◌, ap}
+use mathlib.Core.Bool.{Bool, true, false, not, ◌&&◌}
+use mathlib.Core.List.{List, [], ◌∷◌, ◌++◌, append-nil}
 use lib.Dec.{ltb, eqb}
 use lib.ListN.{length, take, drop, get_or}
 use Rattle.exchange.specs.declared.Step.{Step}
-use Rattle.exchange.specs.declared.Step.TheVariants.{Store}
+use Rattle.exchange.specs.declared.Step.TheVariants.{Write, Store}
 use Rattle.exchange.specs.State.{isSession, readCount, indexed, completed, Begun, begunWith, begunIn}
 use Rattle.exchange.specs.Turn.{resized}
 use Rattle.exchange.specs.Session.{AnswerCall, exchangesOf, final, sent, came}
 use Rattle.exchange.proofs.Fills.{fills}
 use Rattle.exchange.proofs.Keeps.{keeps}
 use Rattle.exchange.proofs.Latest.{bytesWanted}
+use Rattle.field.specs.Field.{withOf}
 use Rattle.registers.specs.Table.{addressOf}
 use Rattle.memory.specs.declared.WaveformMemory.{WaveformMemory}
 use Rattle.da728x.specs.declared.DA728x.{DA728x}
-use Rattle.sessions.specs.Sessions.{noImage, blankRecord}
-use Rattle.driver.specs.Operations.{uploadSteps}
+use Rattle.sessions.specs.Sessions.{noImage, blankRecord, setUnlocked, memCtl2, chunkSteps, lockSteps, sendSteps}
+use Rattle.driver.specs.Operations.{uploadBegun, uploadSteps}
+use Rattle.driver.proofs.Answers.{fits-upload}
 use Rattle.driver.specs.Theorems.{addressed, payload, Transfers}
 use Rattle.driver.proofs.Begun.{Holds, holds, all-sent, all-came, no-image, no_record}
-use Rattle.driver.proofs.Upload.{few, shown}
+use Rattle.driver.proofs.Upload.{shown}
 
 -- memory reads want a byte each
 wanted-each : (n i address last : ℕ) (image bytes : List ℕ) → bytesWanted (exchangesOf address last image (indexed Store i n) bytes) ≡ n
@@ -49,20 +51,22 @@ module _ (r : DA728x) (len room : ℕ) (st : List ℕ) (cs : List AnswerCall) (e
 
 -- what an upload begins
 module _ (r : DA728x) (m : WaveformMemory) (lockAfter : Bool) (st : List ℕ) (cs : List AnswerCall) (l : length m.«data» ≡ 100) (e : isSession st ≡ true) where
-  abbrev u : Begun
-  u = begunWith r.address 0 0 0 m.«data» blankRecord
-
   abbrev s : List ℕ
-  s = begunIn st u (uploadSteps m lockAfter)
+  s = begunIn st (uploadBegun r m) (uploadSteps m lockAfter)
 
   sent-whole : completed (final s cs) ≡ true → payload (sent s cs) ≡ addressed (addressOf "SNP_MEM_0") (take m.len m.«data»)
   sent-whole done =
-      ap payload (all-sent (holds st u (uploadSteps m lockAfter) e (few m lockAfter, omega arith, l, no_record)) cs done
+      ap payload (all-sent (holds st (uploadBegun r m) (uploadSteps m lockAfter) e (fits-upload r m lockAfter l)) cs done
       ∙ ap (λ (xs : List Step). exchangesOf r.address 0 m.«data» xs (came s cs)) (append-nil (uploadSteps m lockAfter)))
       ∙ shown r m lockAfter (came s cs) l
 
+locks : (m : WaveformMemory) → uploadSteps m true ≡ uploadSteps m false ++ (Write 0x2D 0x00 ∷ [])
+unfolding sendSteps lockSteps memCtl2 withOf
+locks m = ap (λ (xs : List Step). setUnlocked true ∷ xs) (ap (λ (xs : List Step). xs ++ (Write 0x2D 0x00 ∷ [])) (sym (append-nil (chunkSteps (min m.len 100)))))
+
 pub transfers : Transfers
 transfers = record {
+  locks = locks;
   shown = λ r m lockAfter st cs l e. sent-whole r m lockAfter st cs l e;
   reads = λ r len buffer st replies e h.
       let n = min (min len 100) (length buffer) in

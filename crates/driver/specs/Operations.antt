@@ -1,6 +1,6 @@
 -- Every operation of lib.rs: what it refuses before its first exchange, else its steps, and what it answers once they are made.
--- Document 01, 'Settings to registers', 'Exchanges' and 'Who can cause which answer'; document 02, CR 3 and CR 8.
-use Rattle.std.specs.Prelude.{ℕ, zero, suc, min, Bool, true, false, not, ◌&&◌, List, [], ◌∷◌, ltb, eqb, ℤ, pos, negsuc}
+-- Document 01, 'Settings to registers', 'Exchanges' and 'Who can cause which answer'; document 02, CR 3, CR 8 and CR 10.
+use Rattle.std.specs.Prelude.{ℕ, zero, suc, min, Bool, true, false, cond, not, ◌&&◌, List, [], ◌∷◌, ltb, leb, eqb, ℤ, pos, negsuc}
 use Rattle.registers.specs.Table.{addressOf}
 use Rattle.config.specs.declared.ActuatorConfig.{ActuatorConfig}
 use Rattle.config.specs.declared.DeviceConfig.{DeviceConfig}
@@ -25,9 +25,11 @@ use Rattle.plans.specs.Configure.{frequencySteps, configureSteps}
 use Rattle.da728x.specs.declared.DA728x.{DA728x}
 use Rattle.da728x.specs.declared.Settings.{Settings}
 use Rattle.da728x.specs.declared.Settings.TheVariants.{Absent, Given}
+use Rattle.da728x.specs.Record.{recordBytes}
 use Rattle.sessions.specs.Sessions.{noImage, blankRecord, blank, carrying, enabled, selectStep, startSteps, setUnlocked, sendSteps}
 use Rattle.outcome.specs.declared.Change.{Change}
-use Rattle.outcome.specs.Outcome.{bigEndian, changeBy, recordBy}
+use Rattle.outcome.specs.declared.Change.TheVariants.{Same}
+use Rattle.outcome.specs.Outcome.{bigEndian, forUpload, zeroing, changeBy, recordBy}
 
 -- ---- what starting an operation comes to
 
@@ -43,6 +45,11 @@ startNumber (begins b xs) = 0
 abbrev pub startedIn : List ℕ → Start → List ℕ
 startedIn st (declines number) = st
 startedIn st (begins b xs) = begunIn st b xs
+
+-- what a start makes of the record: an upload sets its count of sequences to 0, any other leaves it
+abbrev pub changeFrom : List ℕ → Start → Change
+changeFrom st (declines number) = Same
+changeFrom st (begins b xs) = cond (eqb b.purpose forUpload) (zeroing st) Same
 
 -- refused with a number, the first of a list of checks; begun where it is 0
 abbrev pub unless : ℕ → Start → Start
@@ -90,14 +97,14 @@ revision DA7281 = 0xCA
 revision DA7282 = 0xDA
 
 abbrev pub newRecord : ℕ → Variant → DA728x
-newRecord address variant = record { address = address; variant = variant; settings = Absent }
+newRecord address variant = record { address = address; variant = variant; settings = Absent; sequences = 0 }
 
 abbrev pub new : ℕ → Variant → Operation
 new address variant = plain (begins (carrying 1 (newRecord address variant)) (Match (addressOf "CHIP_REV") (revision variant) ∷ []))
 
 abbrev pub configure : DA728x → ActuatorConfig → DeviceConfig → Operation
 configure r a d =
-    plain (unless (configureNumber r.variant a d) (begins (carrying 2 (record { address = r.address; variant = r.variant; settings = Given a d })) (configureSteps a d)))
+    plain (unless (configureNumber r.variant a d) (begins (carrying 2 (record { address = r.address; variant = r.variant; settings = Given a d; sequences = 0 })) (configureSteps a d)))
 
 abbrev pub getChipRev : DA728x → Operation
 getChipRev r = asking 3 r (Read (addressOf "CHIP_REV") ∷ [])
@@ -162,8 +169,15 @@ lockWaveformMemory r = plain (runs r (setUnlocked false ∷ []))
 abbrev pub uploadSteps : WaveformMemory → Bool → List Step
 uploadSteps m lockAfter = sendSteps (min m.len 100) lockAfter
 
+-- what the session of an upload carries: the address where it goes, and the count that it gives in the end, "taken from its `num_sequences`"
+abbrev pub uploadRecord : DA728x → WaveformMemory → DA728x
+uploadRecord r m = record { address = r.address; variant = r.variant; settings = Absent; sequences = m.num_sequences }
+
+abbrev pub uploadBegun : DA728x → WaveformMemory → Begun
+uploadBegun r m = begunWith r.address 0 0 forUpload m.«data» (recordBytes (uploadRecord r m))
+
 abbrev pub uploadWaveformMemory : DA728x → WaveformMemory → Bool → Operation
-uploadWaveformMemory r m lockAfter = plain (begins (begunWith r.address 0 0 0 m.«data» blankRecord) (uploadSteps m lockAfter))
+uploadWaveformMemory r m lockAfter = plain (begins (uploadBegun r m) (uploadSteps m lockAfter))
 
 -- "min(len, 100, buffer length) bytes, one an exchange; zero needs none"
 abbrev pub readWaveformMemory : DA728x → ℕ → ℕ → Operation
@@ -171,15 +185,15 @@ readWaveformMemory r len room =
     let n = min (min len 100) room in
     record { start = begins (begunWith r.address n room 5 noImage blankRecord) []; answers = λ bytes. n }
 
--- "a sequence number or loop count above 15 (11)"
-abbrev pub numberChecks : ℕ → ℕ → List Check
-numberChecks id loops = (ltb 15 id, 11) ∷ (ltb 15 loops, 11) ∷ []
+-- "a sequence number or loop count above 15 (11)"; document 02, CR 10: "After the test for 11, a number not below it is refused with 28"
+abbrev pub sequenceChecks : DA728x → ℕ → ℕ → List Check
+sequenceChecks r id loops = (ltb 15 id, 11) ∷ (ltb 15 loops, 11) ∷ (leb r.sequences id, 28) ∷ []
 
 abbrev pub selectSequence : DA728x → ℕ → ℕ → Operation
-selectSequence r id loops = plain (unless (firstFailing (numberChecks id loops)) (runs r (selectStep id loops ∷ [])))
+selectSequence r id loops = plain (unless (firstFailing (sequenceChecks r id loops)) (runs r (selectStep id loops ∷ [])))
 
 abbrev pub startSequence : DA728x → Operation
 startSequence r = plain (runs r startSteps)
 
 abbrev pub playSequence : DA728x → ℕ → ℕ → Operation
-playSequence r id loops = plain (unless (firstFailing (numberChecks id loops)) (runs r (selectStep id loops ∷ startSteps)))
+playSequence r id loops = plain (unless (firstFailing (sequenceChecks r id loops)) (runs r (selectStep id loops ∷ startSteps)))

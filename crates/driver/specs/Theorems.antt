@@ -16,46 +16,77 @@ use Rattle.exchange.specs.declared.Step.{Step}
 use Rattle.exchange.specs.declared.Step.TheVariants.{Write, Store}
 use Rattle.exchange.specs.declared.Exchange.{Exchange}
 use Rattle.exchange.specs.declared.Reply.{Reply}
-use Rattle.exchange.specs.State.{isSession, countIn, completed, indexed, left, Begun, begunIn}
+use Rattle.exchange.specs.State.{isSession, countIn, purposeIn, recordIn, completed, indexed, left, Begun, begunIn}
 use Rattle.exchange.specs.Turn.{resized, reportOf}
-use Rattle.exchange.specs.Session.{AnswerCall, numberAt, afterCall, final, sent, came, brokenOff, exchangesOf, lending, filled}
+use Rattle.exchange.specs.Session.{AnswerCall, taken, numberAt, afterCall, final, sent, came, brokenOff, exchangesOf, lending, filled}
 use Rattle.checks.specs.Checks.{configureNumber}
 use Rattle.plans.specs.Configure.{configureSteps}
 use Rattle.checks.specs.Blames.{OutOfBand, Fault, faults, OfFirst}
 use Rattle.da728x.specs.declared.DA728x.{DA728x}
 use Rattle.da728x.specs.declared.Settings.{Settings}
 use Rattle.da728x.specs.declared.Settings.TheVariants.{Absent, Given}
+use Rattle.da728x.specs.Record.{recordAt}
 use Rattle.sessions.specs.Sessions.{noImage}
-use Rattle.outcome.specs.declared.Change.TheVariants.{Same}
-use Rattle.outcome.specs.Outcome.{isChipOf, outcomeOf}
+use Rattle.outcome.specs.declared.Change.{Change}
+use Rattle.outcome.specs.declared.Change.TheVariants.{Same, Sequences}
+use Rattle.outcome.specs.Outcome.{forUpload, isChipOf, recordBy, outcomeOf}
 use Rattle.driver.specs.Operations as operation
-use Rattle.driver.specs.Operations.{Start, declines, begins, startedIn, Operation, revision, changeAfter, recordAfter}
+use Rattle.driver.specs.Operations.{Start, declines, begins, startedIn, changeFrom, Operation, revision, uploadSteps, changeAfter, recordAfter}
 
--- ---- all eighteen operations
+-- ---- the operations that start from a record, all but `new`
 
--- the sixteen that leave the record, each with its chip's address
-pub record Others (P : ℕ → Operation → Type 0) : Type 0 where
-  pub get-chip-rev : (r : DA728x) → P r.address (operation.getChipRev r)
-  pub get-events : (r : DA728x) → P r.address (operation.getEvents r)
-  pub get-status : (r : DA728x) → P r.address (operation.getStatus r)
-  pub set-frequency : (r : DA728x) (hz : ℕ) → P r.address (operation.setFrequency r hz)
-  pub set-override-value : (r : DA728x) (value : ℤ) → P r.address (operation.setOverrideValue r value)
-  pub set-timebase : (r : DA728x) (timebase : WaveformMemoryTimebase) → P r.address (operation.setTimebase r timebase)
-  pub enable : (r : DA728x) → P r.address (operation.enable r)
-  pub disable : (r : DA728x) → P r.address (operation.disable r)
-  pub set-custom-drive-waveform : (r : DA728x) (p1 p2 p3 : ℕ) → P r.address (operation.setCustomDriveWaveform r p1 p2 p3)
-  pub unlock-waveform-memory : (r : DA728x) → P r.address (operation.unlockWaveformMemory r)
-  pub lock-waveform-memory : (r : DA728x) → P r.address (operation.lockWaveformMemory r)
-  pub upload-waveform-memory : (r : DA728x) (m : WaveformMemory) (lockAfter : Bool) → length m.«data» ≡ 100 → P r.address (operation.uploadWaveformMemory r m lockAfter)
-  pub read-waveform-memory : (r : DA728x) (len room : ℕ) → room < 2 ^ 64 → P r.address (operation.readWaveformMemory r len room)
-  pub select-sequence : (r : DA728x) (id loops : ℕ) → P r.address (operation.selectSequence r id loops)
-  pub start-sequence : (r : DA728x) → P r.address (operation.startSequence r)
-  pub play-sequence : (r : DA728x) (id loops : ℕ) → P r.address (operation.playSequence r id loops)
+-- which, and with what arguments
+pub data Request : Type 0 where
+  Configure : ActuatorConfig → DeviceConfig → Request
+  GetChipRev : Request
+  GetEvents : Request
+  GetStatus : Request
+  SetFrequency : ℕ → Request
+  SetOverrideValue : ℤ → Request
+  SetTimebase : WaveformMemoryTimebase → Request
+  Enable : Request
+  Disable : Request
+  SetCustomDriveWaveform : ℕ → ℕ → ℕ → Request
+  UnlockWaveformMemory : Request
+  LockWaveformMemory : Request
+  UploadWaveformMemory : WaveformMemory → Bool → Request
+  ReadWaveformMemory : ℕ → ℕ → Request
+  SelectSequence : ℕ → ℕ → Request
+  StartSequence : Request
+  PlaySequence : ℕ → ℕ → Request
 
-pub record Each (P : ℕ → Operation → Type 0) : Type 0 where
-  pub new : (address : ℕ) (variant : Variant) → P address (operation.new address variant)
-  pub configure : (r : DA728x) (a : ActuatorConfig) (d : DeviceConfig) → P r.address (operation.configure r a d)
-  pub others : Others P
+abbrev pub operationOf : DA728x → Request → Operation
+operationOf r (Configure a d) = operation.configure r a d
+operationOf r GetChipRev = operation.getChipRev r
+operationOf r GetEvents = operation.getEvents r
+operationOf r GetStatus = operation.getStatus r
+operationOf r (SetFrequency hz) = operation.setFrequency r hz
+operationOf r (SetOverrideValue value) = operation.setOverrideValue r value
+operationOf r (SetTimebase timebase) = operation.setTimebase r timebase
+operationOf r Enable = operation.enable r
+operationOf r Disable = operation.disable r
+operationOf r (SetCustomDriveWaveform p1 p2 p3) = operation.setCustomDriveWaveform r p1 p2 p3
+operationOf r UnlockWaveformMemory = operation.unlockWaveformMemory r
+operationOf r LockWaveformMemory = operation.lockWaveformMemory r
+operationOf r (UploadWaveformMemory m lockAfter) = operation.uploadWaveformMemory r m lockAfter
+operationOf r (ReadWaveformMemory len room) = operation.readWaveformMemory r len room
+operationOf r (SelectSequence id loops) = operation.selectSequence r id loops
+operationOf r StartSequence = operation.startSequence r
+operationOf r (PlaySequence id loops) = operation.playSequence r id loops
+
+-- what is so of every value of its arguments' types: a memory has a hundred bytes, and a buffer's length is below 2^64
+abbrev pub Typed : Request → Type 0
+Typed (UploadWaveformMemory m lockAfter) = length m.«data» ≡ 100
+Typed (ReadWaveformMemory len room) = room < 2 ^ 64
+Typed q = Unit
+
+abbrev pub isUpload : Request → Bool
+isUpload (UploadWaveformMemory m lockAfter) = true
+isUpload q = false
+
+abbrev pub isConfigure : Request → Bool
+isConfigure (Configure a d) = true
+isConfigure q = false
 
 -- ---- what is sent and answered
 
@@ -84,8 +115,8 @@ AnswersAs address o = (b : Begun) (xs : List Step) → o.start ≡ begins b xs �
     Course (begunIn st b xs) address b.image (allSteps b xs) o.answers cs
 
 -- no answer to a session that it begins is told by 16
-abbrev pub NoMismatch : ℕ → Operation → Type 0
-NoMismatch address o = (b : Begun) (xs : List Step) → o.start ≡ begins b xs → (st : List ℕ) → isSession st ≡ true → (cs : List AnswerCall) (c : AnswerCall) →
+abbrev pub NoMismatch : Operation → Type 0
+NoMismatch o = (b : Begun) (xs : List Step) → o.start ≡ begins b xs → (st : List ℕ) → isSession st ≡ true → (cs : List AnswerCall) (c : AnswerCall) →
     ¬ (numberAt (final (begunIn st b xs) cs) c ≡ 16)
 
 -- something that is said of the settings stored; where none are, it does not hold
@@ -94,9 +125,10 @@ InStored P Absent = ⊥
 InStored P (Given a d) = P a d
 
 pub record Answers : Type 0 where
-  pub courses : Each AnswersAs
+  pub news : (address : ℕ) (variant : Variant) → AnswersAs address (operation.new address variant)
+  pub courses : (r : DA728x) (q : Request) → Typed q → AnswersAs r.address (operationOf r q)
   -- "16 VariantMismatch, in `new`": in no other operation
-  pub mismatch : Others NoMismatch × ((r : DA728x) (a : ActuatorConfig) (d : DeviceConfig) → NoMismatch r.address (operation.configure r a d))
+  pub mismatch : (r : DA728x) (q : Request) → Typed q → NoMismatch (operationOf r q)
   -- "`configure` makes at most 25, at least 14 if none fails"
   pub counts : (r : DA728x) (a : ActuatorConfig) (d : DeviceConfig) (st : List ℕ) (cs : List AnswerCall) →
       configureNumber r.variant a d ≡ 0 → isSession st ≡ true →
@@ -130,8 +162,9 @@ pub record Refusals : Type 0 where
   pub set-override-value : (r : DA728x) (value : ℤ) → BeginsUnless (operation.setOverrideValue r value).start
       ((15, r.settings ≡ Absent) ∷ (11, InStored (λ a d. (d.acceleration ≡ true) × BelowZero value) r.settings)
       ∷ (12, InStored (λ a d. ¬ (d.operation_mode ≡ DRO_MODE)) r.settings) ∷ [])
-  pub select-sequence : (r : DA728x) (id loops : ℕ) → BeginsUnless (operation.selectSequence r id loops).start ((11, 15 < id) ∷ (11, 15 < loops) ∷ [])
-  pub play-sequence : (r : DA728x) (id loops : ℕ) → BeginsUnless (operation.playSequence r id loops).start ((11, 15 < id) ∷ (11, 15 < loops) ∷ [])
+  -- and CR 10: "After the test for 11, a number not below it is refused with 28"
+  pub select-sequence : (r : DA728x) (id loops : ℕ) → BeginsUnless (operation.selectSequence r id loops).start ((11, 15 < id) ∷ (11, 15 < loops) ∷ (28, r.sequences ≤ id) ∷ [])
+  pub play-sequence : (r : DA728x) (id loops : ℕ) → BeginsUnless (operation.playSequence r id loops).start ((11, 15 < id) ∷ (11, 15 < loops) ∷ (28, r.sequences ≤ id) ∷ [])
   pub enable : (r : DA728x) → BeginsUnless (operation.enable r).start ((15, r.settings ≡ Absent) ∷ [])
   pub disable : (r : DA728x) → BeginsUnless (operation.disable r).start ((15, r.settings ≡ Absent) ∷ [])
   -- document 02, CR 8: "keeps its two checks"
@@ -145,32 +178,62 @@ pub record Refusals : Type 0 where
 
 -- ---- what is stored
 
+-- what an answer does to the record lent with it
+abbrev pub changeBehind : List ℕ → AnswerCall → DA728x → Change
+changeBehind st c r = changeAfter st c.reply (length c.buffer) r
+
 -- the record after these answers, where it was lent with each
 abbrev pub recordFinal : List ℕ → List AnswerCall → DA728x → DA728x
 recordFinal st [] r = r
 recordFinal st (c ∷ cs) r = recordFinal (afterCall st c) cs (recordAfter st c.reply (length c.buffer) r)
 
--- for every record lent and every list of answers; the first four for every session's bytes (old, foreign, forged)
+-- for every record lent and every list of answers; the first five for every session's bytes (old, foreign, forged)
 pub record Stored : Type 0 where
-  -- an answer that is refused (16, 17, 19) or is not the last leaves the record, every byte of it
-  pub refused : (st : List ℕ) (a : Reply) (n : ℕ) (r : DA728x) → eqb (reportOf st a n).number 0 ≡ false → changeAfter st a n r ≡ Same
-  pub before : (st : List ℕ) (a : Reply) (n : ℕ) (r : DA728x) → (reportOf st a n).ended ≡ false → changeAfter st a n r ≡ Same
-  -- so does every answer to a session that has ended, that was never begun, or of another length; such a session stays
-  pub ended : (st : List ℕ) (c : AnswerCall) (r : DA728x) → left st ≡ [] → (changeAfter st c.reply (length c.buffer) r ≡ Same) × (afterCall st c ≡ st)
-  -- a start that is refused leaves the session's bytes
-  pub declined : (s : Start) (number : ℕ) (st : List ℕ) → s ≡ declines number → startedIn st s ≡ st
+  -- an answer that is refused with 19 leaves the record, every byte of it; where the session is for no upload, so does one that fails (16, 17) or is
+  -- not the last
+  pub refused : (st : List ℕ) (c : AnswerCall) (r : DA728x) → numberAt st c ≡ 19 → changeBehind st c r ≡ Same
+  pub failed : (st : List ℕ) (c : AnswerCall) (r : DA728x) → ¬ (purposeIn st ≡ forUpload) → ¬ (numberAt st c ≡ 0) → changeBehind st c r ≡ Same
+  pub before : (st : List ℕ) (c : AnswerCall) (r : DA728x) → ¬ (purposeIn st ≡ forUpload) → (reportOf st c.reply (length c.buffer)).ended ≡ false → changeBehind st c r ≡ Same
+  -- document 02, CR 10: where it is for an upload, each answer that is taken gives the count of sequences, and nothing else, to a record of the address
+  -- that the session carries, whatever that record holds: 0, unless it completes the upload; a record of another address stays
+  pub counts : (st : List ℕ) (c : AnswerCall) (r : DA728x) → purposeIn st ≡ forUpload → let carried = recordAt (recordIn st) in
+      changeBehind st c r ≡ cond (taken st c.reply (length c.buffer) && eqb carried.address r.address)
+      (Sequences (cond (completed (afterCall st c)) carried.sequences 0)) Same
+  -- every answer to a session that has ended, that was never begun, or of another length leaves it; such a session stays
+  pub ended : (st : List ℕ) (c : AnswerCall) (r : DA728x) → left st ≡ [] → (changeBehind st c r ≡ Same) × (afterCall st c ≡ st)
+  -- a start that is refused, or that lends bytes of another length, leaves both
+  pub declined : (s : Start) (number : ℕ) (st : List ℕ) → s ≡ declines number → (startedIn st s ≡ st) × (changeFrom st s ≡ Same)
+  pub unbegun : (s : Start) (st : List ℕ) → isSession st ≡ false → (startedIn st s ≡ st) × (changeFrom st s ≡ Same)
+  -- the start of an upload sets the count to 0, and no other start changes the record
+  pub zeroes : (r : DA728x) (m : WaveformMemory) (lockAfter : Bool) (st : List ℕ) → isSession st ≡ true →
+      changeFrom st (operation.uploadWaveformMemory r m lockAfter).start ≡ Sequences 0
+  pub starts : (r : DA728x) (q : Request) (st : List ℕ) → Typed q → isUpload q ≡ false → changeFrom st (operationOf r q).start ≡ Same
+  pub starts-new : (address : ℕ) (variant : Variant) (st : List ℕ) → changeFrom st (operation.new address variant).start ≡ Same
   -- `new` makes a record exactly if the one byte that came from CHIP_REV is the variant's
   pub creates : (address : ℕ) (variant : Variant) (st : List ℕ) (cs : List AnswerCall) (r : DA728x) → isSession st ≡ true →
       let s = startedIn st (operation.new address variant).start in
-      recordFinal s cs r ≡ cond (eqb (length (came s cs)) 1 && eqb (at (came s cs) 0) (revision variant)) (record { address = address; variant = variant; settings = Absent }) r
-  -- `configure` stores its settings exactly if it is completed, in a record of its own chip; a record of another chip stays
+      recordFinal s cs r ≡ cond (eqb (length (came s cs)) 1 && eqb (at (came s cs) 0) (revision variant))
+      (record { address = address; variant = variant; settings = Absent; sequences = 0 }) r
+  -- `configure` stores its settings exactly if it is completed, in a record of its own chip, whose count stays; a record of another chip stays
   pub configures : (r lent : DA728x) (a : ActuatorConfig) (d : DeviceConfig) (st : List ℕ) (cs : List AnswerCall) → configureNumber r.variant a d ≡ 0 →
       isSession st ≡ true → let s = startedIn st (operation.configure r a d).start in
-      recordFinal s cs lent ≡ cond (completed (final s cs)) (cond (isChipOf r lent) (record { address = lent.address; variant = lent.variant; settings = Given a d }) lent) lent
+      recordFinal s cs lent ≡ cond (completed (final s cs))
+      (cond (isChipOf r lent) (record { address = lent.address; variant = lent.variant; settings = Given a d; sequences = lent.sequences }) lent) lent
   pub own : (r lent : DA728x) → (isChipOf r lent ≡ true) ↔ ((r.address ≡ lent.address) × (r.variant ≡ lent.variant))
-  -- no answer to another operation changes it
-  pub others : Others (λ address o. (b : Begun) (xs : List Step) → o.start ≡ begins b xs → (st : List ℕ) (cs : List AnswerCall) (c : AnswerCall) (r : DA728x) →
-      isSession st ≡ true → changeAfter (final (begunIn st b xs) cs) c.reply (length c.buffer) r ≡ Same)
+  -- so an answer to an upload that is taken gives a record of its address the image's number of sequences if it completes the upload, and 0 if not
+  pub loads : (r lent : DA728x) (m : WaveformMemory) (lockAfter : Bool) (st : List ℕ) (cs : List AnswerCall) (c : AnswerCall) → length m.«data» ≡ 100 →
+      isSession st ≡ true → let s = final (startedIn st (operation.uploadWaveformMemory r m lockAfter).start) cs in
+      changeBehind s c lent ≡ cond (taken s c.reply (length c.buffer) && eqb r.address lent.address)
+      (Sequences (cond (completed (afterCall s c)) m.num_sequences 0)) Same
+  -- and the record that was lent with the start and with each answer has that number exactly if the upload is completed, else 0; all else of it stays
+  pub uploads : (r : DA728x) (m : WaveformMemory) (lockAfter : Bool) (st : List ℕ) (cs : List AnswerCall) → length m.«data» ≡ 100 → isSession st ≡ true →
+      let o = operation.uploadWaveformMemory r m lockAfter in let s = startedIn st o.start in
+      recordFinal s cs (recordBy r (changeFrom st o.start))
+      ≡ record { address = r.address; variant = r.variant; settings = r.settings; sequences = cond (completed (final s cs)) m.num_sequences 0 }
+  -- no answer to another operation changes the record
+  pub others : (r : DA728x) (q : Request) → Typed q → isUpload q ≡ false → isConfigure q ≡ false → (b : Begun) (xs : List Step) → (operationOf r q).start ≡ begins b xs →
+      (st : List ℕ) (cs : List AnswerCall) (c : AnswerCall) (lent : DA728x) → isSession st ≡ true →
+      changeBehind (final (begunIn st b xs) cs) c lent ≡ Same
 
 -- ---- what is uploaded and read
 
@@ -185,6 +248,8 @@ payload [] = []
 payload (e ∷ es) = cond (leb (addressOf "SNP_MEM_0") (at e.bytes 0)) (addressed (at e.bytes 0) (drop 1 (take e.len e.bytes))) [] ++ payload es
 
 pub record Transfers : Type 0 where
+  -- where the lock is asked for, it is the last exchange (the address and the byte are said again here), and else there is none
+  pub locks : (m : WaveformMemory) → uploadSteps m true ≡ uploadSteps m false ++ (Write 0x2D 0x00 ∷ [])
   -- "Upload sends what `WaveformMemory::as_bytes` shows .. from address 84 (hexadecimal)": once completed, each byte to its own address; no other goes
   -- into the memory
   pub shown : (r : DA728x) (m : WaveformMemory) (lockAfter : Bool) (st : List ℕ) (cs : List AnswerCall) → length m.«data» ≡ 100 → isSession st ≡ true →

@@ -1,14 +1,16 @@
 // Every operation of the driver (lib.rs; document 01, 'Settings to registers' and 'Exchanges'), begun as a session in bytes that the
 // caller lends; a refused one writes nothing. The `DA728x` of lib.rs is `da728x::DA728x` without its bus: it goes in by value with the
-// start and with each answer, and `answer` gives it back, changed only by the answer that completes `new` or `configure`.
+// start and with each answer. `answer` gives it back, changed by the answer that completes `new` or `configure`, and by every one to an
+// upload that is taken: its count of sequences is 0 until the last. The start of an upload gives it back with 0 (document 02, CR 10).
 // `set_custom_drive_waveform`, which has no finished body in the Rust, writes the registers that document 02 (CR 8) names.
 // Left out: the `defmt` prints.
 //
 // Proved: the answer is the papers' number and the session's bytes are those of the operation's steps (specs/Operations.antt).
 // proofs/Refusals.antt: for which fault each of the eighteen starts is refused, and by which number. proofs/Answers.antt: what is sent, in
 // which order and how much, and what every operation answers, 16 in `new` only; the points of a custom wave go to SWG_C1, SWG_C2 and
-// SWG_C3. proofs/Stored.antt: the record changes exactly by the answer that completes `new` or `configure`, and by none to a session that
-// has ended or was never begun. proofs/Transfers.antt: an upload sends the memory's bytes, each to its own address; a read fills the front
+// SWG_C3. proofs/Stored.antt: the record changes exactly by the answer that completes `new` or `configure` and by those to an upload, and by
+// none to a session that has ended or was never begun. proofs/History.antt: a sequence is selected or played only where the last upload
+// was completed and has it. proofs/Transfers.antt: an upload sends the memory's bytes, each to its own address; a read fills the front
 // of the buffer.
 #![tactic(auto)]
 
@@ -22,6 +24,7 @@ ghost use Rattle.exchange.specs.declared.Step.TheVariants.{Write};
 ghost use Rattle.exchange.specs.State.{begunIn};
 ghost use Rattle.exchange.specs.Turn.{stateAfter, bufferAfter, reportOf, turnReport};
 ghost use Rattle.sessions.specs.Sessions.{blank, startSteps};
+ghost use Rattle.outcome.specs.Outcome.{recordBy};
 ghost use Rattle.driver.specs.Operations as spec;
 
 use config::{ActuatorConfig, DeviceConfig, DrivingMode, OperationMode, Variant};
@@ -31,6 +34,13 @@ use exchange::{Reply, Step, Turn};
 use memory::{WaveformMemory, WaveformMemoryTimebase};
 use registers::Register;
 use registers_control::{SEQ_CTL1, SWG_C1, SWG_C2, SWG_C3, TOP_CTL1};
+
+// What starting an upload gives: the answer, and the record in force.
+#[derive(Clone, Copy)]
+pub struct Uploading {
+    pub answer: Answer,
+    pub driver: DA728x,
+}
 
 // What an answer gives: the turn of the session, and the record in force.
 #[derive(Clone, Copy)]
@@ -49,6 +59,7 @@ pub fn new(address: u8, variant: Variant, session: &mut [u8]) -> Answer
         address: address,
         variant: variant,
         settings: Settings::Absent,
+        sequences: 0,
     };
     sessions::begin_with(session, outcome::NEW, next);
     exchange::push(
@@ -80,6 +91,7 @@ pub fn configure(driver: DA728x, a: ActuatorConfig, d: DeviceConfig, session: &m
                 address: driver.address,
                 variant: variant,
                 settings: Settings::Given(a, d),
+                sequences: 0,
             };
             sessions::begin_with(session, outcome::SETTINGS, next);
             plans::configure(session, a, d);
@@ -340,21 +352,33 @@ pub fn lock_waveform_memory(driver: DA728x, session: &mut [u8]) -> Answer
     Answer::Done
 }
 
+// The record has no sequences from here on, until the last exchange succeeds.
 pub fn upload_waveform_memory(
     driver: DA728x,
     memory: WaveformMemory,
     lock_after: bool,
     session: &mut [u8],
-) -> Answer
-    ensures result_value { answerNumber result ≡ spec.startNumber (spec.uploadWaveformMemory driver memory lock_after).start }
+) -> Uploading
+    ensures result_value { answerNumber result.answer ≡ spec.startNumber (spec.uploadWaveformMemory driver memory lock_after).start }
+    ensures driver { result.driver ≡ recordBy driver (spec.changeFrom session.old (spec.uploadWaveformMemory driver memory lock_after).start) }
     ensures session_after { session.new ≡ spec.startedIn session.old (spec.uploadWaveformMemory driver memory lock_after).start }
 {
-    let none = [0u8; da728x::RECORD_SIZE];
+    let variant = driver.variant;
+    let zeroed = outcome::changed(driver, outcome::zeroing(session));
+    let next = DA728x {
+        address: driver.address,
+        variant: variant,
+        settings: Settings::Absent,
+        sequences: memory.num_sequences(),
+    };
     let image = memory.as_bytes();
     let n = sessions::shown(memory.len());
-    exchange::begin(session, driver.address, 0, 0, outcome::COMMAND, image, none);
+    exchange::begin(session, driver.address, 0, 0, outcome::UPLOAD, image, next.to_bytes());
     sessions::send(session, n, lock_after);
-    Answer::Done
+    Uploading {
+        answer: Answer::Done,
+        driver: zeroed,
+    }
 }
 
 // Reads into a buffer of this length, which is lent with every answer.
@@ -394,6 +418,9 @@ pub fn select_sequence(driver: DA728x, sequence_id: u8, loops: u8, session: &mut
     if 15 < loops {
         return Answer::Refused(Error::InvalidValue);
     }
+    if driver.sequences <= sequence_id {
+        return Answer::Refused(Error::MissingSequence);
+    }
     sessions::run(
         session,
         driver.address,
@@ -430,6 +457,9 @@ pub fn play_sequence(driver: DA728x, sequence_id: u8, loops: u8, session: &mut [
     }
     if 15 < loops {
         return Answer::Refused(Error::InvalidValue);
+    }
+    if driver.sequences <= sequence_id {
+        return Answer::Refused(Error::MissingSequence);
     }
     play(
         session,

@@ -29,3 +29,4 @@ has-number Error.InvalidVoltage = omega arith
 has-number Error.InvalidCurrentOrImpedance = omega arith
 has-number Error.InvalidDriveFrequency = omega arith
 has-number Error.BufferTooShort = omega arith
+has-number Error.MissingSequence = omega arith

@@ -37,9 +37,10 @@ numberAndCode Error.VariantMismatch = (16, 0)
 numberAndCode (Error.I2c code) = (17, code)
 -- whoever hands in an image to read
 numberAndCode Error.NotAnImage = (18, 0)
--- the calling program; document 02: "A buffer shorter than the item is refused with 24"
+-- the calling program; document 02: "A buffer shorter than the item is refused with 24", "a number not below it is refused with 28"
 numberAndCode Error.OutOfTurn = (19, 0)
 numberAndCode Error.BufferTooShort = (24, 0)
+numberAndCode Error.MissingSequence = (28, 0)
 
 abbrev pub errorNumber : Error → ℕ
 errorNumber e = (numberAndCode e).0

@@ -33,6 +33,7 @@ pub enum Error {
     InvalidCurrentOrImpedance,
     InvalidDriveFrequency,
     BufferTooShort,
+    MissingSequence,
 }
 
 // What a builder's call answers beside the builder.
@@ -78,6 +79,7 @@ impl Error {
             Error::InvalidCurrentOrImpedance => 0,
             Error::InvalidDriveFrequency => 0,
             Error::BufferTooShort => 0,
+            Error::MissingSequence => 0,
         }
     }
 
@@ -108,6 +110,7 @@ impl Error {
             Error::InvalidCurrentOrImpedance => 22,
             Error::InvalidDriveFrequency => 23,
             Error::BufferTooShort => 24,
+            Error::MissingSequence => 28,
         }
     }
 }

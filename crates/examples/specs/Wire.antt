@@ -137,8 +137,8 @@ wireExamples =
     ∷ (wire [] (operation.selectSequence chip 3 2) is (0x4A002823 ∷ [])) ∷ (wire [] (operation.selectSequence chip 15 15) is (0x4A0028FF ∷ []))
     ∷ (map (λ b. wire (b ∷ []) (operation.playSequence chip 3 2)) (0x00 ∷ 0xFF ∷ []) is ((0x4A002823 ∷ 0x4A0122 ∷ 0x4A002210 ∷ []) ∷ (0x4A002823 ∷ 0x4A0122 ∷ 0x4A0022FF ∷ []) ∷ []))
     -- sessions that run, one with a buffer lent, one whose second of three writes fails; what goes into a buffer; codes that C hands in
-    ∷ (outcomeOf (final (startedIn (replicate 279 0) (operation.getStatus chip).start) (record { reply = Byte 9; buffer = 0 ∷ [] } ∷ [])) is record { made = 1; completed = true; value = 9 })
-    ∷ (outcomeOf (final (startedIn (replicate 279 0) (operation.setCustomDriveWaveform chip 1 2 3).start) (record { reply = Done; buffer = [] } ∷ record { reply = Failed 5; buffer = [] } ∷ record { reply = Done; buffer = [] } ∷ [])) is record { made = 2; completed = false; value = 0 })
+    ∷ (outcomeOf (final (startedIn (replicate 280 0) (operation.getStatus chip).start) (record { reply = Byte 9; buffer = 0 ∷ [] } ∷ [])) is record { made = 1; completed = true; value = 9 })
+    ∷ (outcomeOf (final (startedIn (replicate 280 0) (operation.setCustomDriveWaveform chip 1 2 3).start) (record { reply = Done; buffer = [] } ∷ record { reply = Failed 5; buffer = [] } ∷ record { reply = Done; buffer = [] } ∷ [])) is record { made = 2; completed = false; value = 0 })
     ∷ (copied (1 ∷ 2 ∷ 3 ∷ []) (8 ∷ 9 ∷ []) is (8 ∷ 9 ∷ 3 ∷ [])) ∷ (copied (1 ∷ []) (8 ∷ 9 ∷ []) is (8 ∷ []))
     ∷ (map memoryTimebaseAt (0 ∷ 1 ∷ []) is (TIMEBASE_544_2176_4352_8704 ∷ TIMEBASE_136_544_2176_4352 ∷ [])) ∷ (map variantAt (0 ∷ 1 ∷ 2 ∷ []) is (DA7280 ∷ DA7281 ∷ DA7282 ∷ []))
     -- TRIM4's codes: inductances around each limit of the cap code; whole ohms at 25 and at 113 µH; columns at 18 ohms

@@ -22,9 +22,9 @@ use Rattle.exchange.proofs.Plan.{stepAt, length-joined, joined-steps, plan-parts
 low_again : (n : ℕ) → n < 2 ^ 64 → wordAt (lowBytes 8 n) 0 + 4294967296 * wordAt (lowBytes 8 n) 4 ≡ n
 low_again n h = omega arith
 
-module _ (b : Begun) (xs : List Step) (few : length xs ≤ 25) (image : length b.image ≡ 100) (recorded : length b.«record» ≡ 37) where
+module _ (b : Begun) (xs : List Step) (few : length xs ≤ 25) (image : length b.image ≡ 100) (recorded : length b.«record» ≡ 38) where
   -- it has the size of a session
-  pub size : length (begunBytes b xs) ≡ 279
+  pub size : length (begunBytes b xs) ≡ 280
   size = simp (length-append, length-replicate, length-joined, image, recorded) (omega arith)
 
   -- the bytes of the steps, and zeros
@@ -38,8 +38,8 @@ module _ (b : Begun) (xs : List Step) (few : length xs ≤ 25) (image : length b
   behind-image : drop 117 (begunBytes b xs) ≡ b.«record» ++ rest
   behind-image = sym (drop-drop 100 17 (begunBytes b xs)) ∙ ap (drop 100) behind-head ∙ drop_at b.image (b.«record» ++ rest) 100 image
 
-  behind-record : drop 154 (begunBytes b xs) ≡ rest
-  behind-record = sym (drop-drop 37 117 (begunBytes b xs)) ∙ ap (drop 37) behind-image ∙ drop_at b.«record» rest 37 recorded
+  behind-record : drop 155 (begunBytes b xs) ≡ rest
+  behind-record = sym (drop-drop 38 117 (begunBytes b xs)) ∙ ap (drop 38) behind-image ∙ drop_at b.«record» rest 38 recorded
 
   -- its steps, and the memory reads
   planned : plan (begunBytes b xs) ≡ xs ++ indexed Store 0 (min b.reads 100)
@@ -51,7 +51,7 @@ module _ (b : Begun) (xs : List Step) (few : length xs ≤ 25) (image : length b
 
 -- all that is told of it
 pub begins : (st : List ℕ) (b : Begun) (xs : List Step) → isSession st ≡ true → length xs ≤ 25 → b.room < 2 ^ 64 →
-    length b.image ≡ 100 → length b.«record» ≡ 37 →
+    length b.image ≡ 100 → length b.«record» ≡ 38 →
     (left (begunIn st b xs) ≡ xs ++ indexed Store 0 (min b.reads 100))
     × (addressIn (begunIn st b xs) ≡ b.address)
     × (countIn (begunIn st b xs) ≡ 0)
@@ -71,7 +71,7 @@ begins st b xs s few room image recorded =
       rw l,
       low_again b.room room,
       ap (take 100) (behind-head b xs few image recorded) ∙ take_at b.image _ 100 image,
-      ap (take 37) (behind-image b xs few image recorded) ∙ take_at b.«record» _ 37 recorded,
+      ap (take 38) (behind-image b xs few image recorded) ∙ take_at b.«record» _ 38 recorded,
       refl,
       refl,
       rw l,

@@ -1,4 +1,4 @@
--- Bytes laid over a list, and what they make there: the 33 bytes of an exchange, the 279 of a session. Assumes nothing.
+-- Bytes laid over a list, and what they make there: the 33 bytes of an exchange, the 280 of a session. Assumes nothing.
 use Prim.Native.Nat.{ℕ, suc, zero, ◌+◌, ◌-◌, ◌≤◌, min}
 use mathlib.Core.Path.{◌≡◌, refl, sym, ap, ap₂, ◌∙◌}
 use mathlib.Core.Bool.{Bool, cond}
@@ -80,15 +80,15 @@ uploaded address first start n offset len image part bytes e a f g p q i =
 -- ---- the bytes of a session
 
 -- its four parts laid one behind the other are a session without steps
-pub begun-laid : (st : List ℕ) (b : Begun) (first second third fourth : List ℕ) → length st ≡ 279 → length b.image ≡ 100 → length b.«record» ≡ 37
+pub begun-laid : (st : List ℕ) (b : Begun) (first second third fourth : List ℕ) → length st ≡ 280 → length b.image ≡ 100 → length b.«record» ≡ 38
     → first ≡ over st 0 (headOf b 0) → second ≡ over first 17 b.image
-    → third ≡ over second 117 b.«record» → fourth ≡ over third 154 (replicate 125 0)
+    → third ≡ over second 117 b.«record» → fourth ≡ over third 155 (replicate 125 0)
     → fourth ≡ begunIn st b []
 unfolding begunIn
 begun-laid st b first second third fourth l m n p q r s =
     let head : List ℕ = headOf b 0 in
     let none : List ℕ = replicate 125 0 in
-    s ∙ ap (λ (x : List ℕ). over x 154 none) (r ∙ ap (λ (x : List ℕ). over x 117 b.«record») (q ∙ ap (λ (x : List ℕ). over x 17 b.image) p))
-    ∙ over-filled st head b.image b.«record» none 17 117 154 refl (omega arith) (omega arith) l
+    s ∙ ap (λ (x : List ℕ). over x 155 none) (r ∙ ap (λ (x : List ℕ). over x 117 b.«record») (q ∙ ap (λ (x : List ℕ). over x 17 b.image) p))
+    ∙ over-filled st head b.image b.«record» none 17 117 155 refl (omega arith) (omega arith) l
     ∙ ap (λ (x : List ℕ). x ++ none) (sym (append-nil (head ++ b.image ++ b.«record»)))
     ∙ sym (ap (λ (t : Bool). cond t (begunBytes b []) st) (eq-eqb _ _ l))

@@ -28,13 +28,13 @@ drop-indexed f (suc k) i (suc n) = drop-indexed f k (suc i) n ∙ indexed-same f
 -- ---- `left`
 
 -- bytes of another length are no open session, nor are those of another stage
-pub no-session : (st : List ℕ) → (length st ≡ 279 → ⊥) → isUnbroken st ≡ false
+pub no-session : (st : List ℕ) → (length st ≡ 280 → ⊥) → isUnbroken st ≡ false
 no-session st h = simp (ne_eqb _ _ h)
 
 pub not-begun : (st : List ℕ) → (at st 1 ≡ 1 → ⊥) → isUnbroken st ≡ false
 not-begun st h = ap (λ (t : Bool). isSession st && t) (ne_eqb _ _ h) ∙ and-false (isSession st)
 
-pub opened : (st : List ℕ) → length st ≡ 279 → at st 1 ≡ 1 → isUnbroken st ≡ true
+pub opened : (st : List ℕ) → length st ≡ 280 → at st 1 ≡ 1 → isUnbroken st ≡ true
 opened st l h = simp (eq-eqb _ _ l, eq-eqb _ _ h)
 
 -- no step is left of one that is not open, and it is not completed

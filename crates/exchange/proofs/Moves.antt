@@ -33,12 +33,12 @@ module _ (s t : List ℕ) (e : drop 6 s ≡ drop 6 t) where
   image-same = ap (take 100) (later_same 11)
 
   record_same : recordIn s ≡ recordIn t
-  record_same = ap (take 37) (later_same 111)
+  record_same = ap (take 38) (later_same 111)
 
   plan-same : plan s ≡ plan t
   plan-same =
       plan-parts s
-      ∙ (λ j. indexed (stepAt (later_same 148 j)) 0 (min (at_same 0 j) 25) ++ indexed Store 0 (min (at_same 1 j) 100))
+      ∙ (λ j. indexed (stepAt (later_same 149 j)) 0 (min (at_same 0 j) 25) ++ indexed Store 0 (min (at_same 1 j) 100))
       ∙ sym (plan-parts t)
 
 -- ---- a state after a move
@@ -54,7 +54,7 @@ three st (a ∷ b ∷ []) = refl
 three st (a ∷ b ∷ c ∷ l) = refl
 
 -- byte by byte
-moved-bytes : (st : List ℕ) (w m x y z : ℕ) → length st ≡ 279 → over st 1 (w ∷ m ∷ x ∷ y ∷ z ∷ []) ≡ at st 0 ∷ w ∷ m ∷ x ∷ y ∷ z ∷ drop 6 st
+moved-bytes : (st : List ℕ) (w m x y z : ℕ) → length st ≡ 280 → over st 1 (w ∷ m ∷ x ∷ y ∷ z ∷ []) ≡ at st 0 ∷ w ∷ m ∷ x ∷ y ∷ z ∷ drop 6 st
 moved-bytes [] w m x y z e = absurd (omega (arith, e))
 moved-bytes (a ∷ st) w m x y z e = refl
 
@@ -76,12 +76,12 @@ pub record Moved (st t : List ℕ) (w : ℕ) (came : List ℕ) : Type 0 where
 -- a move does that
 pub moves : (st : List ℕ) (w : ℕ) (came : List ℕ) → isSession st ≡ true → Moved st (moved st w came) w came
 moves st w came s =
-    let e : length st ≡ 279 = eqb-true _ _ s in
+    let e : length st ≡ 280 = eqb-true _ _ s in
     let t = moved st w came in
     let l = three st came in
     let m = ap (λ (k : List ℕ). over st 1 (w ∷ (madeIn st + 1) ∷ k)) l ∙ moved-bytes st w (madeIn st + 1) _ _ _ e in
     let d : drop 6 t ≡ drop 6 st = ap (drop 6) m in
-    let n : length t ≡ 279 = ap length m ∙ simp length-drop (omega arith) in
+    let n : length t ≡ 280 = ap length m ∙ simp length-drop (omega arith) in
     let h : isSession t ≡ true = eq-eqb _ _ n in
     let k : madeIn t ≡ madeIn st + 1 = ap madeIn m in
     record {

@@ -97,10 +97,10 @@ joined-steps (x ∷ xs) l =
 
 module _ (st : List ℕ) where
   -- a step that is encoded
-  encoded : (i : ℕ) → i < stepCount st → stepIn st i ≡ stepAt (drop 154 st) i
+  encoded : (i : ℕ) → i < stepCount st → stepIn st i ≡ stepAt (drop 155 st) i
   encoded i h =
       ap (λ (b : Bool). cond b (encodedStep st i) (Store (i - stepCount st))) (lt-ltb i (stepCount st) h)
-      ∙ step-drop st 154 i _ _ _ _ _ (omega arith) (omega arith) (omega arith) (omega arith) (omega arith)
+      ∙ step-drop st 155 i _ _ _ _ _ (omega arith) (omega arith) (omega arith) (omega arith) (omega arith)
 
   -- a memory read behind them
   behind : (i : ℕ) → stepIn st (stepCount st + i) ≡ Store i
@@ -110,10 +110,10 @@ module _ (st : List ℕ) where
       ap (λ (b : Bool). cond b (encodedStep st (n + i)) (Store (n + i - n))) (le-ltb (n + i) n (omega arith)) ∙ ap Store k
 
   -- the plan is the one, and then the other
-  pub plan-parts : plan st ≡ indexed (stepAt (drop 154 st)) 0 (stepCount st) ++ indexed Store 0 (readCount st)
+  pub plan-parts : plan st ≡ indexed (stepAt (drop 155 st)) 0 (stepCount st) ++ indexed Store 0 (readCount st)
   plan-parts =
       let n = stepCount st in
       let m = readCount st in
-      let p = indexed-same (stepIn st) (stepAt (drop 154 st)) 0 0 n (λ j h. encoded (0 + j) (omega arith)) in
+      let p = indexed-same (stepIn st) (stepAt (drop 155 st)) 0 0 n (λ j h. encoded (0 + j) (omega arith)) in
       let q = indexed-same (stepIn st) Store (0 + n) 0 m (λ j h. ap (λ (k : ℕ). stepIn st (k + j)) (zero-add n) ∙ behind j ∙ ap Store (sym (zero-add j))) in
       indexed-append (stepIn st) 0 n m ∙ (λ t. p t ++ q t)

@@ -42,7 +42,7 @@ unfolding pushed
 push-none [] st s = refl
 push-none (y ∷ ys) st s = rw s (push-none ys st s)
 
-module _ (b : Begun) (image : length b.image ≡ 100) (recorded : length b.«record» ≡ 37) where
+module _ (b : Begun) (image : length b.image ≡ 100) (recorded : length b.«record» ≡ 38) where
   -- what stands before the steps, where there are n
   abbrev front : ℕ → List ℕ
   front n = headOf b n ++ b.image ++ b.«record»
@@ -53,10 +53,10 @@ module _ (b : Begun) (image : length b.image ≡ 100) (recorded : length b.«rec
   push-one xs x h =
       let n = length xs in
       let p = front (n + 1) ++ joined (map stepBytes xs) in
-      let e : length p ≡ 154 + 5 * n = simp (length-append, length-joined, image, recorded) (omega arith) in
+      let e : length p ≡ 155 + 5 * n = simp (length-append, length-joined, image, recorded) (omega arith) in
       let m : n + 1 ≡ length (xs ++ (x ∷ [])) = sym (length-append xs (x ∷ [])) in
-      let k = ap (λ (z : List ℕ). over (p ++ z) (154 + 5 * n) (stepBytes x)) (zeros-more n h) in
-      let o = over-at p (replicate 5 0) (zeros (n + 1)) (stepBytes x) (154 + 5 * n) e (sym (length-step x)) in
+      let k = ap (λ (z : List ℕ). over (p ++ z) (155 + 5 * n) (stepBytes x)) (zeros-more n h) in
+      let o = over-at p (replicate 5 0) (zeros (n + 1)) (stepBytes x) (155 + 5 * n) e (sym (length-step x)) in
       let a = append_assoc (front (n + 1)) (joined (map stepBytes xs)) (stepBytes x) in
       let j = sym (joined-more xs x) in
       rw (eq-eqb _ _ (size b xs (omega arith) image recorded), lt-ltb _ _ h) (k ∙ o ∙ (λ t. a t ++ zeros (n + 1)) ∙ (λ t. front (m t) ++ j t ++ zeros (m t)))
@@ -71,7 +71,7 @@ module _ (b : Begun) (image : length b.image ≡ 100) (recorded : length b.«rec
       ∙ ap (begunBytes b) e
 
 -- also where the bytes are no session
-pub pushes : (st : List ℕ) (b : Begun) (xs ys : List Step) → length b.image ≡ 100 → length b.«record» ≡ 37 → length (xs ++ ys) ≤ 25 →
+pub pushes : (st : List ℕ) (b : Begun) (xs ys : List Step) → length b.image ≡ 100 → length b.«record» ≡ 38 → length (xs ++ ys) ≤ 25 →
     pushedAll (begunIn st b xs) ys ≡ begunIn st b (xs ++ ys)
 unfolding begunIn
 pushes st b xs ys image recorded h = go (isSession st) refl

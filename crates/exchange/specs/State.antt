@@ -1,9 +1,9 @@
--- A session as the 279 bytes that the caller lends: document 01, 'Exchanges', "An operation becomes a session"; the layout is ours.
+-- A session as the 280 bytes that the caller lends: document 01, 'Exchanges', "An operation becomes a session"; the layout is ours.
 -- Bytes of another length, and those whose stage is not 1, have no step left and are not completed.
 --   0 chip address               6 how many steps               16 what the operation is for
 --   1 stage: 0 not begun,        7 how many memory reads        17 the image to upload, 100 bytes
---     1 begun, 2 broken off      8 length of the read buffer,  117 the record that it is for, 37 bytes
---   2 exchanges made               8 bytes                     154 the steps, 25 of five bytes
+--     1 begun, 2 broken off      8 length of the read buffer,  117 the record that it is for, 38 bytes
+--   2 exchanges made               8 bytes                     155 the steps, 25 of five bytes
 --   3 the last three bytes read, the newest first
 use Rattle.std.specs.Prelude.{ℕ, suc, zero, ◌+◌, ◌-◌, ◌*◌, min, Bool, true, false, cond, ◌&&◌, List, [], ◌∷◌, ◌++◌, map, ltb, leb, eqb, length, take, drop, set, replicate}
 use Rattle.laws.specs.Copied.{over}
@@ -15,7 +15,7 @@ use Rattle.exchange.specs.declared.Step.TheVariants.{Store}
 use Rattle.exchange.specs.Steps.{stepOf, stepBytes}
 
 abbrev pub isSession : List ℕ → Bool
-isSession st = eqb (length st) 279
+isSession st = eqb (length st) 280
 
 -- ---- what the bytes say
 
@@ -62,11 +62,11 @@ abbrev pub imageIn : List ℕ → List ℕ
 imageIn st = take 100 (drop 17 st)
 
 abbrev pub recordIn : List ℕ → List ℕ
-recordIn st = take 37 (drop 117 st)
+recordIn st = take 38 (drop 117 st)
 
 -- where the i-th step stands
 abbrev pub placeOf : ℕ → ℕ
-placeOf i = 154 + 5 * i
+placeOf i = 155 + 5 * i
 
 abbrev pub encodedStep : List ℕ → ℕ → Step
 encodedStep st i = stepOf (at st (placeOf i)) (at st (placeOf i + 1)) (at st (placeOf i + 2)) (at st (placeOf i + 3)) (at st (placeOf i + 4))

@@ -61,7 +61,7 @@ fitOf st a n = cond (resized st n) Unfit (fitsNext (left st) a)
 
 -- a session of its size that has counted less than its most steps
 abbrev pub going : List ℕ → Type 0
-going st = (length st ≡ 279) × (madeIn st < 125)
+going st = (length st ≡ 280) × (madeIn st < 125)
 
 -- what an answer does
 pub record Effect : Type 0 where

@@ -2,7 +2,7 @@
 // exchange of one step after the other, takes back the bus's answer, and ends. Its state is bytes that the caller lends, so that
 // firmware can hold it across an await; the layout stands in specs/State.antt. Left out: the bus itself and its waiting.
 //
-// Proved: each function equals its definition for every state, answer and buffer. Bytes of another length than 279, or whose stage is not 1
+// Proved: each function equals its definition for every state, answer and buffer. Bytes of another length than 280, or whose stage is not 1
 // (not begun, or broken off), have no step left and are not completed. proofs/Session.antt: over every list of answers the
 // exchanges are those of the steps, in order, and the count is true.
 #![tactic(auto)]
@@ -17,10 +17,10 @@ ghost use Rattle.exchange.specs.Turn.{pendingOf, fittingOf, resized, fitOf, goin
 use errors::{Answer, Error};
 use registers::Register;
 
-pub const SESSION_SIZE: usize = 279;
+pub const SESSION_SIZE: usize = 280;
 
 // How many bytes the record has that an operation is for.
-pub const RECORD_SIZE: usize = 37;
+pub const RECORD_SIZE: usize = 38;
 
 // What stands where in a session.
 const ADDRESS: usize = 0;
@@ -43,7 +43,7 @@ const IMAGE: usize = 17;
 
 pub const RECORD: usize = 117;
 
-pub const PLAN: usize = 154;
+pub const PLAN: usize = 155;
 
 // The stage of a session that was begun, and of one that was broken off.
 const BEGUN: u8 = 1;
@@ -248,7 +248,7 @@ fn current(session: &[u8]) -> Slot
 
 // The i-th encoded step.
 fn step_at(session: &[u8], i: u8) -> Step
-    requires { (length session.now ≡ 279) × (i < 25) }
+    requires { (length session.now ≡ 280) × (i < 25) }
     ensures { result ≡ encodedStep session.now i }
 {
     let k = 5 * (i as usize);
@@ -272,7 +272,7 @@ pub fn pending(session: &[u8]) -> Exchange
 }
 
 fn exchange_for(session: &[u8], step: Step) -> Exchange
-    requires { length session.now ≡ 279 }
+    requires { length session.now ≡ 280 }
     ensures { result ≡ exchangeFor (addressIn session.now) (at session.now 3) (imageIn session.now) step }
 {
     let address = session[ADDRESS];
@@ -524,7 +524,7 @@ fn fitting(step: Step, reply: Reply) -> Fit
 
 // Whether the read buffer's length is another than at the start.
 fn is_resized(session: &[u8], n: usize) -> bool
-    requires { length session.now ≡ 279 }
+    requires { length session.now ≡ 280 }
     ensures { result ≡ resized session.now n }
 {
     if session[READS] < 1 {
@@ -535,7 +535,7 @@ fn is_resized(session: &[u8], n: usize) -> bool
 
 // The length that the read buffer had at the start.
 fn room(session: &[u8]) -> usize
-    requires { length session.now ≡ 279 }
+    requires { length session.now ≡ 280 }
     ensures { result ≡ roomIn session.now }
 {
     let low = word(

@@ -1,4 +1,4 @@
--- What a session gives in the end, and what an answer makes of the record lent with it: document 01, 'Exchanges'.
+-- What a session gives in the end, and what an answer makes of the record lent with it: document 01, 'Exchanges'; document 02, CR 10.
 use Rattle.std.specs.Prelude.{ℕ, ◌+◌, ◌*◌, Bool, cond, ◌&&◌, List, [], ◌∷◌, eqb, get_or}
 use Rattle.laws.specs.Lists.{at}
 use Rattle.config.specs.Codes.{variantCode}
@@ -7,11 +7,12 @@ use Rattle.exchange.specs.Turn.{Report}
 use Rattle.da728x.specs.declared.DA728x.{DA728x}
 use Rattle.da728x.specs.Record.{recordAt}
 use Rattle.outcome.specs.declared.Change.{Change}
-use Rattle.outcome.specs.declared.Change.TheVariants.{Same, To}
+use Rattle.outcome.specs.declared.Change.TheVariants.{Same, To, Sequences}
 use Rattle.outcome.specs.declared.Outcome.{Outcome}
 
 -- What a session is for: 0 no record and no value, 1 the record of `new`, 2 the settings of `configure`,
--- 3 the byte read last, 4 the last three bytes, 5 how many bytes of memory were read.
+-- 3 the byte read last, 4 the last three bytes, 5 how many bytes of memory were read, 6 an upload. The session carries a record: the new one, one with
+-- the settings, or one with the address and the number of sequences of the image.
 
 -- bytes as one number, the first highest
 abbrev pub bigEndian : ℕ → List ℕ → ℕ
@@ -24,19 +25,43 @@ abbrev pub isChipOf : DA728x → DA728x → Bool
 isChipOf next r = eqb next.address r.address && eqb (variantCode next.variant) (variantCode r.variant)
 
 abbrev pub settling : DA728x → DA728x → Change
-settling next r = cond (isChipOf next r) (To (record { address = r.address; variant = r.variant; settings = next.settings })) Same
+settling next r = cond (isChipOf next r) (To (record { address = r.address; variant = r.variant; settings = next.settings; sequences = r.sequences })) Same
 
+abbrev pub forUpload : ℕ
+forUpload = 6
+
+-- the start of an upload: "zero .. from the first exchange of any upload". From the start on is ours: it hands that exchange out, and nothing tells
+-- when it is on the bus; where the lent bytes are no session, there is none
+abbrev pub zeroing : List ℕ → Change
+zeroing st = cond (isSession st) (Sequences 0) Same
+
+-- as many sequences as are said, for a record of the address where the upload goes; that another record stays is ours
+abbrev pub counting : DA728x → ℕ → DA728x → Change
+counting next n r = cond (eqb next.address r.address) (Sequences n) Same
+
+-- the last success of a session, by what it is for; "Settings are stored only after the last"
 abbrev pub changeFor : ℕ → DA728x → DA728x → Change
-changeFor purpose next r = get_or (Same ∷ To next ∷ settling next r ∷ []) purpose Same
+changeFor purpose next r = get_or (Same ∷ To next ∷ settling next r ∷ Same ∷ Same ∷ Same ∷ counting next next.sequences r ∷ []) purpose Same
 
--- what an answer does to the record lent with it, where the session is `st` afterwards: nothing, unless it was taken and is the last;
--- "Settings are stored only after the last"
+-- any other answer that is taken: "until its last succeeds, so an upload that ends in 17 leaves zero"
+abbrev pub changeBefore : ℕ → DA728x → DA728x → Change
+changeBefore purpose next r = cond (eqb purpose forUpload) (counting next 0 r) Same
+
+-- what an answer does to the record lent with it, where the session is `st` afterwards: one that is refused with 19 does nothing
 unfoldable pub changeBy : List ℕ → Report → DA728x → Change
-changeBy st t r = cond (isSession st && (t.ended && eqb t.number 0)) (changeFor (purposeIn st) (recordAt (recordIn st)) r) Same
+changeBy st t r =
+    let next = recordAt (recordIn st) in
+    cond (isSession st)
+    (cond (t.ended && eqb t.number 0) (changeFor (purposeIn st) next r) (cond (eqb t.number 19) Same (changeBefore (purposeIn st) next r))) Same
+
+-- a record with so many sequences
+abbrev pub withSequences : DA728x → ℕ → DA728x
+withSequences r n = record { address = r.address; variant = r.variant; settings = r.settings; sequences = n }
 
 abbrev pub recordBy : DA728x → Change → DA728x
 recordBy r Same = r
 recordBy r (To next) = next
+recordBy r (Sequences n) = withSequences r n
 
 -- what the operation answers
 abbrev pub valueIn : List ℕ → ℕ

@@ -1,8 +1,8 @@
-// What an answer makes of the record in force, and what a session came to (lib.rs; document 01, 'Exchanges'): what a session is for decides
-// both. Proved: they are those of specs/Outcome.antt, whatever the session's bytes are. Left out: the operations, which are in `driver`.
+// What an answer makes of the record in force, and what a session came to (lib.rs; document 01, 'Exchanges'; document 02,
+// CR 10): what a session is for decides both. Proved: they are those of specs/Outcome.antt, whatever the session's bytes are. Left out: the operations, which are in `driver`.
 #![tactic(auto)]
 
-ghost use Rattle.std.specs.Prelude.{min, ◌≡◌, cond, ◌&&◌, ◌||◌, [], ◌∷◌, eqb, length};
+ghost use Rattle.std.specs.Prelude.{min, ◌≡◌, cond, ◌&&◌, ◌||◌, true, [], ◌∷◌, eqb, length};
 ghost use Rattle.exchange.specs.State.{isSession, completed, purposeIn, recordIn};
 ghost use Rattle.exchange.specs.Turn.{turnReport};
 ghost use Rattle.da728x.specs.Record.{recordAt};
@@ -24,11 +24,16 @@ pub const THREE_BYTES: u8 = 4;
 
 pub const LENGTH: u8 = 5;
 
-// What an answer makes of the record that is lent with it.
+pub const UPLOAD: u8 = 6;
+
+const OUT_OF_TURN: u8 = 19;
+
+// What a start, or an answer, makes of the record that is lent with it: nothing, another record, or another count of sequences.
 #[derive(Clone, Copy)]
 pub enum Change {
     Same,
     To(DA728x),
+    Sequences(u8),
 }
 
 // What a session came to: how many exchanges were made, whether these are all, and then what the operation answers.
@@ -48,30 +53,59 @@ pub fn changed(driver: DA728x, change: Change) -> DA728x
     match change {
         Change::Same => driver,
         Change::To(next) => next,
+        Change::Sequences(n) => with_sequences(driver, n),
+    }
+}
+
+// The record with so many sequences.
+fn with_sequences(driver: DA728x, sequences: u8) -> DA728x
+    ensures { result ≡ spec.withSequences driver sequences }
+{
+    let variant = driver.variant;
+    let settings = driver.settings;
+    DA728x {
+        address: driver.address,
+        variant: variant,
+        settings: settings,
+        sequences: sequences,
     }
 }
 
 // Whether an answer that gave this turn may change a record; where not, none need be looked at (proofs/Changes.antt, `unchanged`).
 pub fn may_change(session: &[u8], turn: Turn) -> bool
     ensures { result
-        ≡ (turn.ended && (isSession session.now && (eqb (purposeIn session.now) 1 || eqb (purposeIn session.now) 2))) }
+        ≡ (isSession session.now && cond (eqb (purposeIn session.now) 6) true
+        (turn.ended && (eqb (purposeIn session.now) 1 || eqb (purposeIn session.now) 2))) }
 {
-    if turn.ended {
-        if session.len() == exchange::SESSION_SIZE {
-            return has_record(session[exchange::PURPOSE]);
-        }
+    if session.len() == exchange::SESSION_SIZE {
+        return may_change_for(session[exchange::PURPOSE], turn.ended);
     }
     false
 }
 
-// Whether a session for this purpose carries a record.
-fn has_record(purpose: u8) -> bool
-    ensures { result ≡ eqb purpose 1 || eqb purpose 2 }
+fn may_change_for(purpose: u8, ended: bool) -> bool
+    ensures { result ≡ cond (eqb purpose 6) true (ended && (eqb purpose 1 || eqb purpose 2)) }
 {
-    if purpose == NEW {
+    if purpose == UPLOAD {
         return true;
     }
-    purpose == SETTINGS
+    if ended {
+        if purpose == NEW {
+            return true;
+        }
+        return purpose == SETTINGS;
+    }
+    false
+}
+
+// What the start of an upload makes of the record, in a session of these bytes.
+pub fn zeroing(session: &[u8]) -> Change
+    ensures { result ≡ spec.zeroing session.now }
+{
+    if session.len() == exchange::SESSION_SIZE {
+        return Change::Sequences(0);
+    }
+    Change::Same
 }
 
 // What an answer that gave this turn makes of the record that was lent with it; the session is as the answer left it.
@@ -80,30 +114,50 @@ pub fn change_by(driver: DA728x, session: &[u8], turn: Turn) -> Change
     ensures { result ≡ spec.changeBy session.now (turnReport turn) driver }
 {
     let answer = turn.answer;
+    let number = answer.number();
     if session.len() == exchange::SESSION_SIZE {
         if turn.ended {
-            if answer.number() == 0 {
+            if number == 0 {
                 return change_for(driver, session);
             }
+        }
+        if number != OUT_OF_TURN {
+            return change_before(driver, session);
         }
     }
     Change::Same
 }
 
+// The last success.
 fn change_for(driver: DA728x, session: &[u8]) -> Change
-    requires { length session.now ≡ 279 }
+    requires { length session.now ≡ 280 }
     ensures { result ≡ spec.changeFor (purposeIn session.now) (recordAt (recordIn session.now)) driver }
 {
     match session[exchange::PURPOSE] {
         NEW => Change::To(carried(session)),
         SETTINGS => settle(carried(session), driver),
+        UPLOAD => {
+            let next = carried(session);
+            count(next, next.sequences, driver)
+        }
         _ => Change::Same,
     }
 }
 
+// Any other answer that was taken.
+fn change_before(driver: DA728x, session: &[u8]) -> Change
+    requires { length session.now ≡ 280 }
+    ensures { result ≡ spec.changeBefore (purposeIn session.now) (recordAt (recordIn session.now)) driver }
+{
+    if session[exchange::PURPOSE] == UPLOAD {
+        return count(carried(session), 0, driver);
+    }
+    Change::Same
+}
+
 // The record that a session carries.
 fn carried(session: &[u8]) -> DA728x
-    requires { length session.now ≡ 279 }
+    requires { length session.now ≡ 280 }
     ensures { result ≡ recordAt (recordIn session.now) }
 {
     DA728x::from_bytes(&session[exchange::RECORD..exchange::PLAN])
@@ -120,7 +174,18 @@ fn settle(next: DA728x, driver: DA728x) -> Change
             address: driver.address,
             variant: variant,
             settings: settings,
+            sequences: driver.sequences,
         });
+    }
+    Change::Same
+}
+
+// So many sequences, where the upload goes to the record's address.
+fn count(next: DA728x, sequences: u8, driver: DA728x) -> Change
+    ensures { result ≡ spec.counting next sequences driver }
+{
+    if next.address == driver.address {
+        return Change::Sequences(sequences);
     }
     Change::Same
 }
@@ -163,7 +228,7 @@ fn answer_of(session: &[u8]) -> u32
 }
 
 fn value(session: &[u8]) -> u32
-    requires { length session.now ≡ 279 }
+    requires { length session.now ≡ 280 }
     ensures { result ≡ spec.valueIn session.now }
 {
     let last = session[exchange::LAST];

@@ -8,6 +8,7 @@ use Rattle.exchange.specs.declared.Step.TheVariants.{Read, Update}
 use Rattle.exchange.specs.State.{Begun, begunWith, begunIn, pushed, pushedAll}
 use Rattle.exchange.proofs.Pushes.{pushes}
 use Rattle.da728x.specs.declared.DA728x.{DA728x}
+use Rattle.da728x.specs.Record.{recordBytes}
 use Rattle.da728x.proofs.Kept.{record-length}
 use Rattle.sessions.specs.Sessions.{noImage, blankRecord, blank, carrying}
 
@@ -33,10 +34,11 @@ pub made : (st : List ℕ) {s u : List ℕ} (purpose : ℕ) (next : DA728x) (xs 
 unfolding noImage
 made st purpose next xs few h k = onto xs k h ∙ pushes st (carrying purpose next) [] xs refl (record-length next) few
 
-pub uploaded : (st : List ℕ) {s u : List ℕ} (address : ℕ) (image : List ℕ) {ys : List Step} (xs : List Step) → length image ≡ 100 → length xs ≤ 25 →
-    s ≡ begunIn st (begunWith address 0 0 0 image blankRecord) [] → u ≡ pushedAll s ys → ys ≡ xs → u ≡ begunIn st (begunWith address 0 0 0 image blankRecord) xs
-unfolding blankRecord
-uploaded st address image xs e few h k l = k ∙ (λ i. pushedAll (h i) (l i)) ∙ pushes st (begunWith address 0 0 0 image blankRecord) [] xs e refl few
+pub uploaded : (st : List ℕ) {s u : List ℕ} (address purpose : ℕ) (image : List ℕ) (next : DA728x) {ys : List Step} (xs : List Step) → length image ≡ 100 → length xs ≤ 25 →
+    s ≡ begunIn st (begunWith address 0 0 purpose image (recordBytes next)) [] → u ≡ pushedAll s ys → ys ≡ xs →
+    u ≡ begunIn st (begunWith address 0 0 purpose image (recordBytes next)) xs
+uploaded st address purpose image next xs e few h k l =
+    k ∙ (λ i. pushedAll (h i) (l i)) ∙ pushes st (begunWith address 0 0 purpose image (recordBytes next)) [] xs e (record-length next) few
 
 -- ---- a session, by what is known of its values
 

@@ -17,7 +17,7 @@ unfoldable pub noImage : List ℕ
 noImage = replicate 100 0
 
 unfoldable pub blankRecord : List ℕ
-blankRecord = replicate 37 0
+blankRecord = replicate 38 0
 
 -- steps on the chip's registers alone, for this purpose (a code of `outcome`)
 abbrev pub blank : ℕ → ℕ → Begun

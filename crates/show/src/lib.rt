@@ -93,7 +93,7 @@ pub fn error(rt: &impl Print, number: u8) -> io::Result<()> {
         b"Done InvalidTimebase InvalidAmplitude InvalidSnippetId InvalidLoopCount InvalidFrequency TooManySnippets \
           TooManySequences WaveformMemoryFull EmptySnippet EmptySequence InvalidValue WrongMode \
           MissingTriggerConfigInEtwmMode NotSupported NotConfigured VariantMismatch I2c NotAnImage OutOfTurn \
-          - InvalidVoltage InvalidCurrentOrImpedance InvalidDriveFrequency BufferTooShort",
+          - InvalidVoltage InvalidCurrentOrImpedance InvalidDriveFrequency BufferTooShort - - - MissingSequence",
         number as usize,
     )?;
     Ok(())

@@ -15,34 +15,36 @@ pub fn agrees(kind: u8, bytes: &[u8], ends: &[usize]) -> bool {
     match kind {
         FIRST..=LAST => {
             let mut state = [MARKER; exchange::SESSION_SIZE];
-            started(kind, bytes, ends, &mut state)
+            lending(kind, bytes, ends, &mut state)
         }
         _ => false,
     }
 }
 
-fn started(kind: u8, bytes: &[u8], ends: &[usize], state: &mut [u8]) -> bool {
-    let number = begun(kind, bytes, ends, state);
+// The record is lent with the start and with each answer; bytes of the marker, where the case has none.
+fn lending(kind: u8, bytes: &[u8], ends: &[usize], state: &mut [u8]) -> bool {
+    let mut record = [MARKER; exchange::RECORD_SIZE];
+    laws::copy_into(&mut record, field(bytes, ends, 1));
+    started(kind, bytes, ends, state, &mut record)
+}
+
+fn started(kind: u8, bytes: &[u8], ends: &[usize], state: &mut [u8], record: &mut [u8]) -> bool {
+    let number = begun(kind, bytes, ends, state, record);
     if number != at(field(bytes, ends, 4), 0) {
         return false;
     }
     if number == 0 {
-        return complete(bytes, ends, state);
+        return completed(bytes, ends, state, record);
     }
-    refused(state, field(bytes, ends, 5), field(bytes, ends, 6))
+    both(
+        changed(record, field(bytes, ends, 1), field(bytes, ends, 8)),
+        refused(state, field(bytes, ends, 5), field(bytes, ends, 6)),
+    )
 }
 
-fn begun(kind: u8, bytes: &[u8], ends: &[usize], state: &mut [u8]) -> u8 {
-    let record = field(bytes, ends, 1);
+fn begun(kind: u8, bytes: &[u8], ends: &[usize], state: &mut [u8], record: &mut [u8]) -> u8 {
     let arguments = field(bytes, ends, 2);
     start(kind, record, arguments, field(bytes, ends, 3), state)
-}
-
-// The record is lent with each answer; 37 bytes of the marker, where the case has none.
-fn complete(bytes: &[u8], ends: &[usize], state: &mut [u8]) -> bool {
-    let mut record = [MARKER; 37];
-    laws::copy_into(&mut record, field(bytes, ends, 1));
-    completed(bytes, ends, state, &mut record)
 }
 
 fn completed(bytes: &[u8], ends: &[usize], state: &mut [u8], record: &mut [u8]) -> bool {
@@ -59,7 +61,7 @@ fn completed(bytes: &[u8], ends: &[usize], state: &mut [u8], record: &mut [u8]) 
 }
 
 // Begins a session of a kind from the first to the last: 0 or the number of the refusal.
-fn start(kind: u8, record: &[u8], arguments: &[u8], input: &[u8], session: &mut [u8]) -> u8 {
+fn start(kind: u8, record: &mut [u8], arguments: &[u8], input: &[u8], session: &mut [u8]) -> u8 {
     let a = at(arguments, 0);
     match kind {
         32 => capi_driver::da728x_new(a, at(arguments, 1), session),

@@ -2,6 +2,7 @@
 
 use embedded_hal_async::i2c::{ErrorKind, ErrorType, I2c, NoAcknowledgeSource};
 use std::cell::RefCell;
+use std::future::pending;
 use std::pin::pin;
 use std::rc::Rc;
 use std::task::{Context, Poll, Waker};
@@ -68,12 +69,23 @@ impl Script {
 pub struct Wire {
     script: Script,
     read: usize,
+    /// How many exchanges it makes.
+    until: usize,
     pub log: Vec<Exchange>,
 }
 
 impl Wire {
     pub fn new(script: &Script) -> Self {
-        Self { script: script.clone(), read: 0, log: Vec::new() }
+        Self::until(script, usize::MAX)
+    }
+
+    /// A bus that makes so many exchanges, and never answers the next.
+    pub fn until(script: &Script, until: usize) -> Self {
+        Self { script: script.clone(), read: 0, until, log: Vec::new() }
+    }
+
+    fn is_silent(&self) -> bool {
+        self.log.len() >= self.until
     }
 
     pub fn exchange(&mut self, address: u8, sent: &[u8], wanted: usize) -> Reply {
@@ -96,13 +108,22 @@ impl Wire {
 /// The bus that the published driver owns.
 pub struct Bus(pub Rc<RefCell<Wire>>);
 
+impl Bus {
+    async fn exchange(&self, address: u8, sent: &[u8], wanted: usize) -> Reply {
+        if self.0.borrow().is_silent() {
+            pending::<()>().await;
+        }
+        self.0.borrow_mut().exchange(address, sent, wanted)
+    }
+}
+
 impl ErrorType for Bus {
     type Error = ErrorKind;
 }
 
 impl I2c for Bus {
     async fn write(&mut self, address: u8, sent: &[u8]) -> Result<(), ErrorKind> {
-        match self.0.borrow_mut().exchange(address, sent, 0) {
+        match self.exchange(address, sent, 0).await {
             Reply::Failed(code) => Err(kind(code)),
             _ => Ok(()),
         }
@@ -114,7 +135,7 @@ impl I2c for Bus {
         sent: &[u8],
         read: &mut [u8],
     ) -> Result<(), ErrorKind> {
-        match self.0.borrow_mut().exchange(address, sent, read.len()) {
+        match self.exchange(address, sent, read.len()).await {
             Reply::Failed(code) => return Err(kind(code)),
             Reply::Byte(byte) => read.fill(byte),
             Reply::Done => {}
@@ -125,8 +146,13 @@ impl I2c for Bus {
 
 /// Runs what never has to wait.
 pub fn at_once<T>(future: impl Future<Output = T>) -> T {
+    unless_silent(future).expect("the bus never waits")
+}
+
+/// Runs something until the bus is silent, where it is dropped.
+pub fn unless_silent<T>(future: impl Future<Output = T>) -> Option<T> {
     match pin!(future).poll(&mut Context::from_waker(Waker::noop())) {
-        Poll::Ready(value) => value,
-        Poll::Pending => panic!("the bus never waits"),
+        Poll::Ready(value) => Some(value),
+        Poll::Pending => None,
     }
 }

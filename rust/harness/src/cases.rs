@@ -3,7 +3,7 @@
 use crate::driver::{Operation, record_bytes, revision};
 use crate::lists::MARKER;
 use crate::raw::{self, BYTE, DONE, SESSION, word};
-use crate::records::Stores;
+use crate::records::{Answered, Stores};
 use crate::settings::{DRIVINGS, MEMORY_TIMEBASES, MODES, POLARITIES, Settings, VARIANTS};
 use yambelugo::{DrivingMode, OperationMode, RECORD, TriggerConfig, Variant};
 
@@ -13,8 +13,9 @@ pub const EXCHANGES: usize = 382;
 
 type Start = dyn Fn(&mut [u8]) -> u8;
 
-/// How an operation starts (`new` where there is none), the record lent with its answers, what its first exchange reads (a later one that
-/// plus its number), the length of its read buffer, how many bytes of memory it reads, and what its last answer does to the record.
+/// How an operation starts (`new` where there is none), from a copy of the record that is lent with its answers; what its first exchange
+/// reads (a later one that plus its number), the length of its read buffer, how many bytes of memory it reads, and what its answers do to
+/// the record.
 pub struct Case {
     pub name: String,
     pub operation: Option<Operation>,
@@ -33,10 +34,13 @@ impl Case {
     }
 }
 
-/// A stored record, in DRO mode.
+/// As many sequences as an image can have.
+pub const LOADED: u8 = 16;
+
+/// A stored record, in DRO mode, of a chip with all sequences.
 pub fn stored() -> [u8; RECORD] {
     let settings = Settings::plain(OperationMode::DRO_MODE, DrivingMode::FREQUENCY_TRACK);
-    record_bytes(0x4A, Variant::DA7282, Some(&settings))
+    record_bytes(0x4A, Variant::DA7282, Some(&settings), LOADED)
 }
 
 /// The settings with the most exchanges, 25.
@@ -54,7 +58,7 @@ pub fn longest() -> Settings {
 pub fn record_for(operation: &Operation) -> [u8; RECORD] {
     match operation {
         Operation::SetCustomDriveWaveform(_) => {
-            record_bytes(0x4A, Variant::DA7282, Some(&longest()))
+            record_bytes(0x4A, Variant::DA7282, Some(&longest()), LOADED)
         }
         _ => stored(),
     }
@@ -103,12 +107,12 @@ pub fn case(operation: Operation) -> Case {
         Operation::ReadWaveformMemory(len, room) => len.min(100).min(room),
         _ => 0,
     };
-    let stores = match &operation {
-        Operation::Configure(it) => Stores::configured(&record, &it.encode()),
-        _ => Stores::Nothing,
-    };
+    let stores = Stores::by(&operation, &record);
     let started = operation.clone();
-    let start = Box::new(move |session: &mut [u8]| raw::start(&started, &record, session));
+    let start = Box::new(move |session: &mut [u8]| {
+        let mut record = record;
+        raw::start(&started, &mut record, session)
+    });
     Case { name, operation: Some(operation), start, record, read: 0x96, room, reads, stores }
 }
 
@@ -122,7 +126,7 @@ pub fn new(variant: Variant) -> Case {
         read: revision(variant),
         room: 2,
         reads: 0,
-        stores: Stores::Chip(0x4A, variant as u8),
+        stores: Stores::made(0x4A, variant as u8),
     }
 }
 
@@ -134,7 +138,7 @@ pub fn cases() -> Vec<Case> {
 /// A session between two answers.
 #[derive(Clone)]
 pub struct Point {
-    /// The record lent with each answer; at first the case's.
+    /// The record lent with each answer; at first what the start left of the case's.
     pub record: Vec<u8>,
     pub session: Vec<u8>,
     pub buffer: Vec<u8>,
@@ -150,7 +154,7 @@ impl Point {
         let mut session = vec![MARKER; SESSION];
         assert_eq!((case.start)(&mut session), 0, "{}", case.name);
         let pending = raw::pending(&session, &mut []);
-        let (record, buffer) = (case.record.to_vec(), vec![MARKER; case.room]);
+        let (record, buffer) = (case.stores.begun(&case.record), vec![MARKER; case.room]);
         Self { record, session, buffer, pending, made: 0, read: vec![] }
     }
 
@@ -173,7 +177,7 @@ impl Point {
         told
     }
 
-    /// Makes the pending exchange, which has to be taken.
+    /// Makes the pending exchange, which has to be taken, and to leave the record as it must be.
     pub fn make(&mut self, case: &Case) {
         let (kind, byte) = match self.wanted() {
             true => (BYTE, case.read.wrapping_add(self.made as u8)),
@@ -182,9 +186,12 @@ impl Point {
         if kind == BYTE {
             self.read.push(byte);
         }
+        let lent = self.record.clone();
         let told = self.answer(kind, byte);
         self.made += 1;
         assert_eq!(told, word(0, 0, self.made, self.ended()), "{}", case.name);
+        let wanted = case.stores.after(&lent, Answered::told(told));
+        assert_eq!(self.record, wanted, "{}, {lent:02X?}", case.name);
     }
 }
 

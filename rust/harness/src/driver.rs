@@ -1,9 +1,10 @@
 //! The operations of the driver, run by the library and by the published Rust on the same script.
 
-use crate::bus::{Bus, Exchange, Script, Wire, at_once, kind};
+use crate::bus::{Bus, Exchange, Script, Wire, at_once, kind, unless_silent};
 use crate::drive_points;
 use crate::lists::MARKER;
 use crate::oracle::{matches, number};
+use crate::records::{COUNT, Loaded, num_sequences};
 use crate::settings::{Settings, published_variant};
 use crate::triggers;
 use crate::trim::resistance_code;
@@ -17,6 +18,9 @@ use yambelugo::{Variant, WaveformMemoryTimebase};
 
 /// Bytes around a lent buffer, to see that they stay.
 const GUARD: usize = 8;
+
+/// The answers after which a session is dropped that is run to its end.
+pub const NEVER: usize = usize::MAX;
 
 /// An operation on a record.
 #[derive(Debug, Clone, PartialEq)]
@@ -125,13 +129,26 @@ pub struct Outcome {
     pub log: Vec<Exchange>,
     /// The lent buffer with the bytes around it.
     pub lent: Vec<u8>,
+    /// The record after the start and after each answer; none where the start is refused, and none of `new`.
+    pub records: Vec<[u8; RECORD]>,
 }
 
 impl Outcome {
+    /// The answer of a session that was dropped before its end: none.
+    pub const DROPPED: Result<Value, (u8, Option<ErrorKind>)> = Err((0, None));
+
+    /// With these exchanges, and no byte read into the buffer.
+    fn new(
+        answer: Result<Value, (u8, Option<ErrorKind>)>,
+        log: Vec<Exchange>,
+        room: usize,
+    ) -> Self {
+        Self { answer, made: log.len(), log, lent: markers(room), records: Vec::new() }
+    }
+
     /// Refused before the first exchange.
     fn refused(number: u8, room: usize) -> Self {
-        let answer = Err((number, None));
-        Self { answer, made: 0, log: Vec::new(), lent: markers(room) }
+        Self::new(Err((number, None)), Vec::new(), room)
     }
 
     /// The number of the refusal, 0 where there is none; a failure of the bus is none.
@@ -157,6 +174,7 @@ pub struct Tally([usize; NUMBERS]);
 
 impl Tally {
     pub fn count(&mut self, outcome: &Outcome) {
+        assert_ne!(outcome.answer, Outcome::DROPPED);
         self.0[outcome.answer.map_or_else(|(number, _)| usize::from(number), |_| 0)] += 1;
     }
 
@@ -170,20 +188,21 @@ fn markers(room: usize) -> Vec<u8> {
     vec![MARKER; GUARD + room + GUARD]
 }
 
-/// Runs what was started by the library (`new` where there is no operation) to its end; what it came to, and the driver that `new`
-/// made. The record may change by the last answer only.
+/// Runs what was started by the library (`new` where there is no operation) to its end, or drops it after so many answers; what it came
+/// to, and the driver that `new` made.
 fn run(
     operation: Option<&Operation>,
     started: Started,
     script: &Script,
+    until: usize,
 ) -> (Outcome, Option<DA728x>) {
     let room = operation.map_or(5, Operation::room);
     let mut session = match started {
         Ok(session) => session,
         Err(error) => return (Outcome::refused(error.number(), room), None),
     };
-    let record = |session: &Session| session.driver().map(|it| *it.as_bytes());
-    let before = record(&session);
+    let record = |session: &Session| operation.and(session.driver()).map(|it| *it.as_bytes());
+    let mut records = Vec::from_iter(record(&session));
     let value = |session: &Session| match operation {
         Some(operation) => operation.value(session),
         None => session.completed().then_some(Value::Nothing),
@@ -193,8 +212,12 @@ fn run(
     let mut failed = None;
     while let Some(exchange) = session.pending() {
         assert!(!ended, "ended but pending");
-        assert_eq!(record(&session), before, "another record before the last exchange");
         assert_eq!(value(&session), None, "a value before the last exchange");
+        let found = operation.is_none() && session.driver().is_some();
+        assert!(!found, "a record before the last exchange");
+        if made == until {
+            break;
+        }
         let wanted = exchange.wanted().into();
         let reply = wire.exchange(exchange.address(), exchange.bytes(), wanted);
         let answer = session.answer(reply, &mut lent[GUARD..GUARD + room]);
@@ -209,10 +232,14 @@ fn run(
         assert_eq!(usize::from(told.0), made, "the count");
         assert_eq!(usize::from(session.made()), made, "the count in the result");
         ended = told.1;
+        records.extend(record(&session));
     }
-    assert!(ended || made == 0, "not ended and nothing pending");
-    assert_eq!(value(&session).is_some(), failed.is_none(), "a value after {failed:?}");
+    let dropped = session.pending().is_some();
+    assert!(ended || dropped || made == 0, "not ended and nothing pending");
+    let whole = failed.is_none() && !dropped;
+    assert_eq!(value(&session).is_some(), whole, "a value after {failed:?}");
     let answer = match failed {
+        None if dropped => Outcome::DROPPED,
         None => Ok(value(&session).unwrap()),
         Some(Error::I2c(code)) => {
             assert_eq!(script.fails.map(|(_, code)| code), Some(code), "the bus's own code");
@@ -220,12 +247,9 @@ fn run(
         }
         Some(error) => Err((error.number(), None)),
     };
-    if answer.is_err() || !matches!(operation, None | Some(Operation::Configure(_))) {
-        assert_eq!(record(&session), before, "the record after {answer:?}");
-    }
     let found = session.found();
     assert_eq!(found.is_some(), operation.is_none() && answer.is_ok(), "found after {answer:?}");
-    (Outcome { answer, made, log: wire.log, lent }, found)
+    (Outcome { answer, made, log: wire.log, lent, records }, found)
 }
 
 /// The published driver on a bus that runs scripts, with what it has stored.
@@ -235,6 +259,8 @@ pub struct Published {
     pub address: u8,
     pub variant: Variant,
     pub stored: Option<Settings>,
+    /// The published driver does not know what the chip's memory has: document 02 (CR 10) does.
+    pub loaded: Loaded,
     /// GPI registers written: those where the published mode bit is the trigger's, and those where it is not.
     pub modes: [usize; 2],
 }
@@ -250,32 +276,53 @@ impl Published {
             Err(error) => (Err(failure(error)), None),
         };
         let log = std::mem::take(&mut wire.borrow_mut().log);
-        let outcome = Outcome { answer, made: log.len(), log, lent: markers(5) };
+        let loaded = Loaded::default();
         (
-            outcome,
+            Outcome::new(answer, log, 5),
             driver.map(|driver| Self {
                 driver,
                 wire,
                 address,
                 variant,
                 stored: None,
+                loaded,
                 modes: [0; 2],
             }),
         )
     }
 
+    /// The record in force.
+    pub fn record(&self) -> [u8; RECORD] {
+        record_bytes(self.address, self.variant, self.stored.as_ref(), self.loaded.sequences())
+    }
+
     /// What an operation comes to on this script, as documents 01 and 02 have it: by the published driver unless it lies outside
     /// the comparison. The number is document 02's (CR 3), which the published one has to match.
     pub fn outcome(&mut self, operation: &Operation, script: &Script) -> Outcome {
+        self.outcome_until(operation, script, NEVER)
+    }
+
+    /// As `outcome`, where the operation is dropped after so many exchanges unless it has ended.
+    pub fn outcome_until(
+        &mut self,
+        operation: &Operation,
+        script: &Script,
+        until: usize,
+    ) -> Outcome {
         let mut outcome = match (self.outside(operation), operation) {
             (Some(number), _) => Outcome::refused(number, operation.room()),
             (None, Operation::SetCustomDriveWaveform(points)) if self.is_custom() => {
-                let (log, failure) = drive_points::written(self.address, *points, script);
-                let answer = failure.map_or(Ok(Value::Nothing), |it| Err((17, Some(it))));
-                Outcome { answer, made: log.len(), log, lent: markers(operation.room()) }
+                let (mut log, failure) = drive_points::written(self.address, *points, script);
+                let answer = match failure {
+                    _ if log.len() > until => Outcome::DROPPED,
+                    Some(kind) => Err((17, Some(kind))),
+                    None => Ok(Value::Nothing),
+                };
+                log.truncate(until);
+                Outcome::new(answer, log, operation.room())
             }
             (None, _) => {
-                let outcome = self.run(operation, script);
+                let outcome = self.run(operation, script, until);
                 self.followed(operation, outcome)
             }
         };
@@ -284,11 +331,30 @@ impl Published {
         assert!(matches(published, number), "{operation:?}: {published} told as {number}");
         if published != 0 {
             outcome.answer = Err((number, None));
-        }
-        if let (Operation::Configure(settings), Ok(_)) = (operation, &outcome.answer) {
-            self.stored = Some(*settings);
+        } else {
+            outcome.records = self.kept(operation, &outcome);
         }
         outcome
+    }
+
+    /// The record after the start of an operation that came to this, and after each answer: settings are stored by the last answer, and
+    /// an upload has no sequences before its own.
+    fn kept(&mut self, operation: &Operation, outcome: &Outcome) -> Vec<[u8; RECORD]> {
+        if let Operation::UploadWaveformMemory(image, _) = operation {
+            self.loaded = Loaded::begun(image);
+        }
+        let mut records = vec![self.record(); 1 + outcome.made];
+        match operation {
+            Operation::Configure(settings) if outcome.answer.is_ok() => {
+                self.stored = Some(*settings);
+            }
+            Operation::UploadWaveformMemory(..) if outcome.answer.is_ok() => {
+                self.loaded = self.loaded.completed();
+            }
+            _ => {}
+        }
+        records[outcome.made] = self.record();
+        records
     }
 
     /// The number that is told where the published driver is not run on the operation.
@@ -305,6 +371,9 @@ impl Published {
                 }))
             }
             Operation::UploadWaveformMemory(image, _) => (image.len() > IMAGE).then_some(8),
+            Operation::SelectSequence(id, loops) | Operation::PlaySequence(id, loops) => {
+                (*id <= 15 && *loops <= 15 && *id >= self.loaded.sequences()).then_some(28)
+            }
             _ => None,
         }
     }
@@ -318,7 +387,8 @@ impl Published {
     /// What the published driver panics with, where it comes to a body that is not finished; it then has made no exchange.
     pub fn unfinished(&mut self, operation: &Operation) -> Option<String> {
         let script = Script::reading(&[0]);
-        let panic = catch_unwind(AssertUnwindSafe(|| self.run(operation, &script))).err()?;
+        let run = || self.run(operation, &script, NEVER);
+        let panic = catch_unwind(AssertUnwindSafe(run)).err()?;
         assert_eq!(self.wire.borrow().log, []);
         let text = panic.downcast_ref::<&str>().map(|it| it.to_string());
         Some(text.or(panic.downcast_ref::<String>().cloned()).unwrap())
@@ -337,17 +407,18 @@ impl Published {
     fn checked(&self, settings: &Settings) -> Option<u8> {
         let script = Script::reading(&[revision(self.variant)]);
         let (_, other) = Self::new(self.address, self.variant, &script);
-        let outcome = other.unwrap().run(&Operation::Configure(*settings), &script);
+        let outcome = other.unwrap().run(&Operation::Configure(*settings), &script, NEVER);
         outcome.answer.err().map(|(number, _)| number)
     }
 
-    fn run(&mut self, operation: &Operation, script: &Script) -> Outcome {
-        *self.wire.borrow_mut() = Wire::new(script);
+    fn run(&mut self, operation: &Operation, script: &Script, until: usize) -> Outcome {
+        *self.wire.borrow_mut() = Wire::until(script, until);
         let mut lent = markers(operation.room());
         let buffer = &mut lent[GUARD..GUARD + operation.room()];
-        let answer = at_once(self.call(operation, buffer)).map_err(failure);
+        let answer = unless_silent(self.call(operation, buffer));
+        let answer = answer.map_or(Outcome::DROPPED, |it| it.map_err(failure));
         let log = std::mem::take(&mut self.wire.borrow_mut().log);
-        Outcome { answer, made: log.len(), log, lent }
+        Outcome { lent, ..Outcome::new(answer, log, 0) }
     }
 
     /// The published outcome with the low two bits of TRIM4 as document 01 has them, and the GPI mode bits as document 02 has them.
@@ -406,7 +477,9 @@ impl Published {
             Operation::UploadWaveformMemory(image, lock) => {
                 let mut data = [MARKER; IMAGE];
                 data[..image.len()].copy_from_slice(image);
-                let memory = WaveformMemory::from_bytes(data, image.len() as u8, 0, 0);
+                let snippets = image.first().copied().unwrap_or(0);
+                let (len, sequences) = (image.len() as u8, num_sequences(image));
+                let memory = WaveformMemory::from_bytes(data, len, snippets, sequences);
                 driver.upload_waveform_memory(&memory, *lock).await?;
             }
             Operation::ReadWaveformMemory(len, _) => {
@@ -438,23 +511,29 @@ pub fn revision(variant: Variant) -> u8 {
 
 /// Compares `new` on this script; its outcome.
 pub fn compare_new(address: u8, variant: Variant, script: &Script) -> Outcome {
-    let (ours, record) = run(None, Ok(DA728x::new(address, variant)), script);
+    let (ours, record) = run(None, Ok(DA728x::new(address, variant)), script, NEVER);
     let (theirs, _) = Published::new(address, variant, script);
     assert_eq!(ours, theirs, "new({address:02X}, {variant:?}) on {script:02X?}");
     if let Some(record) = record {
-        assert_eq!(*record.as_bytes(), record_bytes(address, variant, None));
+        assert_eq!(*record.as_bytes(), record_bytes(address, variant, None, 0));
     }
     ours
 }
 
-/// The bytes of a record as the header lays them out.
-pub fn record_bytes(address: u8, variant: Variant, stored: Option<&Settings>) -> [u8; RECORD] {
+/// The bytes of a record as the header lays them out, with its count of sequences.
+pub fn record_bytes(
+    address: u8,
+    variant: Variant,
+    stored: Option<&Settings>,
+    sequences: u8,
+) -> [u8; RECORD] {
     let mut bytes = [0; RECORD];
     bytes[..3].copy_from_slice(&[address, variant as u8, 1]);
     if let Some(settings) = stored {
         bytes[2] = 2;
-        bytes[3..].copy_from_slice(&settings.encode());
+        bytes[3..COUNT].copy_from_slice(&settings.encode());
     }
+    bytes[COUNT] = sequences;
     bytes
 }
 
@@ -468,7 +547,7 @@ impl Pair {
     /// New drivers, without settings.
     pub fn new(address: u8, variant: Variant) -> Self {
         let script = Script::reading(&[revision(variant)]);
-        let (ours, record) = run(None, Ok(DA728x::new(address, variant)), &script);
+        let (ours, record) = run(None, Ok(DA728x::new(address, variant)), &script, NEVER);
         let (theirs, published) = Published::new(address, variant, &script);
         assert_eq!(ours, theirs);
         Self { record: record.unwrap(), published: published.unwrap() }
@@ -483,6 +562,28 @@ impl Pair {
         pair
     }
 
+    /// New drivers of a chip with so many sequences, and with these settings if there are some.
+    pub fn loaded(
+        address: u8,
+        variant: Variant,
+        settings: Option<&Settings>,
+        sequences: u8,
+    ) -> Self {
+        let mut pair = match settings {
+            Some(settings) => Self::configured(address, variant, settings),
+            None => Self::new(address, variant),
+        };
+        let operation = Operation::UploadWaveformMemory(vec![1, sequences], true);
+        let outcome = pair.compare(&operation, &Script::reading(&[0]));
+        assert_eq!((outcome.answer, pair.sequences()), (Ok(Value::Nothing), sequences));
+        pair
+    }
+
+    /// How many sequences the record counts.
+    pub fn sequences(&self) -> u8 {
+        self.record.sequences()
+    }
+
     /// The published driver, to be asked on its own.
     pub fn published(&mut self) -> &mut Published {
         &mut self.published
@@ -493,16 +594,31 @@ impl Pair {
         self.published.modes
     }
 
-    /// Compares an operation on this script, all that it leaves, and the record in force afterwards; its outcome.
+    /// Compares an operation on this script, all that it leaves, and the record after its start, after each answer and in the end; its
+    /// outcome.
     pub fn compare(&mut self, operation: &Operation, script: &Script) -> Outcome {
-        let (ours, _) = run(Some(operation), operation.start(&mut self.record), script);
-        let before = self.published.stored;
-        let theirs = self.published.outcome(operation, script);
-        let Published { address, variant, stored, .. } = &self.published;
-        assert_eq!(ours, theirs, "{operation:?} on {script:02X?}, {variant:?}, stored {before:?}");
+        self.compare_until(operation, script, NEVER)
+    }
 
-        let wanted = record_bytes(*address, *variant, stored.as_ref());
+    /// As `compare`, where the session is dropped after so many answers unless it has ended.
+    pub fn compare_until(
+        &mut self,
+        operation: &Operation,
+        script: &Script,
+        until: usize,
+    ) -> Outcome {
+        let started = operation.start(&mut self.record);
+        let (ours, _) = run(Some(operation), started, script, until);
+        let Published { stored, loaded, variant, .. } = self.published;
+        let theirs = self.published.outcome_until(operation, script, until);
+        assert_eq!(
+            ours, theirs,
+            "{operation:?} on {script:02X?}, {variant:?}, stored {stored:?}, {loaded:?}"
+        );
+
+        let wanted = self.published.record();
         assert_eq!(*self.record.as_bytes(), wanted, "the record after {operation:?}");
+        assert_eq!(self.record.sequences(), wanted[COUNT]);
         ours
     }
 }

@@ -2,6 +2,7 @@
 
 use crate::driver::Operation;
 use crate::lists::MARKER;
+use crate::records::Stores;
 use yambelugo::WaveformMemoryTimebase;
 
 /// The wrapper's declarations.
@@ -10,7 +11,7 @@ use yambelugo::WaveformMemoryTimebase;
 pub mod ffi;
 
 /// How many bytes a session has.
-pub const SESSION: usize = 279;
+pub const SESSION: usize = 280;
 
 /// How many bytes all lists of an image have.
 pub const LISTS: usize = 703;
@@ -43,7 +44,7 @@ fn show<T>(bytes: &[u8], call: impl FnOnce(*const u8, usize) -> T) -> T {
     answer
 }
 
-/// Starts an operation whose function has these further arguments.
+/// Starts an operation that leaves the record, and whose function has these further arguments.
 macro_rules! start {
     ($name:ident, $record:expr, $session:expr $(, $argument:expr)*) => {
         show($record, |record, record_len| {
@@ -68,14 +69,26 @@ pub fn set_timebase(record: &[u8], timebase: u8, session: &mut [u8]) -> u8 {
     start!(da728x_set_timebase, record, session, timebase)
 }
 
-pub fn upload(record: &[u8], image: &[u8], lock_after: u8, session: &mut [u8]) -> u8 {
-    show(image, |it, len| {
-        start!(da728x_upload_waveform_memory, record, session, it, len, lock_after)
-    })
+/// The count of sequences in the record is 0 once the upload is begun, and no other byte of it changes.
+pub fn upload(record: &mut [u8], image: &[u8], lock_after: u8, session: &mut [u8]) -> u8 {
+    let (stores, before) = (Stores::uploaded(record, image), record.to_vec());
+    let start = ffi::da728x_upload_waveform_memory;
+    let told = show(image, |from, from_len| {
+        lend(record, |of, of_len| {
+            // SAFETY: each pointer and length is a slice; the mutable ones overlap no other.
+            lend(session, |it, len| unsafe {
+                start(of, of_len, from, from_len, lock_after, it, len)
+            })
+        })
+    });
+    let begins = told == 0 && session.len() == SESSION;
+    let wanted = if begins { stores.begun(&before) } else { before };
+    assert_eq!(record, wanted, "the record after the start of an upload");
+    told
 }
 
-/// Starts an operation from the bytes of a record.
-pub fn start(operation: &Operation, record: &[u8], session: &mut [u8]) -> u8 {
+/// Starts an operation from the bytes of a record, which change by the start of an upload only.
+pub fn start(operation: &Operation, record: &mut [u8], session: &mut [u8]) -> u8 {
     match operation {
         Operation::Configure(settings) => configure(record, &settings.encode(), session),
         Operation::GetChipRev => start!(da728x_get_chip_rev, record, session),

@@ -70,10 +70,10 @@ fn the_two_checks_in_every_mode() {
 #[test]
 fn the_three_writes_in_c() {
     let settings = Settings::plain(OperationMode::PWM_MODE, DrivingMode::CUSTOM_WAVEFORM);
-    let mut record = record_bytes(0x4B, Variant::DA7281, Some(&settings));
+    let mut record = record_bytes(0x4B, Variant::DA7281, Some(&settings), 3);
     let mut session = [MARKER; SESSION];
     let operation = Operation::SetCustomDriveWaveform([0x28, 0x5F, 0x80]);
-    assert_eq!(raw::start(&operation, &record, &mut session), 0);
+    assert_eq!(raw::start(&operation, &mut record, &mut session), 0);
     for (made, wanted) in [[0x25, 0x28], [0x26, 0x5F], [0x27, 0x80]].into_iter().enumerate() {
         let mut bytes = [MARKER; 3];
         assert_eq!(raw::pending(&session, &mut bytes), 2 + 256 * 0x4B);
@@ -82,7 +82,7 @@ fn the_three_writes_in_c() {
         assert_eq!(told, word(0, 0, made + 1, made == 2));
     }
     assert_eq!(raw::result(&session), result_word(0, 3, true));
-    assert_eq!(record, record_bytes(0x4B, Variant::DA7281, Some(&settings)));
+    assert_eq!(record, record_bytes(0x4B, Variant::DA7281, Some(&settings), 3));
 }
 
 /// No other operation writes the three registers: one of each, and `configure` with random settings.

@@ -51,8 +51,8 @@ fn fields_of_every_point() {
     compared("bytes of points", cases, 256);
 }
 
-/// NULL is fine for a length of 0. An empty snippet is 9, no frame 3, an empty sequence 10; a record of no bytes has no settings, and settings
-/// of no bytes have no impedance.
+/// NULL is fine for a length of 0. An empty snippet is 9, no frame 3, an empty sequence 10; a record of no bytes has no settings and no
+/// sequences, and settings of no bytes have no impedance.
 #[test]
 fn empty_slices() {
     let (list, none) = (null::<u8>(), null_mut::<u8>());
@@ -101,9 +101,9 @@ fn empty_slices() {
         assert_eq!(da728x_enable(list, 0, none, 0), 15);
         assert_eq!(da728x_disable(list, 0, none, 0), 15);
         assert_eq!(da728x_set_custom_drive_waveform(list, 0, 1, 2, 3, none, 0), 15);
-        assert_eq!(da728x_upload_waveform_memory(list, 0, list, 0, 1, none, 0), 0);
+        assert_eq!(da728x_upload_waveform_memory(none, 0, list, 0, 1, none, 0), 0);
         assert_eq!(da728x_read_waveform_memory(list, 0, 100, 100, none, 0), 0);
-        assert_eq!(da728x_select_sequence(list, 0, 15, 15, none, 0), 0);
+        assert_eq!(da728x_select_sequence(list, 0, 0, 15, none, 0), 28);
         assert_eq!(da728x_play_sequence(list, 0, 16, 0, none, 0), 11);
         assert_eq!(da728x_pending(list, 0, none, 0), 0);
         assert_eq!(da728x_answer(none, 0, none, 0, 2, 9, none, 0), 19 + (1 << 24));

@@ -1,11 +1,13 @@
 //! Every operation but `configure` against the published Rust: the answer, every exchange in order, the count, every byte of the
-//! read buffer, and the record afterwards. Images above 100 bytes lie outside the comparison and are told by document 01's number;
-//! `set_custom_drive_waveform` in its mode does what document 02 says (`harness::drive_points`).
+//! read buffer, and the record after the start and after each answer. Images above 100 bytes lie outside the comparison and are told by
+//! document 01's number, sequences that are not loaded by document 02's (CR 10); `set_custom_drive_waveform` in its mode does what
+//! document 02 says (`harness::drive_points`).
 
 use harness::bus::Script;
 use harness::compared;
 use harness::driver::{Operation, Pair, Tally, Value, compare_new, revision};
 use harness::random::Random;
+use harness::records::num_sequences;
 use harness::settings::{DRIVINGS, MEMORY_TIMEBASES, OPERATIONS, Settings, VARIANTS, near};
 use yambelugo::{DrivingMode, OperationMode, Variant};
 
@@ -39,7 +41,10 @@ fn operation(kind: usize, random: &mut Random) -> (Operation, usize) {
         11 => {
             let edges = [0, 1, 31, 32, 33, 63, 64, 65, 95, 96, 97, 99, 100, 101, 255, 256, 300];
             let len = if random.chance(50) { random.pick(&edges) } else { random.within(0, 103) };
-            let image = (0..len).map(|_| random.byte()).collect();
+            let mut image: Vec<u8> = (0..len).map(|_| random.byte()).collect();
+            if let Some(byte) = image.get_mut(1) {
+                *byte = random.near(&[0, 1, 8, 15, 16, 17, 255]);
+            }
             (Operation::UploadWaveformMemory(image, random.chance(50)), 7)
         }
         12 => {
@@ -56,16 +61,19 @@ fn operation(kind: usize, random: &mut Random) -> (Operation, usize) {
     }
 }
 
-/// Random operations, several on one driver, with settings of every kind and with none, on random buses.
+/// Random operations, several on one driver, with settings of every kind and with none, with sequences and without, on random buses.
 #[test]
 fn random_operations() {
     let mut random = Random::new(0x0BE5);
-    let (mut cases, mut tally) = ([0; 16], Tally::default());
+    let (mut cases, mut tally, mut begun) = ([0; 16], Tally::default(), 0);
     for round in 0..80_000 {
         let (address, variant) = (random.byte(), random.pick(&VARIANTS));
-        let mut pair = match round % 5 {
-            0 => Pair::new(address, variant),
-            _ => Pair::configured(address, variant, &Settings::accepted(&mut random)),
+        let settings = (round % 5 > 0).then(|| Settings::accepted(&mut random));
+        let sequences = if random.chance(60) { random.near(&[1, 8, 15, 16, 17, 255]) } else { 0 };
+        let mut pair = match &settings {
+            _ if sequences > 0 => Pair::loaded(address, variant, settings.as_ref(), sequences),
+            Some(settings) => Pair::configured(address, variant, settings),
+            None => Pair::new(address, variant),
         };
         for turn in 0..5 {
             let kind = (5 * round + turn) % 16;
@@ -73,10 +81,12 @@ fn random_operations() {
             let outcome = pair.compare(&operation, &script(&mut random, last));
             tally.count(&outcome);
             cases[kind] += 1;
+            begun += usize::from([13, 15].contains(&kind) && outcome.made > 0);
         }
     }
     assert_eq!(cases, [25_000; 16]);
     compared("random operations", cases.iter().sum(), 400_000);
+    compared("of these sequences selected or played", begun, 0);
     let wanted = [
         (0, 234_555),
         (8, 3_358),
@@ -85,6 +95,7 @@ fn random_operations() {
         (15, 25_000),
         (17, 68_604),
         (23, 3_796),
+        (28, 0),
     ];
     assert_eq!(tally.told(), wanted);
 }
@@ -189,25 +200,29 @@ fn every_override_value() {
     compared("override values", cases, 21 * 256);
 }
 
-/// Uploads of every length, with and without the lock, with a failure at each exchange in turn until none fails.
+/// Uploads of every length, with and without the lock, with a failure at each exchange in turn until none fails, which loads what byte 1
+/// says. Above 100 bytes what was loaded stays.
 #[test]
 fn every_upload() {
     let mut random = Random::new(0x0100);
     let mut pair = Pair::new(0x4A, Variant::DA7280);
-    let (mut cases, mut failed) = (0, 0);
+    let (mut cases, mut failed, mut loaded) = (0, 0, 0);
     for len in 0..=101_usize {
         for lock in [false, true] {
             let image: Vec<u8> = (0..len).map(|_| random.byte()).collect();
-            let operation = Operation::UploadWaveformMemory(image, lock);
+            let operation = Operation::UploadWaveformMemory(image.clone(), lock);
             for at in 0.. {
                 let fails = Some((at, random.byte()));
                 let outcome = pair.compare(&operation, &Script { reads: vec![0], fails });
                 if outcome.made <= at {
+                    loaded = if len > 100 { loaded } else { num_sequences(&image) };
+                    assert_eq!(pair.sequences(), loaded, "{len} bytes, lock {lock}");
                     let exchanges = if len > 100 { 0 } else { 1 + len.div_ceil(32) };
                     let wanted = exchanges + usize::from(lock && len <= 100);
                     assert_eq!(outcome.made, wanted, "{len} bytes, lock {lock}");
                     break;
                 }
+                assert_eq!(pair.sequences(), 0, "{len} bytes, lock {lock}, {at} made");
                 failed += 1;
             }
             cases += 1;
@@ -251,7 +266,7 @@ fn every_read() {
 #[test]
 fn every_byte_read() {
     let settings = Settings::plain(OperationMode::RTWM_MODE, DrivingMode::WIDEBAND);
-    let mut pair = Pair::configured(0x4A, Variant::DA7280, &settings);
+    let mut pair = Pair::loaded(0x4A, Variant::DA7280, Some(&settings), 16);
     let mut cases = 0;
     for byte in 0..=255_u8 {
         let script = Script::reading(&[byte, byte.wrapping_add(85), byte.wrapping_add(170)]);
@@ -272,22 +287,29 @@ fn every_byte_read() {
     compared("bytes read", cases, 8 * 256);
 }
 
-/// Every sequence number and loop count.
+/// Every sequence number and loop count, where all sequences are loaded, nine, or none: 11 comes before 28, which is told of a number
+/// that is not below the count.
 #[test]
 fn every_sequence_number_and_loop_count() {
-    let mut pair = Pair::new(0x4A, Variant::DA7280);
-    let mut cases = 0;
-    for id in 0..=255 {
-        for loops in 0..=255 {
+    let (mut cases, mut begun) = (0, 0);
+    for loaded in [0, 9, 16] {
+        let mut pair = Pair::loaded(0x4A, Variant::DA7280, None, loaded);
+        for (id, loops) in (0..=255).flat_map(|id| (0..=255).map(move |loops| (id, loops))) {
             let script = Script::reading(&[id ^ loops]);
-            let wanted = if id > 15 || loops > 15 { Err((11, None)) } else { Ok(Value::Nothing) };
+            let wanted = match (id, loops) {
+                (16.., _) | (_, 16..) => Err((11, None)),
+                _ if id >= loaded => Err((28, None)),
+                _ => Ok(Value::Nothing),
+            };
             for operation in
                 [Operation::SelectSequence(id, loops), Operation::PlaySequence(id, loops)]
             {
                 assert_eq!(pair.compare(&operation, &script).answer, wanted, "{operation:?}");
+                begun += usize::from(wanted.is_ok());
                 cases += 1;
             }
         }
     }
-    compared("sequence numbers and loop counts", cases, 2 * 65536);
+    compared("sequence numbers and loop counts", cases, 3 * 2 * 65536);
+    compared("of these begun", begun, 2 * 16 * (9 + 16));
 }

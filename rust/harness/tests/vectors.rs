@@ -97,7 +97,7 @@ fn written<const N: usize>(mut session: Session<'_>, registers: [u8; N]) -> [u8;
 #[test]
 fn settings() {
     let plain = Settings::plain(OperationMode::DRO_MODE, DrivingMode::FREQUENCY_TRACK);
-    let mut driver = DA728x::from_bytes(record_bytes(0x4A, Variant::DA7281, Some(&plain)));
+    let mut driver = DA728x::from_bytes(record_bytes(0x4A, Variant::DA7281, Some(&plain), 0));
     let mut volts_and_current = |absolute, current| {
         let mut actuator = plain.actuator;
         (actuator.absolute_max_mV, actuator.max_current_mA) = (absolute, current);

@@ -106,13 +106,15 @@ fn image() -> Result<[u8; IMAGE], Error> {
     Ok(image)
 }
 
-/// Uploads the image, and reads the memory back.
+/// Uploads the image, and reads the memory back. Nothing can be played before.
 async fn fill(chip: &mut Chip, driver: &mut DA728x, image: &[u8]) -> Result<(), Error> {
     println!("upload, of which the fourth exchange is lost:");
+    assert_eq!(driver.play_sequence(0, 2), Err(Error::MissingSequence));
     chip.fail(4, ErrorKind::ArbitrationLoss);
     let made = retried(chip, driver, |it| it.upload_waveform_memory(image, true)).await?;
     assert_eq!((made, chip.transfers), (6, 4 + 6));
     assert_eq!(chip.registers[0x84..0xE8], *image);
+    assert_eq!(usize::from(driver.sequences()), read_counts(image)?.1);
     println!("  uploaded");
 
     println!("read back:");
@@ -151,8 +153,11 @@ async fn switch_on(chip: &mut Chip) -> Result<(), Error> {
 
     fill(chip, &mut driver, &image()?).await?;
 
-    println!("play sequence 0:");
+    println!("play sequence 1, which the image has not, then sequence 0:");
     retried(chip, &mut driver, |it| it.enable()).await?;
+    let refused = retried(chip, &mut driver, |it| it.play_sequence(1, 2)).await.unwrap_err();
+    assert_eq!(refused, Error::MissingSequence);
+    println!("  refused with {}: {refused}", refused.number());
     retried(chip, &mut driver, |it| it.play_sequence(0, 2)).await?;
     assert_eq!((chip.registers[0x28], chip.registers[0x22]), (0x20, 0x13)); // SEQ_CTL2, TOP_CTL1
     println!("  started, two loops");
@@ -296,7 +301,7 @@ fn main() {
         run(chip, &mut session, &mut []).await
     };
     let size = size_of_val(&task(&mut chip));
-    assert_eq!((size_of::<Session>(), size_of::<DA728x>()), (320, 37));
+    assert_eq!((size_of::<Session>(), size_of::<DA728x>()), (320, 38));
     println!("  a session is 320 bytes, a task that runs one over this bus {size}");
     assert!(size < 1024, "a task of {size} bytes");
 }

@@ -121,7 +121,7 @@ pub enum TriggerPolarity {
 /// ```
 #[derive(Debug, Clone, Copy, PartialEq, Eq)]
 pub struct TriggerConfig {
-    /// The sequence that it plays, 0 to 15.
+    /// The sequence that it plays, 0 to 15. That the image has it is not checked.
     pub sequence_id: u8,
     /// The edge that it acts on.
     pub polarity: TriggerPolarity,

@@ -6,22 +6,27 @@ use crate::ffi;
 use core::fmt;
 
 /// How many bytes a record has.
-pub const RECORD: usize = 37;
+pub const RECORD: usize = 38;
 
 /// How many bytes a session has.
-const SESSION: usize = 279;
+const SESSION: usize = 280;
 
 /// The most bytes that one exchange sends.
 const MOST: usize = 33;
 
-/// The driver of one chip: a record of its address and variant, and of the settings once they are
-/// stored.
+/// Where the record has its count of sequences.
+const SEQUENCES: usize = 37;
+
+/// The driver of one chip: a record of its address and variant, of the settings once they are
+/// stored, and of how many sequences are loaded.
 ///
 /// An operation starts a [`Session`], which borrows the driver until it is dropped. So one session
 /// runs at a time on a chip, and it is this driver that gets the settings, after the last exchange
-/// of [`DA728x::configure`]. Every other operation, and one that fails, leaves the record as it is.
-/// It is neither `Copy` nor `Clone`, so that no copy falls behind: a second driver of one chip
-/// comes only from bytes that you kept, by [`DA728x::from_bytes`].
+/// of [`DA728x::configure`], and the number of sequences ([`DA728x::sequences`]) of an upload: 0
+/// from its start on, that of the image after its last exchange. Every other operation leaves the
+/// record as it is, and so does a `configure` that fails. It is neither `Copy` nor `Clone`, so that
+/// no copy falls behind: a second driver of one chip comes only from bytes that you kept, by
+/// [`DA728x::from_bytes`].
 ///
 /// Its arguments are checked when an operation starts; a refused one starts no session.
 ///
@@ -48,8 +53,9 @@ pub struct DA728x {
 }
 
 impl DA728x {
-    /// Reads CHIP_REV; a driver without settings if it is that of the variant: [`Session::found`].
-    /// `address` is the chip's on the bus, of 7 bits.
+    /// Reads CHIP_REV; a driver without settings and sequences if it is that of the variant:
+    /// [`Session::found`]. `address` is the chip's on the bus, of 7 bits. A chip that still has an
+    /// image needs a new upload before it plays.
     ///
     /// ```
     /// # use yambelugo::{DA728x, Error, Reply, Variant};
@@ -72,8 +78,8 @@ impl DA728x {
 
     /// The record with these bytes, laid out as the C header says; each byte string is one.
     ///
-    /// A record that was kept over a reset of the processor says what the chip had before: the chip
-    /// itself is not asked.
+    /// A record that was kept over a reset of the processor says what was set up and loaded when
+    /// its bytes were kept, also if an upload was begun since: the chip itself is not asked.
     ///
     /// ```
     /// # use yambelugo::{DA728x, Error, Exchange, Refusal, Variant};
@@ -81,6 +87,7 @@ impl DA728x {
     /// let driver = DA728x::new(0x4A, Variant::DA7280).run(bus, &mut [])?.found().unwrap();
     /// let kept = *driver.as_bytes();
     /// assert_eq!(kept[..3], [0x4A, 0, 1]); // the address, a DA7280, no settings
+    /// assert_eq!(kept[37], 0); // and no sequences
     /// assert_eq!(DA728x::from_bytes(kept), driver);
     /// # Ok::<(), Refusal>(())
     /// ```
@@ -91,6 +98,48 @@ impl DA728x {
     /// The record's bytes, laid out as the C header says: [`DA728x::from_bytes`] takes them.
     pub const fn as_bytes(&self) -> &[u8; RECORD] {
         &self.bytes
+    }
+
+    /// How many sequences are loaded: those of the image that was uploaded last. It is 0 before the
+    /// first upload, and from the start of each until its last exchange is made: so also after one
+    /// that failed, or whose session was dropped. [`DA728x::select_sequence`] and
+    /// [`DA728x::play_sequence`] take the numbers below it.
+    ///
+    /// It is the second byte that was uploaded, 0 if there was none; the chip itself is not asked.
+    /// Upload again when the chip lost its supply, or when its memory was written by other means.
+    /// The sequences of triggers are not held against it.
+    ///
+    /// ```
+    /// # use yambelugo::{DA728x, Error, Exchange, IMAGE, RECORD, Reply};
+    /// # let mut driver = DA728x::from_bytes([0; RECORD]);
+    /// # let mut image = [0; IMAGE];
+    /// # image[..9].copy_from_slice(&[1, 2, 6, 7, 8, 0xAA, 0x00, 0x01, 0x01]);
+    /// # let bus = |exchange: Exchange| exchange.reply(Ok(0));
+    /// assert_eq!(driver.play_sequence(0, 0), Err(Error::MissingSequence)); // nothing is loaded
+    ///
+    /// // An image of two sequences.
+    /// driver.upload_waveform_memory(&image, true)?.run(bus, &mut [])?;
+    /// assert_eq!(driver.sequences(), 2);
+    /// driver.play_sequence(1, 0)?.run(bus, &mut [])?;
+    /// assert_eq!(driver.play_sequence(2, 0), Err(Error::MissingSequence));
+    ///
+    /// // The same again, of which the lock, the sixth exchange, fails.
+    /// let mut left = 5;
+    /// let fails = |exchange: Exchange| {
+    ///     if left == 0 {
+    ///         return Reply::Failed(7);
+    ///     }
+    ///     left -= 1;
+    ///     exchange.reply(Ok(0))
+    /// };
+    /// let failed = driver.upload_waveform_memory(&image, true)?.run(fails, &mut []).unwrap_err();
+    /// assert_eq!((failed.error, failed.made), (Error::I2c(7), 6));
+    /// assert_eq!(driver.sequences(), 0);
+    /// assert_eq!(driver.play_sequence(1, 0), Err(Error::MissingSequence));
+    /// # Ok::<(), Error>(())
+    /// ```
+    pub const fn sequences(&self) -> u8 {
+        self.bytes[SEQUENCES]
     }
 
     /// Sets the chip up, in 14 to 25 exchanges; the settings are stored after the last.
@@ -372,8 +421,12 @@ impl DA728x {
     /// They go out as they are: [`read_counts`](crate::read_counts) tells whether they are an
     /// image.
     ///
+    /// From the start on [`DA728x::sequences`] is 0, and after the last exchange it is that of the
+    /// image, its second byte. If the upload fails, or its session is dropped, the memory may have
+    /// a part of each image, and no sequence can be selected or played until one is completed.
+    ///
     /// # Errors
-    /// `WaveformMemoryFull` for more than 100 bytes.
+    /// `WaveformMemoryFull` for more than 100 bytes; the driver is as before then.
     ///
     /// ```
     /// # use yambelugo::{DA728x, Error, IMAGE, RECORD, Reply};
@@ -387,12 +440,19 @@ impl DA728x {
     ///     session.answer(Reply::Done, &mut [])?;
     /// }
     /// assert_eq!(lengths, [2, 33, 33, 33, 5, 2]); // unlock, four times a register and bytes, lock
+    /// assert_eq!(driver.sequences(), 1);
+    ///
+    /// // A refused upload leaves what is loaded; one that is begun and dropped does not.
+    /// assert_eq!(driver.upload_waveform_memory(&[0; 101], true), Err(Error::WaveformMemoryFull));
+    /// assert_eq!(driver.sequences(), 1);
+    /// drop(driver.upload_waveform_memory(&image, true)?);
+    /// assert_eq!(driver.sequences(), 0);
     /// # Ok::<(), Error>(())
     /// ```
     pub fn upload_waveform_memory(&mut self, image: &[u8], lock_after: bool) -> Started<'_> {
         let (list, list_len) = (image.as_ptr(), image.len());
         let lock = lock_after.into();
-        // SAFETY: each pointer and length is a borrowed slice; the mutable one overlaps no other.
+        // SAFETY: each pointer and length is a borrowed slice; the mutable ones overlap no other.
         self.begins(|record, session| unsafe {
             ffi::da728x_upload_waveform_memory(
                 record, RECORD, list, list_len, lock, session, SESSION,
@@ -424,10 +484,24 @@ impl DA728x {
     }
 
     /// Selects the sequence to play, 0 for the first of the image, and how often it loops; 0 plays
-    /// it once. That the memory has such a sequence is not checked.
+    /// it once.
     ///
     /// # Errors
-    /// `InvalidValue` for a sequence number or a loop count above 15.
+    /// `InvalidValue` for a sequence number or a loop count above 15; then `MissingSequence` for a
+    /// sequence number that is not below [`DA728x::sequences`], so for every number until an upload
+    /// is completed.
+    ///
+    /// ```
+    /// # use yambelugo::{DA728x, Error, RECORD};
+    /// # let mut record = [0; RECORD];
+    /// # record[37] = 2;
+    /// # let mut driver = DA728x::from_bytes(record);
+    /// // on a driver with two sequences loaded
+    /// let session = driver.select_sequence(1, 2)?;
+    /// assert_eq!(session.pending().unwrap().bytes(), [0x28, 0x21]);
+    /// assert_eq!(driver.select_sequence(2, 2), Err(Error::MissingSequence));
+    /// # Ok::<(), Error>(())
+    /// ```
     pub fn select_sequence(&mut self, sequence_id: u8, loops: u8) -> Started<'_> {
         // SAFETY: each pointer and length is a borrowed array; the mutable one overlaps no other.
         self.begins(|record, session| unsafe {
@@ -435,7 +509,8 @@ impl DA728x {
         })
     }
 
-    /// Starts the sequence that is selected; the chip has to be enabled.
+    /// Starts the sequence that is selected; the chip has to be enabled. That the image has it is
+    /// not checked: one that was selected before an upload is started too, so select anew after it.
     pub fn start_sequence(&mut self) -> Session<'_> {
         self.starts(plain(ffi::da728x_start_sequence))
     }
@@ -444,11 +519,16 @@ impl DA728x {
     /// [`DA728x::start_sequence`].
     ///
     /// # Errors
-    /// `InvalidValue` for a sequence number or a loop count above 15.
+    /// `InvalidValue` for a sequence number or a loop count above 15; then `MissingSequence` for a
+    /// sequence number that is not below [`DA728x::sequences`], so for every number until an upload
+    /// is completed.
     ///
     /// ```
     /// # use yambelugo::{DA728x, Error, RECORD, Reply};
-    /// # let mut driver = DA728x::from_bytes([0; RECORD]);
+    /// # let mut record = [0; RECORD];
+    /// # record[37] = 2;
+    /// # let mut driver = DA728x::from_bytes(record);
+    /// // on a driver with two sequences loaded
     /// let mut sent = Vec::new();
     /// let bus = |exchange: yambelugo::Exchange| {
     ///     sent.push(exchange.bytes().to_vec());
@@ -456,6 +536,7 @@ impl DA728x {
     /// };
     /// driver.play_sequence(1, 2)?.run(bus, &mut [])?;
     /// assert_eq!(sent, [vec![0x28, 0x21], vec![0x22], vec![0x22, 0x13]]);
+    /// assert_eq!(driver.play_sequence(2, 0), Err(Error::MissingSequence));
     /// assert_eq!(driver.play_sequence(16, 0), Err(Error::InvalidValue));
     /// # Ok::<(), Error>(())
     /// ```
@@ -466,11 +547,11 @@ impl DA728x {
         })
     }
 
-    fn begins(&mut self, start: impl FnOnce(*const u8, *mut u8) -> u8) -> Started<'_> {
+    fn begins(&mut self, start: impl FnOnce(*mut u8, *mut u8) -> u8) -> Started<'_> {
         Driver::Lent(self).begins(start)
     }
 
-    fn starts(&mut self, start: impl FnOnce(*const u8, *mut u8) -> u8) -> Session<'_> {
+    fn starts(&mut self, start: impl FnOnce(*mut u8, *mut u8) -> u8) -> Session<'_> {
         Driver::Lent(self).starts(start)
     }
 }
@@ -479,7 +560,7 @@ impl DA728x {
 pub type Started<'a> = Result<Session<'a>, Error>;
 
 /// The start of an operation without arguments, on the bytes of a record and of a session.
-fn plain(start: ffi::Start) -> impl FnOnce(*const u8, *mut u8) -> u8 {
+fn plain(start: ffi::Start) -> impl FnOnce(*mut u8, *mut u8) -> u8 {
     // SAFETY: the caller lends the bytes of a record and of a session, which do not overlap.
     move |record, session| unsafe { start(record, RECORD, session, SESSION) }
 }
@@ -495,17 +576,17 @@ enum Driver<'a> {
 
 impl<'a> Driver<'a> {
     /// What a start makes of a session's bytes, unless it is refused.
-    fn begins(self, start: impl FnOnce(*const u8, *mut u8) -> u8) -> Started<'a> {
+    fn begins(self, start: impl FnOnce(*mut u8, *mut u8) -> u8) -> Started<'a> {
         let mut session = Session { bytes: [0; SESSION], driver: self };
-        let record = session.driver.bytes().as_ptr();
+        let record = session.driver.bytes().as_mut_ptr();
         told(start(record, session.bytes.as_mut_ptr()).into(), 1)?;
         Ok(session)
     }
 
     /// What a start that is never refused makes of a session's bytes.
-    fn starts(self, start: impl FnOnce(*const u8, *mut u8) -> u8) -> Session<'a> {
+    fn starts(self, start: impl FnOnce(*mut u8, *mut u8) -> u8) -> Session<'a> {
         let mut session = Session { bytes: [0; SESSION], driver: self };
-        let record = session.driver.bytes().as_ptr();
+        let record = session.driver.bytes().as_mut_ptr();
         let number = start(record, session.bytes.as_mut_ptr());
         debug_assert_eq!(number, 0, "never refused");
         session
@@ -640,7 +721,9 @@ impl Session<'_> {
     }
 
     /// Takes back what the bus answered to the pending exchange. The last answer to
-    /// [`DA728x::configure`] stores the settings in the driver, that to [`DA728x::new`] makes one.
+    /// [`DA728x::configure`] stores the settings in the driver, that to [`DA728x::new`] makes one,
+    /// and that to [`DA728x::upload_waveform_memory`] sets [`DA728x::sequences`], which is 0 until
+    /// then. Any other answer leaves the driver as it is.
     ///
     /// `buffer` counts for [`DA728x::read_waveform_memory`] only: a buffer of the length that was
     /// said at the start, in which the byte is stored at its own index.
@@ -740,8 +823,8 @@ impl Session<'_> {
         }
     }
 
-    /// The driver as it is now: the settings are stored by the last answer. None for
-    /// [`DA728x::new`] until it is completed.
+    /// The driver as it is now: the settings are stored by the last answer, and the sequences of an
+    /// upload are loaded by its last. None for [`DA728x::new`] until it is completed.
     ///
     /// ```
     /// # use yambelugo::{DA728x, RECORD, Refusal, Reply, Variant};

@@ -64,6 +64,9 @@ pub enum Error {
     InvalidDriveFrequency,
     /// 24: the buffer is shorter than the item; no byte of it was written.
     BufferTooShort,
+    /// 28: no sequence of this number is loaded: the last image that was uploaded has fewer, its
+    /// upload was not completed, or there was none.
+    MissingSequence,
 }
 
 impl Error {
@@ -98,6 +101,7 @@ impl Error {
             Error::InvalidCurrentOrImpedance => 22,
             Error::InvalidDriveFrequency => 23,
             Error::BufferTooShort => 24,
+            Error::MissingSequence => 28,
         }
     }
 
@@ -133,6 +137,7 @@ impl Error {
             22 => Error::InvalidCurrentOrImpedance,
             23 => Error::InvalidDriveFrequency,
             24 => Error::BufferTooShort,
+            28 => Error::MissingSequence,
             _ => return None,
         })
     }
@@ -170,6 +175,7 @@ impl fmt::Display for Error {
                 "a frequency is outside 50 to 300 Hz (tracking) or 25 to 1024 Hz (other modes)"
             }
             Error::BufferTooShort => "the buffer is shorter than the item",
+            Error::MissingSequence => "no sequence of this number is loaded",
         })
     }
 }
@@ -200,7 +206,7 @@ mod tests {
         for number in 0..=255 {
             match Error::from_number(number, 7) {
                 Some(error) => assert_eq!(error.number(), number),
-                None => assert!(matches!(number, 0 | 20 | 25..)),
+                None => assert!(matches!(number, 0 | 20 | 25..=27 | 29..)),
             }
         }
     }

@@ -155,7 +155,7 @@ unsafe extern "C" {
         session_len: usize,
     ) -> u8;
     pub fn da728x_upload_waveform_memory(
-        record: *const u8,
+        record: *mut u8,
         record_len: usize,
         image: *const u8,
         image_len: usize,

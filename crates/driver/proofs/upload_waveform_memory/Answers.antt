@@ -1,15 +1,18 @@
 use Rattle.std.proofs.Common.{◌≡◌, ℕ, length, rules, refl, ap, ◌∙◌}
-use Rattle.sessions.specs.Sessions.{sendSteps, blankRecord}
+use Rattle.da728x.specs.Record.{recordBytes}
+use Rattle.da728x.specs.declared.Settings.TheVariants.{Absent}
+use Rattle.sessions.specs.Sessions.{sendSteps}
 use Rattle.sessions.proofs.Runs.{begins-as, uploaded}
+use Rattle.driver.specs.Operations.{uploadRecord}
 use Rattle.driver.proofs.Upload.{few}
 use Rattle.driver.proofs.upload_waveform_memory.Goals as goal
 use Prim.Native.Nat.{min}
 
 pub returns-clause-session_after : goal.returns-clause-session_after
-unfolding blankRecord
 returns-clause-session_after c =
     let a = c.args in
     let z : length a.memory.«data» ≡ 100 = search rules in
     let n = c.shown-n.ensures ∙ ap (λ (k : ℕ). min k 100) c.len.ensures in
-    uploaded _ _ _ _ z (few a.memory a.lock_after) (begins-as _ _ _ _ c.begin.ensures refl c.as_bytes-image.ensures refl)
+    let carried = c.to_bytes.ensures ∙ ap (λ (k : ℕ). recordBytes (record { address = a.driver.address; variant = a.driver.variant; settings = Absent; sequences = k })) c.num_sequences.ensures in
+    uploaded _ _ _ _ (uploadRecord a.driver a.memory) _ z (few a.memory a.lock_after) (begins-as _ _ _ _ c.begin.ensures refl c.as_bytes-image.ensures carried)
     c.send.ensures (ap (λ (k : ℕ). sendSteps k a.lock_after) n)

@@ -30,6 +30,10 @@ fn main() {
     tally.lines().iter().for_each(|line| println!("{line}"));
     println!("{} exchanges, {} sessions answered to their end", tally.exchanges, tally.finished);
     println!("{} records made, {} with settings stored", tally.made, tally.stored);
+    println!(
+        "counts of sequences: {} set to 0 by a start, {} by an answer, {} set to an image's",
+        tally.begun, tally.emptied, tally.loaded
+    );
     tally.assert_all_seen();
     println!("{} calls, each told and left what is listed", tally.calls());
 }

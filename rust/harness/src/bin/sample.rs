@@ -2,9 +2,9 @@
 //! argument `told`, what the program `vectors` has to say of it, `crates/vectors/stdout`.
 //!
 //! No expected value is of the proved library. Answers, bytes and exchanges are the published
-//! Rust's; the numbers of refusals, the low two bits of TRIM4, a trigger's mode bit, the layout of records and what lies
-//! outside the comparison are document 01's and 02's; what an image holds is told by the plain reader, and the Rust has to make the same
-//! image of that.
+//! Rust's; the numbers of refusals, the low two bits of TRIM4, a trigger's mode bit, the layout of records, the count of sequences in
+//! them and what lies outside the comparison are document 01's and 02's; what an image holds is told by the plain reader, and the Rust
+//! has to make the same image of that.
 
 use da728x::waveform::PwlPoint;
 use harness::bus::{Script, Wire, kind};
@@ -79,7 +79,8 @@ const HEAD: &str = "\
 Answers of the published Rust to random calls near the limits, refused ones among them; 24 where a
 buffer is too short for its item, its image or its lists; its InvalidValue as 21, 22 or 23 where
 document 02 tells it apart, the low two bits of TRIM4 as document 01 has them, bit 2 of a GPI
-register as its trigger's mode, and custom drive points written, where the Rust has no body for it.
+register as its trigger's mode, custom drive points written, where the Rust has no body for it, and
+28 for a sequence that is not among those of the last upload.
 Written by `scripts/remake-vectors` (rust/harness/src/bin/sample.rs), never by hand; read by the
 program `vectors`. The Rust is da728x-rs, revision REVISION, in rust/oracle, with these sums:
 SUMS
@@ -97,8 +98,8 @@ point; then eight bytes of read_frame for each frame likewise.
 Kinds 20 to 31, sessions: the record, the numbers among the arguments, the settings or the image, the
 number of the refusal or 00, the exchanges, the word that the last answer is told, the read buffer,
 the record after it, the word of result. The record is lent with the start and with each answer;
-kind 20 has none at the start, and 37 bytes A5 are lent with its answer. A record after it of no
-bytes says that the one lent stays as it was. An exchange is the chip address; how many bytes are
+kind 20 has none at the start, and 38 bytes A5 are lent with its answer. A record after it of no
+bytes says that the one lent is in the end as it was. An exchange is the chip address; how many bytes are
 sent, plus 80 if a byte is wanted, plus 40 if the bus fails; the bytes sent; the byte read or the
 bus's code, if there is one.
 ";
@@ -505,11 +506,14 @@ fn code(variant: Variant) -> u8 {
     VARIANTS.iter().position(|it| *it == variant).unwrap() as u8
 }
 
-fn record(address: u8, variant: Variant, stored: Option<&Settings>) -> Vec<u8> {
-    match stored {
-        Some(it) => [vec![address, code(variant), 2], settings_bytes(it)].concat(),
-        None => [vec![address, code(variant), 1], vec![0; 34]].concat(),
-    }
+/// The record of a driver: what it has stored, and the count of sequences.
+fn record(driver: &Published) -> Vec<u8> {
+    let head = [driver.address, code(driver.variant)];
+    let (flag, settings) = match &driver.stored {
+        Some(it) => (2, settings_bytes(it)),
+        None => (1, vec![0; 34]),
+    };
+    [&head[..], &[flag], &settings, &[driver.loaded.sequences()]].concat()
 }
 
 /// The bytes of settings, from the published types.
@@ -549,12 +553,12 @@ fn made(random: &mut Random) -> Vec<Vec<u8>> {
         _ => random.byte(),
     };
     let (outcome, driver) = Published::new(address, variant, &script);
-    let after = driver.map(|_| record(address, variant, None));
+    let after = driver.map(|it| record(&it));
     let input = vec![vec![], vec![address, code(variant)], vec![]];
     [input, session(&outcome, &script, lent(1), after)].concat()
 }
 
-/// An operation on a driver with settings or without.
+/// An operation on a driver with settings or without, and with sequences or without.
 fn operated(kind: u8, random: &mut Random) -> Vec<Vec<u8>> {
     let (address, variant) = (random.byte(), random.pick(&VARIANTS));
     let mut driver = Published::new(address, variant, &Script::reading(&[revision(variant)])).1;
@@ -567,8 +571,13 @@ fn operated(kind: u8, random: &mut Random) -> Vec<Vec<u8>> {
         let stored = driver.outcome(&Operation::Configure(settings), &Script::reading(&[90, 165]));
         assert!(stored.answer.is_ok(), "{settings:?}");
     }
-    let before = record(address, variant, driver.stored.as_ref());
     let (operation, last) = operation(kind, random);
+    if random.chance(80) {
+        let image = vec![1, sequences(&operation, random)];
+        let upload = Operation::UploadWaveformMemory(image, random.chance(50));
+        assert!(driver.outcome(&upload, &Script::reading(&[0])).answer.is_ok());
+    }
+    let before = record(driver);
     let (arguments, input) = arguments(&operation);
     let script = script(random, last);
     let outcome = driver.outcome(&operation, &script);
@@ -576,14 +585,25 @@ fn operated(kind: u8, random: &mut Random) -> Vec<Vec<u8>> {
         Operation::ReadWaveformMemory(..) => outcome.buffer().to_vec(),
         _ => lent(1),
     };
-    let after = record(address, variant, driver.stored.as_ref());
+    let after = record(driver);
     let after = (after != before).then_some(after);
     [vec![before, arguments, input], session(&outcome, &script, buffer, after)].concat()
 }
 
+/// How many sequences are loaded before an operation: below, at and above the number that it selects or plays; any before others.
+fn sequences(operation: &Operation, random: &mut Random) -> u8 {
+    match *operation {
+        Operation::SelectSequence(id, _) | Operation::PlaySequence(id, _) => {
+            let (at, above) = (id.min(254), id.min(254) + 1);
+            random.pick(&[at, at, above, above, at.saturating_sub(1), 16, 16, 17, 255])
+        }
+        _ => random.near(&[1, 2, 4, 15, 16]),
+    }
+}
+
 /// A random operation, and about how many exchanges it makes.
 fn operation(kind: u8, random: &mut Random) -> (Operation, usize) {
-    let mut four_bits = || random.near(&[0, 1, 7, 8, 14, 15, 15, 16, 17, 255]);
+    let mut four_bits = || random.near(&[0, 1, 3, 7, 8, 14, 15, 15, 16, 17]);
     match kind {
         0x21 => (Operation::Configure(Settings::any(random)), 25),
         0x22 => (Operation::GetChipRev, 1),
@@ -605,7 +625,10 @@ fn operation(kind: u8, random: &mut Random) -> (Operation, usize) {
         0x2D => {
             let edges = [0, 1, 31, 32, 33, 63, 64, 65, 96, 97, 99, 100, 100, 101, 256];
             let len = if random.chance(50) { random.pick(&edges) } else { random.within(0, 60) };
-            let image = (0..len).map(|_| random.byte()).collect();
+            let mut image: Vec<u8> = (0..len).map(|_| random.byte()).collect();
+            if let Some(byte) = image.get_mut(1) {
+                *byte = random.near(&[0, 1, 2, 15, 16, 17, 200, 255]);
+            }
             (Operation::UploadWaveformMemory(image, random.chance(50)), 6)
         }
         0x2E => {

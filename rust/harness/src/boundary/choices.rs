@@ -5,7 +5,7 @@ use crate::random::Random;
 
 /// Lengths at and next to those that the header names, and a little more.
 const LENGTHS: [usize; 20] =
-    [0, 1, 2, 3, 4, 5, 32, 33, 34, 36, 37, 38, 42, 99, 100, 101, 278, 279, 280, 600];
+    [0, 1, 2, 3, 4, 5, 32, 33, 34, 37, 38, 39, 42, 99, 100, 101, 279, 280, 281, 600];
 
 /// Numbers that a length or an index may be mistaken for.
 const NUMBERS: [usize; 16] = [

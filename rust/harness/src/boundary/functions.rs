@@ -62,9 +62,9 @@ functions! {
     da728x_lock_waveform_memory: 0;
     da728x_upload_waveform_memory: 0, 8;
     da728x_read_waveform_memory: 0;
-    da728x_select_sequence: 0, 11;
+    da728x_select_sequence: 0, 11, 28;
     da728x_start_sequence: 0;
-    da728x_play_sequence: 0, 11;
+    da728x_play_sequence: 0, 11, 28;
     da728x_pending: 0, NOTHING;
     da728x_answer: 0, 16, 17, 19;
     da728x_result: 0, NOTHING;
@@ -110,13 +110,26 @@ pub struct Tally {
     pub made: u64,
     pub stored: u64,
     pub spared: u64,
+    /// Counts of sequences that a start set to 0 and that an answer set: to 0, or to what was uploaded; each from another.
+    pub begun: u64,
+    pub emptied: u64,
+    pub loaded: u64,
 }
 
 impl Tally {
     pub fn new() -> Self {
-        let functions = [[0; OUTCOMES]; FUNCTIONS.len()];
-        let calls = [[0; OUTCOMES]; CALLS.len()];
-        Self { functions, calls, exchanges: 0, finished: 0, made: 0, stored: 0, spared: 0 }
+        Self {
+            functions: [[0; OUTCOMES]; FUNCTIONS.len()],
+            calls: [[0; OUTCOMES]; CALLS.len()],
+            exchanges: 0,
+            finished: 0,
+            made: 0,
+            stored: 0,
+            spared: 0,
+            begun: 0,
+            emptied: 0,
+            loaded: 0,
+        }
     }
 
     /// Counts what a function told; it has to be listed.
@@ -161,6 +174,8 @@ impl Tally {
         }
         assert!(self.finished > 0 && self.exchanges > 0, "no session ended");
         assert!(self.made > 0 && self.stored > 0 && self.spared > 0, "no record was written");
+        let counts = [self.begun, self.emptied, self.loaded];
+        assert!(counts.iter().all(|it| *it > 0), "counts of sequences: {counts:?}");
     }
 
     /// The tally as lines of text.

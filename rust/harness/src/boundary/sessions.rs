@@ -6,7 +6,7 @@ use super::functions::NOTHING;
 use super::hands::{Hands, lent, shown};
 use super::patterns::Patterns;
 use crate::raw::{BYTE, DONE, FAILED, SESSION, ffi, result_word};
-use crate::records::{Stores, chip};
+use crate::records::{Answered, PURPOSE, Stores, chip, count, counted};
 use crate::settings::{Settings, near};
 use yambelugo::RECORD;
 
@@ -33,7 +33,7 @@ struct Begun {
     /// The length said for the read buffer, and how many bytes of memory are read.
     room: usize,
     reads: usize,
-    /// What its last answer does to the record.
+    /// What its answers do to the record.
     stores: Stores,
     state: State,
 }
@@ -52,7 +52,7 @@ struct Session {
     bytes: Vec<u8>,
     /// Absent once the bytes were forged.
     begun: Option<Begun>,
-    /// The record that it was started from.
+    /// The record that it was started from, as the start left it.
     record: Vec<u8>,
     /// How many exchanges were made since the bytes were begun or forged, and the bytes that came.
     made: usize,
@@ -117,7 +117,7 @@ impl Sessions {
             session.bytes = choices.bytes(SESSION);
             // Else most of them have ended, and are for nothing.
             (session.bytes[1], session.bytes[2]) = (1, choices.below(130) as u8);
-            session.bytes[16] = choices.below(7) as u8;
+            session.bytes[PURPOSE] = choices.below(8) as u8;
         }
         (session.begun, session.made) = (None, 0);
     }
@@ -169,7 +169,8 @@ impl Sessions {
             da728x_new => new(&mut begun, &session, choices, hands),
             da728x_configure => configure(&mut begun, &record, &session, choices, hands),
             da728x_upload_waveform_memory => {
-                upload(&record, &patterns.image(choices), &session, choices, hands)
+                let image = patterns.image(choices);
+                upload(&mut begun, &record, &image, &session, choices, hands)
             }
             da728x_read_waveform_memory => read(&mut begun, &record, &session, choices, hands),
             da728x_select_sequence | da728x_play_sequence => {
@@ -187,7 +188,7 @@ impl Sessions {
             let (_, after) = hands.slice(slice);
             let held = &mut self.sessions[at];
             held.bytes.copy_from_slice(after);
-            (held.begun, held.made, held.record) = (Some(begun), 0, record);
+            (held.begun, held.made, held.record) = (Some(begun), 0, begun.stores.begun(&record));
             held.read.clear();
         } else {
             hands.assert_rest_stays(function, slice, 0);
@@ -250,8 +251,11 @@ impl Sessions {
     ) {
         let Answer { pending, kind, byte, room } = answer;
         let buffer = choices.bytes(room);
+        let own = &self.sessions[at].record;
         let record = match choices.below(10) {
-            0..6 => self.sessions[at].record.clone(),
+            0..5 => own.clone(),
+            // A copy of another time.
+            5 => counted(own, choices.byte()),
             _ => self.a_record(choices),
         };
         let slices = [lent(&record), lent(session), lent(&buffer)];
@@ -267,7 +271,7 @@ impl Sessions {
         assert_eq!(code, if number == 17 { byte } else { 0 }, "the bus's code");
         hands.tally.count(da728x_answer, number.into());
         let stored = stored_at(number, kind, byte, hands);
-        self.written(at, session, number == 0 && ended == 1, choices, hands);
+        self.written(at, session, Answered::told(told as u32), choices, hands);
         if number == 19 {
             hands.assert_rest_stays(da728x_answer, 1, 0);
         } else {
@@ -297,34 +301,31 @@ impl Sessions {
         }
     }
 
-    /// Looks at the record that was lent with an answer, the last that a session took or another.
+    /// Looks at the record that was lent with an answer.
     fn written(
         &mut self,
         at: usize,
         session: &[u8],
-        last: bool,
+        answered: Answered,
         choices: &mut Choices,
         hands: &mut Hands,
     ) {
         let (lent, record) = hands.slice(0);
         let begun = self.sessions[at].begun.filter(|_| session.len() == SESSION);
-        let stores = begun.map_or(Stores::Nothing, |it| it.stores);
-        if !last || begun.is_some() {
-            let wanted = if last { stores.after(lent) } else { lent.to_vec() };
-            assert!(record == wanted, "da728x_answer left another record");
-        } else if record != lent {
-            assert!(record[1] <= 2 && (record[2] == 2 || record[2..] == blank()[..]));
-        }
-        let (same, fits) = (record == lent, record.len() == RECORD);
+        let stores = begun.map_or_else(|| Stores::forged(session), |it| it.stores);
+        assert!(record == stores.after(lent, answered), "da728x_answer left another record");
+        let last = answered == Answered::Completed;
+        let (same, fits, none) = (record == lent, record.len() == RECORD, count(record) == 0);
         match stores {
-            Stores::Chip(..) if last && !same => hands.tally.made += 1,
-            Stores::Settings(..) if last && !same => hands.tally.stored += 1,
-            Stores::Settings(..) if last && fits => hands.tally.spared += 1,
+            Stores::Record(_) if !same => hands.tally.made += 1,
+            Stores::Settings(_) if !same => hands.tally.stored += 1,
+            Stores::Settings(_) if last && fits => hands.tally.spared += 1,
+            Stores::Sequences(..) if !same && none => hands.tally.emptied += 1,
+            Stores::Sequences(..) if !same => hands.tally.loaded += 1,
             _ => {}
         }
-        let (_, record) = hands.slice(0);
         if !same {
-            let at = choices.below(self.records.len());
+            let (at, record) = (choices.below(self.records.len()), hands.slice(0).1);
             self.records[at].copy_from_slice(record);
         }
     }
@@ -462,16 +463,12 @@ fn stored_at(number: u8, kind: u8, byte: u8, hands: &Hands) -> Option<usize> {
     Some(index)
 }
 
-/// What is behind the variant in a record without settings.
-fn blank() -> [u8; RECORD - 2] {
-    std::array::from_fn(|at| u8::from(at == 0))
-}
-
-/// A record of settings near the limits, stored or not.
+/// A record of settings near the limits, stored or not, with a count near those of images.
 fn any_record(choices: &mut Choices) -> Vec<u8> {
     let head =
         [choices.byte(), choices.pick(&[0, 1, 2, 3, 255]), choices.pick(&[2, 2, 2, 3, 255, 0, 1])];
-    [&head[..], &settings(choices)[..]].concat()
+    let count = choices.pick(&[0, 1, 4, 15, 16, 17, 255]);
+    [&head[..], &settings(choices)[..], &[count]].concat()
 }
 
 /// Settings near the limits; some with codes and flags past the last.
@@ -490,7 +487,7 @@ fn new(begun: &mut Begun, session: &[u8], choices: &mut Choices, hands: &mut Han
     let (address, variant) = (choices.byte(), choices.pick(&[0, 1, 2, 3, 255]));
     begun.address = address;
     begun.revision = [0xBA, 0xCA, 0xDA][usize::from(variant.min(2))];
-    begun.stores = Stores::Chip(address, variant.min(2));
+    begun.stores = Stores::made(address, variant);
     hands.call(da728x_new, choices, [lent(session)], |[(it, len)]| {
         // SAFETY: the pointer and length are a slice.
         unsafe { ffi::da728x_new(address, variant, it, len).into() }
@@ -523,7 +520,9 @@ fn configure(
     })
 }
 
+/// The record is written too, where the upload is begun: its count is 0 then.
 fn upload(
+    begun: &mut Begun,
     record: &[u8],
     image: &[u8],
     session: &[u8],
@@ -531,11 +530,16 @@ fn upload(
     hands: &mut Hands,
 ) -> u64 {
     let lock = choices.byte();
-    let slices = [shown(record), shown(image), lent(session)];
+    begun.stores = Stores::uploaded(record, image);
+    let slices = [lent(record), shown(image), lent(session)];
     let told = hands.call(da728x_upload_waveform_memory, choices, slices, |[record, image, it]| {
         start!(da728x_upload_waveform_memory, record, it, image.0, image.1, lock)
     });
     assert_eq!(told == 8, image.len() > 100, "an image of {} bytes", image.len());
+    let begins = told == 0 && session.len() == SESSION;
+    let wanted = if begins { begun.stores.begun(record) } else { record.to_vec() };
+    assert!(hands.slice(0).1 == wanted, "the start of an upload left another record");
+    hands.tally.begun += u64::from(wanted != record);
     told
 }
 
@@ -565,14 +569,17 @@ fn select(
     choices: &mut Choices,
     hands: &mut Hands,
 ) -> u64 {
-    let limits = [0, 1, 7, 14, 15, 16];
+    let limits = [0, 1, 3, 4, 14, 15, 16];
     let (id, loops) = (choices.random().near(&limits), choices.random().near(&limits));
     let slices = [shown(record), lent(session)];
     let told = hands.call(function, choices, slices, |[record, session]| match function {
         da728x_select_sequence => start!(da728x_select_sequence, record, session, id, loops),
         _ => start!(da728x_play_sequence, record, session, id, loops),
     });
-    assert_eq!(told == 11, id > 15 || loops > 15, "sequence {id}, {loops} loops");
+    let above = id > 15 || loops > 15;
+    assert_eq!(told == 11, above, "sequence {id}, {loops} loops");
+    let missing = !above && id >= count(record);
+    assert_eq!(told == 28, missing, "sequence {id} of {}", count(record));
     told
 }
 

@@ -11,6 +11,7 @@ use harness::oracle::{Builders, matches, number};
 use harness::patterns::{KINDS, mended};
 use harness::random::Random;
 use harness::raw::{BYTE, DONE, LISTS, SESSION};
+use harness::records::COUNT;
 use harness::settings::{Settings, published_variant};
 use harness::triggers;
 use std::hint::black_box;
@@ -474,7 +475,7 @@ fn their_configures(inputs: &Inputs) -> Done {
 }
 
 fn our_record() -> [u8; RECORD] {
-    record_bytes(ADDRESS, VARIANT, None)
+    record_bytes(ADDRESS, VARIANT, None, 0)
 }
 
 fn our_start(settings: &Case, record: &[u8; RECORD], session: &mut [u8; SESSION]) -> u8 {
@@ -522,7 +523,7 @@ fn our_configures(inputs: &Inputs) -> Done {
         our_start(settings, &record, &mut session);
         run(&mut bus, &mut record, &mut session);
     }
-    assert_eq!(record[3..], inputs.accepted.last().unwrap().bytes);
+    assert_eq!(record[3..COUNT], inputs.accepted.last().unwrap().bytes);
     Done { count: bus.0.count - 1, ..bus.0 }
 }
 
@@ -530,23 +531,23 @@ fn their_uploads(inputs: &Inputs) -> Done {
     let mut bus = Bus::default();
     let mut driver = their_driver(&mut bus);
     for image in &inputs.images {
-        let memory = WaveformMemory::from_bytes(*image, IMAGE as u8, 0, 0);
+        let memory = WaveformMemory::from_bytes(*image, IMAGE as u8, image[0], image[1]);
         at_once(driver.upload_waveform_memory(&memory, true)).unwrap();
     }
     Done { count: bus.0.count - 1, ..bus.0 }
 }
 
-fn our_upload(image: &[u8; IMAGE], record: &[u8; RECORD], session: &mut [u8; SESSION]) {
-    let (at, from) = (session.as_mut_ptr(), image.as_ptr());
+fn our_upload(image: &[u8; IMAGE], record: &mut [u8; RECORD], session: &mut [u8; SESSION]) {
+    let (of, at, from) = (record.as_mut_ptr(), session.as_mut_ptr(), image.as_ptr());
     let start = ffi::da728x_upload_waveform_memory;
     // SAFETY: each pointer and length is an array, and none overlaps another.
-    assert_eq!(unsafe { start(record.as_ptr(), RECORD, from, IMAGE, 1, at, SESSION) }, 0);
+    assert_eq!(unsafe { start(of, RECORD, from, IMAGE, 1, at, SESSION) }, 0);
 }
 
 fn our_upload_plans(inputs: &Inputs) -> Done {
-    let (mut done, record, mut session) = (Done::default(), our_record(), [0; SESSION]);
+    let (mut done, mut record, mut session) = (Done::default(), our_record(), [0; SESSION]);
     for image in &inputs.images {
-        our_upload(image, &record, &mut session);
+        our_upload(image, &mut record, &mut session);
         done.add(&black_box(&session)[..1]);
         done.count += 1;
     }
@@ -557,8 +558,9 @@ fn our_uploads(inputs: &Inputs) -> Done {
     let (mut bus, mut record, mut session) = (Bus::default(), our_record(), [0; SESSION]);
     bus.exchange(ADDRESS, &[0]);
     for image in &inputs.images {
-        our_upload(image, &record, &mut session);
+        our_upload(image, &mut record, &mut session);
         run(&mut bus, &mut record, &mut session);
     }
+    assert_eq!(record[COUNT], inputs.images.last().unwrap()[1]);
     Done { count: bus.0.count - 1, ..bus.0 }
 }
