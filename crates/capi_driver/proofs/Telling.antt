@@ -1,7 +1,7 @@
 -- No word misleads: each number is given back. Assumes nothing.
 use Prim.Native.Nat.{ℕ, zero, suc, ◌+◌, ◌-◌, ◌*◌, ◌/◌, ◌%◌, ◌≤◌, ◌<◌, min}
 use native.Mathlib.Omega.{arith}
-use mathlib.Core.Path.{◌≡◌, refl, ap, ◌∙◌}
+use mathlib.Core.Path.{◌≡◌, refl, sym, ap, subst, ◌∙◌}
 use mathlib.Core.Bool.{Bool, true, false, cond}
 use mathlib.Core.Logic.{◌⊎◌, inl, inr}
 use mathlib.Core.List.{List, [], ◌∷◌, ◌++◌}
@@ -11,28 +11,32 @@ use lib.Seq.{take_at}
 use borrow.Author.Tests.{eq-eqb, ne_eqb, le-ltb, ltb-true}
 use Rattle.laws.proofs.Tests.{choice}
 use Rattle.laws.specs.Bytes.{Bytes}
+use Rattle.laws.specs.Lists.{at}
+use Rattle.errors.specs.Told.{accepted, refused}
+use Rattle.config.specs.declared.Variant.TheVariants.{DA7280}
+use Rattle.da728x.specs.declared.Settings.TheVariants.{Absent}
 use Rattle.field.specs.Field.{codeOf}
 use Rattle.exchange.specs.declared.Exchange.{Exchange}
 use Rattle.exchange.specs.declared.Step.{Step}
 use Rattle.exchange.specs.declared.Step.TheVariants.{Write, Read, Update, Match, Chunk, Store}
 use Rattle.exchange.specs.declared.Reply.TheVariants.{Done, Byte, Failed}
-use Rattle.exchange.specs.State.{isBegun, madeIn, countIn, purposeIn, imageIn, left, noneLeft, completed}
+use Rattle.exchange.specs.State.{indexed, isBegun, madeIn, countIn, purposeIn, imageIn, left, noneLeft, completed}
 use Rattle.exchange.specs.Turn.{pendingFor, pendingOf, wanted, resized, fitsNext, fitOf, effectOf, stateAfter, reportOf}
 use Rattle.exchange.specs.Session.{AnswerCall, taken, afterCall, sent}
 use Rattle.exchange.proofs.Moves.{left-counts}
 use Rattle.exchange.proofs.Session.{session}
 use Rattle.exchange.proofs.Takes.{sends}
-use Rattle.memory.specs.Memory.{memory}
+use Rattle.memory.specs.Memory.{memory, noMemory}
 use Rattle.da728x.specs.declared.DA728x.{DA728x}
 use Rattle.da728x.specs.Record.{recordAt}
 use Rattle.da728x.proofs.Kept.{record-kept}
 use Rattle.outcome.specs.declared.Change.{Change}
-use Rattle.outcome.specs.declared.Change.TheVariants.{Same, To}
-use Rattle.outcome.specs.Outcome.{valueIn, outcomeOf, recordBy}
+use Rattle.outcome.specs.declared.Change.TheVariants.{Same, To, Sequences}
+use Rattle.outcome.specs.Outcome.{valueIn, outcomeOf, withSequences, recordBy}
 use Rattle.driver.specs.Operations.{uploadWaveformMemory}
 use Rattle.capi_driver.specs.Words.{exchangeWord, replyOf, reportWord, recordOut, resultWord, uploadOf}
 use Rattle.capi_driver.specs.Telling.{Telling}
-use Rattle.capi_driver.proofs.Uploads.{upload-refused}
+use Rattle.capi_driver.proofs.Uploads.{upload, upload-refused}
 
 three : (a b c : ℕ) → a < 256 → b < 256 →
     ((a + 256 * b + 65536 * c) % 256 ≡ a) × ((a + 256 * b + 65536 * c) / 256 % 256 ≡ b) × ((a + 256 * b + 65536 * c) / 65536 ≡ c)
@@ -143,16 +147,37 @@ module _ (st : List ℕ) (kind byte n : ℕ) (h : Bytes st) (b : byte < 256) whe
 
 -- ---- the record
 
-records : (l : List ℕ) (c : Change) → length l ≡ 37 → recordAt (recordOut l c) ≡ recordBy (recordAt l) c
+-- a list is its bytes, one by one
+shifted : (f : ℕ → ℕ) (i n : ℕ) → indexed f (suc i) n ≡ indexed (λ j. f (suc j)) i n
+shifted f i zero = refl
+shifted f i (suc n) = ap (λ (l : List ℕ). f (suc i) ∷ l) (shifted f (suc i) n)
+
+each-byte : (k : ℕ) (l : List ℕ) → length l ≡ k → l ≡ indexed (at l) 0 k
+each-byte zero [] h = refl
+each-byte zero (x ∷ xs) h = absurd (omega (arith, h))
+each-byte (suc k) [] h = absurd (omega (arith, h))
+each-byte (suc k) (x ∷ xs) h = ap (λ (l : List ℕ). x ∷ l) (each-byte k xs (omega (arith, h)) ∙ sym (shifted (at (x ∷ xs)) 0 k))
+
+records : (l : List ℕ) (c : Change) → length l ≡ 38 → recordAt (recordOut l c) ≡ recordBy (recordAt l) c
+unfolding recordAt
 records l Same h = refl
 records l (To r) h = rw (eq-eqb _ _ h) (record-kept r)
+records l (Sequences n) h = subst (λ (m : List ℕ). recordAt (recordOut m (Sequences n)) ≡ withSequences (recordAt m) n) (sym (each-byte 38 l h)) refl
 
-spared : (l : List ℕ) (c : Change) → (¬ (length l ≡ 37)) ⊎ (c ≡ Same) → recordOut l c ≡ l
+counted-out : (l : List ℕ) (n : ℕ) → length l ≡ 38 → recordOut l (Sequences n) ≡ take 37 l ++ (n ∷ [])
+counted-out l n h = subst (λ (m : List ℕ). recordOut m (Sequences n) ≡ take 37 m ++ (n ∷ [])) (sym (each-byte 38 l h)) refl
+
+none : (l : List ℕ) → ¬ (length l ≡ 38) → recordAt l ≡ record { address = 0; variant = DA7280; settings = Absent; sequences = 0 }
+unfolding recordAt
+none l h = rw (ne_eqb _ _ h)
+
+spared : (l : List ℕ) (c : Change) → (¬ (length l ≡ 38)) ⊎ (c ≡ Same) → recordOut l c ≡ l
 spared l c (inl h) = go c
   where
     go : (c : Change) → recordOut l c ≡ l
     go Same = refl
     go (To r) = rw (ne_eqb _ _ h)
+    go (Sequences n) = rw (ne_eqb _ _ h)
 spared l c (inr e) = ap (recordOut l) e
 
 -- ---- answers of the bus, and uploads
@@ -165,13 +190,14 @@ replies kind byte = (refl, refl, failed kind)
     failed (suc zero) h = absurd (omega arith)
     failed (suc (suc n)) h = refl
 
-uploads : (r : DA728x) (image : List ℕ) (lockAfter : Bool) → length image ≤ 100 → let m = memory (image ++ replicate (100 - length image) 0) (length image) 0 0 in
-    (uploadOf r image lockAfter ≡ (uploadWaveformMemory r m lockAfter).start) × (take m.len m.«data» ≡ image) × (length m.«data» ≡ 100)
+uploads : (r : DA728x) (image : List ℕ) (lockAfter : Bool) → length image ≤ 100 → let m = memory (image ++ replicate (100 - length image) 0) (length image) (at image 0) (at image 1) in
+    (uploadOf r image lockAfter ≡ (uploadWaveformMemory r m lockAfter).start) × (take m.len m.«data» ≡ image) × (length m.«data» ≡ 100) × (m.num_sequences ≡ at image 1)
 unfolding uploadOf
 uploads r image lockAfter h = (
-  simp (le-ltb 100 (length image) h),
+  ap (λ (b : Bool). upload r lockAfter (cond b (refused 8 noMemory) (accepted (memory (image ++ replicate (100 - length image) 0) (length image) (at image 0) (at image 1))))) (le-ltb 100 (length image) h),
   take_at image (replicate (100 - length image) 0) (length image) refl,
   length-append image (replicate (100 - length image) 0) ∙ ap (λ (n : ℕ). length image + n) (length-replicate {A = ℕ} (100 - length image) 0) ∙ omega arith,
+  refl,
 )
 
 pub telling : Telling
@@ -184,6 +210,8 @@ telling = record {
       let k = bounded-report st kind byte n h b in four t.number t.code t.made (codeOf t.ended) k.0 k.1 k.2;
   records = records;
   spared = spared;
+  counted = counted-out;
+  none = none;
   results = λ st h. let k = bounded st h in wide (outcomeOf st).value (outcomeOf st).made (codeOf (outcomeOf st).completed) k.0 k.1;
   replies = replies;
   full = upload-refused;

@@ -1,6 +1,7 @@
 // The functions exported for C that drive the chip (lib.rs; document 01, 'Exchanges' and 'Rust forms without a counterpart'), on numbers
 // and byte slices; include/da728x.h declares and explains each. The caller lends the session's bytes and the record's; `da728x_pending`
-// and `da728x_answer` run the session, and the answer that completes `new` or `configure` changes the record. Every one is total: any bytes, any lengths.
+// and `da728x_answer` run the session, and the answer that completes `new` or `configure` changes the record; so do the start of an upload and each
+// answer to it (document 02, CR 10). Every one is total: any bytes, any lengths.
 // Proved: the answer and every lent byte are those of the definitions of `driver` and `exchange` for the record that the bytes hold; how
 // an answer is one number is specs/Words.antt, and proofs/Telling.antt: each word gives back its parts, and
 // an upload sends the bytes that were handed in.
@@ -14,7 +15,7 @@ ghost use Rattle.config.specs.Codes.{variantAt};
 ghost use Rattle.memory.specs.Timebase.{memoryTimebaseAt};
 ghost use Rattle.da728x.specs.Record.{recordAt, actuatorConfigAt, deviceConfigAt};
 ghost use Rattle.exchange.specs.Turn.{pendingOf, reportOf, turnReport, stateAfter, bufferAfter};
-ghost use Rattle.outcome.specs.declared.Change.TheVariants.{To};
+ghost use Rattle.outcome.specs.declared.Change.TheVariants.{To, Sequences};
 ghost use Rattle.outcome.specs.Outcome.{changeBy, outcomeOf};
 ghost use Rattle.driver.specs.Operations as spec;
 ghost use Rattle.capi_driver.specs.Words.{exchangeWord, replyOf, reportWord, recordOut, resultWord, uploadOf};
@@ -156,28 +157,30 @@ pub extern "C" fn da728x_lock_waveform_memory(record: &[u8], session: &mut [u8])
 
 #[unsafe(no_mangle)]
 pub extern "C" fn da728x_upload_waveform_memory(
-    record: &[u8],
+    record: &mut [u8],
     image: &[u8],
     lock_after: u8,
     session: &mut [u8],
 ) -> u8
-    ensures value { result ≡ spec.startNumber (uploadOf (recordAt «record».now) image.now (ltb 0 lock_after)) }
+    ensures value { result ≡ spec.startNumber (uploadOf (recordAt «record».old) image.now (ltb 0 lock_after)) }
+    ensures record_after { «record».new
+        ≡ recordOut «record».old
+        (spec.changeFrom session.old (uploadOf (recordAt «record».old) image.now (ltb 0 lock_after))) }
     ensures session_after { session.new
-        ≡ spec.startedIn session.old (uploadOf (recordAt «record».now) image.now (ltb 0 lock_after)) }
+        ≡ spec.startedIn session.old (uploadOf (recordAt «record».old) image.now (ltb 0 lock_after)) }
 {
     if 100 < image.len() {
         return Answer::Refused(Error::WaveformMemoryFull).number();
     }
     let mut data = [0u8; 100];
     laws::copy_into(&mut data, image);
-    let loaded = WaveformMemory::from_bytes(data, image.len() as u8, 0, 0);
+    let loaded = WaveformMemory::from_bytes(data, image.len() as u8, data[0], data[1]);
     let memory = loaded.memory;
-    driver::upload_waveform_memory(
-        DA728x::from_bytes(record),
-        memory,
-        0 < lock_after,
-        session,
-    ).number()
+    let driver = DA728x::from_bytes(record);
+    put(outcome::zeroing(session), record);
+    let started = driver::upload_waveform_memory(driver, memory, 0 < lock_after, session);
+    let answer = started.answer;
+    answer.number()
 }
 
 #[unsafe(no_mangle)]
@@ -283,7 +286,7 @@ pub extern "C" fn da728x_answer(
 }
 
 // The record after an answer that gave this turn; it is looked at only where it may change.
-#[tactic(auto, using(outcome::proofs::Changes::unchanged), unfolding(outcome::specs::Outcome::changeBy))]
+#[tactic(auto, unfolding(outcome::specs::Outcome::changeBy))]
 fn store(record: &mut [u8], session: &[u8], turn: Turn)
     ensures { «record».new
         ≡ recordOut «record».old (changeBy session.now (turnReport turn) (recordAt «record».old)) }
@@ -300,10 +303,20 @@ fn put(change: Change, out: &mut [u8])
     match change {
         Change::Same => {}
         Change::To(next) => write(next, out),
+        Change::Sequences(n) => count(n, out),
     }
 }
 
-// A record goes to 37 bytes only.
+// A count of sequences is the last byte of a record.
+fn count(n: u8, out: &mut [u8])
+    ensures { out.new ≡ recordOut out.old (Sequences n) }
+{
+    if out.len() == da728x::RECORD_SIZE {
+        out[37] = n;
+    }
+}
+
+// A record goes to 38 bytes only.
 fn write(next: DA728x, out: &mut [u8])
     ensures { out.new ≡ recordOut out.old (To next) }
 {

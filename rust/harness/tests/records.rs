@@ -1,5 +1,5 @@
 //! Records and results of sessions, through the C functions: which answer writes to the record lent with it, what is in force after wrong
-//! uses, and what a result holds at every point. What is wanted comes from document 01 and the header (`harness::records`,
+//! uses, and what a result holds at every point. What is wanted comes from documents 01 and 02 and the header (`harness::records`,
 //! `Operation::answers`), never from the library.
 
 use harness::cases::walk;
@@ -9,14 +9,15 @@ use harness::driver::{Operation, record_bytes, revision};
 use harness::lists::MARKER;
 use harness::random::Random;
 use harness::raw::{self, BYTE, DONE, FAILED, SESSION, result_word, word};
-use harness::records::Stores;
+use harness::records::{Answered, COUNT, Stores};
 use harness::settings::{MEMORY_TIMEBASES, Settings, VARIANTS};
 use yambelugo::{DrivingMode, OperationMode, RECORD, Variant};
 
 /// Records that may be lent with an answer: the one of the start, others of the chip, of other chips, and of other lengths.
 fn lendable(own: [u8; RECORD]) -> Vec<Vec<u8>> {
-    let mut records = vec![own, record_bytes(own[0], Variant::DA7282, None), [0; RECORD]];
-    for (at, byte) in [(0, 0x4B), (0, 0), (1, 0), (1, 1), (1, 3), (1, 255), (2, 0), (2, 255)] {
+    let mut records = vec![own, record_bytes(own[0], Variant::DA7282, None, 0), [0; RECORD]];
+    let chips = [(0, 0x4B), (0, 0), (1, 0), (1, 1), (1, 3), (1, 255), (2, 0), (2, 255)];
+    for (at, byte) in chips.into_iter().chain([(COUNT, 0), (COUNT, 253), (COUNT, 255)]) {
         let mut other = own;
         other[at] = byte;
         records.push(other);
@@ -29,29 +30,38 @@ fn lendable(own: [u8; RECORD]) -> Vec<Vec<u8>> {
     records.into_iter().map(|it| it.to_vec()).chain(other_lengths).collect()
 }
 
-/// The record changes by the last answer of `new` and of `configure` alone, whatever is lent: not by another answer, a failure, an answer
-/// out of turn or one after the end. `configure` makes 14 to 25 exchanges.
+/// The record changes by the last answer of `new` and of `configure`, and by each answer to an upload that is taken, a failure too,
+/// whatever is lent; by no other answer, none out of turn and none after the end. `configure` makes 14 to 25 exchanges.
 #[test]
-fn a_record_by_the_last_answer_only() {
-    let (mut answers, mut written, mut most) = (0, 0, 0);
+fn a_record_by_each_answer() {
+    let (mut answers, mut written, mut counted, mut most) = (0, 0, [0; 2], 0);
     for case in cases() {
+        let uploads = matches!(case.stores, Stores::Sequences(..));
         most = most.max(walk(&case, |point| {
             for lent in lendable(case.record) {
                 let with = Point { record: lent.clone(), ..point.clone() };
                 for kind in [DONE, BYTE, FAILED] {
-                    if point.ended() || kind == FAILED || point.wanted() != (kind == BYTE) {
-                        let mut after = with.clone();
-                        after.answer(kind, case.read);
-                        assert_eq!(after.record, lent, "{}, kind {kind}", case.name);
-                        answers += 1;
-                    }
-                }
-                if !point.ended() {
+                    let fits = kind == FAILED || point.wanted() == (kind == BYTE);
+                    let byte = case.read.wrapping_add(point.made as u8);
                     let mut after = with.clone();
-                    after.make(&case);
-                    let stores = if after.ended() { case.stores } else { Stores::Nothing };
-                    assert_eq!(after.record, stores.after(&lent), "{}, {lent:02X?}", case.name);
-                    written += usize::from(after.record != lent);
+                    let told = after.answer(kind, byte);
+                    let wanted = match Answered::told(told) {
+                        Answered::OutOfTurn => {
+                            assert!(point.ended() || !fits, "{}, kind {kind}", case.name);
+                            lent.clone()
+                        }
+                        answered => {
+                            assert!(!point.ended() && fits, "{}, kind {kind}", case.name);
+                            let completed = kind != FAILED && after.ended();
+                            assert_eq!(answered == Answered::Completed, completed);
+                            case.stores.after(&lent, answered)
+                        }
+                    };
+                    assert_eq!(after.record, wanted, "{}, kind {kind}, {lent:02X?}", case.name);
+                    match after.record != lent {
+                        true if uploads => counted[usize::from(kind == FAILED)] += 1,
+                        changed => written += usize::from(changed),
+                    }
                     answers += 1;
                 }
             }
@@ -63,8 +73,12 @@ fn a_record_by_the_last_answer_only() {
     assert_eq!(counts, [25, 14]);
     let records = lendable(stored()).len();
     compared("records lent with answers", answers, records * 3 * (EXCHANGES + CASES));
-    // `new` makes all thirteen of the right length its own, of which one is so before; six are of the chip that `configure` sets up.
-    compared("of these written", written, 3 * 13 + 4 * 6 - 1);
+    // `new` makes all sixteen of the right length its own, of which one is so before; nine are of the chip that `configure` sets up.
+    compared("of these written", written, 3 * 16 + 4 * 9 - 1);
+    // Eleven are of the address that the uploads go to, two of these with no sequences. The last answer of 16 of the 20 uploads sets the
+    // count to 253, which one has; every other sets it to 0.
+    compared("of these counted", counted[0], (72 - 20) * 9 + 4 * 9 + 16 * 10);
+    compared("of these counted by a failure", counted[1], 72 * 9);
 }
 
 /// The result has the count at every point of every operation, and what it answers once it is completed: `set_timebase` and others that
@@ -89,7 +103,7 @@ fn a_result_at_every_point() {
 #[test]
 fn events_in_their_order() {
     let (mut record, mut session) = (stored(), [MARKER; SESSION]);
-    assert_eq!(raw::start(&Operation::GetEvents, &record, &mut session), 0);
+    assert_eq!(raw::start(&Operation::GetEvents, &mut record, &mut session), 0);
     for (made, (kind, byte)) in
         [(BYTE, 0xE1), (BYTE, 0xD2), (BYTE, 0xC3), (DONE, 0)].into_iter().enumerate()
     {
@@ -130,7 +144,7 @@ fn a_memory_read_of_zero_bytes() {
     for (len, room) in [(0, 5), (5, 0), (0, 0), (0, 100)] {
         let (mut record, mut session) = (stored(), [MARKER; SESSION]);
         let operation = Operation::ReadWaveformMemory(len, room);
-        assert_eq!(raw::start(&operation, &record, &mut session), 0);
+        assert_eq!(raw::start(&operation, &mut record, &mut session), 0);
         assert_eq!(raw::result(&session), result_word(0, 0, true));
         assert_eq!(raw::pending(&session, &mut [0; 40]), 0);
         for kind in [DONE, BYTE, FAILED] {
@@ -164,21 +178,21 @@ fn three_settings() -> [Settings; 3] {
     [x, y, z]
 }
 
-/// A driver record without settings, made by `new`.
+/// A driver record without settings and sequences, made by `new`.
 fn found(address: u8, variant: Variant) -> [u8; RECORD] {
     let (mut record, mut session) = ([MARKER; RECORD], [0; SESSION]);
     assert_eq!(raw::new(address, variant as u8, &mut session), 0);
     assert_eq!(run(&mut record, &mut session, revision(variant)), 0);
-    assert_eq!(record, record_bytes(address, variant, None));
+    assert_eq!(record, record_bytes(address, variant, None, 0));
     record
 }
 
-/// Configures to the end; the settings are stored.
+/// Configures to the end; the settings are stored, and the count of sequences stays.
 fn configured(settings: &Settings, record: &mut [u8; RECORD], session: &mut [u8]) {
-    let (address, variant) = (record[0], VARIANTS[usize::from(record[1])]);
+    let (address, variant, sequences) = (record[0], VARIANTS[usize::from(record[1])], record[COUNT]);
     assert_eq!(raw::configure(record, &settings.encode(), session), 0);
     assert_eq!(run(record, session, 0x5A), 0);
-    assert_eq!(*record, record_bytes(address, variant, Some(settings)));
+    assert_eq!(*record, record_bytes(address, variant, Some(settings), sequences));
 }
 
 /// Every answer is 19 and leaves the record.
@@ -196,13 +210,14 @@ fn a_stale_session_brings_back_no_settings() {
     let [x, y, z] = three_settings();
     let (mut a, mut b) = ([0; SESSION], [0; SESSION]);
     let mut record = found(0x4A, Variant::DA7280);
+    record[COUNT] = 4;
     configured(&x, &mut record, &mut a);
     configured(&y, &mut record, &mut b);
     assert_eq!(raw::configure(&record, &z.encode(), &mut a), 22);
     assert_eq!(run(&mut record, &mut a, 0x5A), 0);
     brings_nothing_back(&mut record, &mut a);
-    assert_eq!(record, record_bytes(0x4A, Variant::DA7280, Some(&y)));
-    assert_eq!(raw::start(&Operation::Enable, &record, &mut a), 0);
+    assert_eq!(record, record_bytes(0x4A, Variant::DA7280, Some(&y), 4));
+    assert_eq!(raw::start(&Operation::Enable, &mut record, &mut a), 0);
     let mut sent = [0; 33];
     raw::pending(&a, &mut sent);
     assert_eq!(sent[..2], [0x22, OperationMode::RTWM_MODE as u8]);
@@ -215,37 +230,43 @@ fn a_stale_session_on_two_chips() {
     let mut session = [0; SESSION];
     let mut first = found(0x4A, Variant::DA7280);
     let mut second = found(0x4B, Variant::DA7281);
+    (first[COUNT], second[COUNT]) = (16, 2);
     configured(&x, &mut first, &mut session);
     assert_eq!(raw::configure(&second, &z.encode(), &mut session), 22);
     assert_eq!(run(&mut second, &mut session, 0x5A), 0);
     brings_nothing_back(&mut second, &mut session);
     brings_nothing_back(&mut first, &mut session);
-    assert_eq!(second, record_bytes(0x4B, Variant::DA7281, None));
-    assert_eq!(first, record_bytes(0x4A, Variant::DA7280, Some(&x)));
-    assert_eq!(raw::start(&Operation::Enable, &second, &mut session), 15);
+    assert_eq!(second, record_bytes(0x4B, Variant::DA7281, None, 2));
+    assert_eq!(first, record_bytes(0x4A, Variant::DA7280, Some(&x), 16));
+    assert_eq!(raw::start(&Operation::Enable, &mut second, &mut session), 15);
 }
 
 /// A start that is refused after a completed session of any operation: what is asked then is of the operation before, no answer is
 /// taken, and the record stays.
 #[test]
 fn a_refused_start_after_a_completed_session() {
+    let few = record_bytes(0x4A, Variant::DA7282, None, 3);
     let refusals = [
-        (Operation::Configure(three_settings()[2]), 22),
-        (Operation::SetFrequency(0), 23),
-        (Operation::SetCustomDriveWaveform([1, 2, 3]), 12),
-        (Operation::UploadWaveformMemory(vec![0; 101], true), 8),
-        (Operation::PlaySequence(16, 0), 11),
+        (Operation::Configure(three_settings()[2]), stored(), 22),
+        (Operation::SetFrequency(0), stored(), 23),
+        (Operation::SetCustomDriveWaveform([1, 2, 3]), stored(), 12),
+        (Operation::UploadWaveformMemory(vec![0; 101], true), stored(), 8),
+        (Operation::PlaySequence(16, 0), stored(), 11),
+        (Operation::PlaySequence(3, 0), few, 28),
     ];
     let mut refused = 0;
     for case in cases() {
-        for (operation, number) in &refusals {
+        for (operation, record, number) in &refusals {
             let mut point = Point::begin(&case);
             while !point.ended() {
                 point.make(&case);
             }
             let result = raw::result(&point.session);
-            assert_eq!(raw::start(operation, &stored(), &mut point.session), *number);
+            let mut lent = *record;
+            assert_eq!(raw::start(operation, &mut lent, &mut point.session), *number);
             assert_eq!(raw::result(&point.session), result, "{}", case.name);
+            assert_eq!(lent, *record);
+            point.record = record.to_vec();
             let before = point.clone();
             for kind in [DONE, BYTE, FAILED] {
                 let told = point.answer(kind, case.read);
@@ -269,11 +290,11 @@ fn a_refused_start_under_way() {
     assert_eq!(raw::configure(&record, &z.encode(), &mut session), 22);
     assert_eq!(raw::result(&session), result_word(0, 1, false));
     assert_eq!(run(&mut record, &mut session, 0x5A), 0);
-    assert_eq!(record, record_bytes(0x4A, Variant::DA7280, Some(&x)));
+    assert_eq!(record, record_bytes(0x4A, Variant::DA7280, Some(&x), 0));
 }
 
 /// Another chip's record lent with the last answer of `configure` stays as it is, and so does the chip's own, which was not lent; a record
-/// of the same address and variant gets the settings.
+/// of the same address and variant gets the settings, and keeps its own count.
 #[test]
 fn the_wrong_record_at_the_last_answer() {
     let [x, y, _] = three_settings();
@@ -286,7 +307,7 @@ fn the_wrong_record_at_the_last_answer() {
         (0, Variant::DA7280),
     ] {
         for stored in [None, Some(&y)] {
-            let wrong = record_bytes(address, variant, stored);
+            let wrong = record_bytes(address, variant, stored, 5);
             let (mut lent, mut session) = (wrong, [0; SESSION]);
             assert_eq!(raw::configure(&own, &x.encode(), &mut session), 0);
             assert_eq!(run(&mut lent, &mut session, 0x5A), 0);
@@ -300,10 +321,10 @@ fn the_wrong_record_at_the_last_answer() {
     compared("wrong records at the last answer", cases, 8);
 
     // On another bus there may be a chip of the same address and variant.
-    let (mut twin, mut session) = (record_bytes(0x4A, Variant::DA7280, Some(&y)), [0; SESSION]);
+    let (mut twin, mut session) = (record_bytes(0x4A, Variant::DA7280, Some(&y), 5), [0; SESSION]);
     assert_eq!(raw::configure(&own, &x.encode(), &mut session), 0);
     assert_eq!(run(&mut twin, &mut session, 0x5A), 0);
-    assert_eq!(twin, record_bytes(0x4A, Variant::DA7280, Some(&x)));
+    assert_eq!(twin, record_bytes(0x4A, Variant::DA7280, Some(&x), 5));
 }
 
 /// Two chips on one bus, each with a session of its own, answered in turn: each record gets its own settings, each at its own end.
@@ -326,7 +347,7 @@ fn two_chips_in_turn() {
                 let told = raw::answer(record, &mut sessions[i], kind, 0x5A, &mut []);
                 let (address, variant) = chips[i];
                 let stored = (told >> 24 == 1).then_some(&settings[i]);
-                assert_eq!(records[i], record_bytes(address, variant, stored));
+                assert_eq!(records[i], record_bytes(address, variant, stored, 0));
                 ended[i] = made;
             }
         }
@@ -389,7 +410,8 @@ fn counts_of_broken_sessions() {
 }
 
 /// One record and three session buffers through thousands of operations: completed, left half-way and gone on with later, broken off and
-/// refused, in any order. The record is at each time what the last completed `configure` stored.
+/// refused, in any order. The record has at each time the settings that the last completed `configure` stored, and the count that the last
+/// start of an upload, or answer to one, has set.
 #[test]
 fn a_long_life() {
     let mut random = Random::new(0x11FE);
@@ -397,21 +419,26 @@ fn a_long_life() {
     let mut record = found(0x4A, Variant::DA7282);
     let nothing = (Stores::Nothing, 0);
     let (mut sessions, mut begun) = ([[0; SESSION]; 3], [nothing; 3]);
-    let (mut refused, mut completed, mut stored) = (0, 0, 0);
+    let (mut refused, mut completed, mut stored) = ([0; 2], 0, 0);
+    let (mut loaded, mut emptied) = (0, 0);
     for _ in 0..20_000 {
         let at = random.below(3);
         let operation = match random.below(10) {
             0..4 => Operation::Configure(Settings::any(&mut random)),
+            4 | 5 => Operation::UploadWaveformMemory(vec![random.byte(); 40], random.chance(50)),
             _ => operations[random.below(operations.len())].clone(),
         };
-        if raw::start(&operation, &record, &mut sessions[at]) == 0 {
-            let stores = match &operation {
-                Operation::Configure(it) => Stores::configured(&record, &it.encode()),
-                _ => Stores::Nothing,
-            };
-            begun[at] = (stores, operation.room());
-        } else {
-            refused += 1;
+        let before = record;
+        match raw::start(&operation, &mut record, &mut sessions[at]) {
+            0 => {
+                let stores = Stores::by(&operation, &before);
+                assert_eq!(record[..], stores.begun(&before));
+                begun[at] = (stores, operation.room());
+            }
+            number => {
+                assert_eq!(record, before);
+                refused[usize::from(number == 28)] += 1;
+            }
         }
         for _ in 0..random.pick(&[1, 10, 100, 100]) {
             let (at, byte) = (if random.chance(95) { at } else { random.below(3) }, random.byte());
@@ -420,14 +447,21 @@ fn a_long_life() {
             let kind = if random.chance(1) { FAILED } else { (pending >> 16) as u8 };
             let (lent, mut buffer) = (record, vec![MARKER; room]);
             let told = raw::answer(&mut record, session, kind, byte, &mut buffer);
-            let last = told & 255 == 0 && told >> 24 == 1;
-            let wanted = if last { stores.after(&lent) } else { lent.to_vec() };
-            assert_eq!(record[..], wanted);
+            let answered = Answered::told(told);
+            assert_eq!(record[..], stores.after(&lent, answered));
+            let last = answered == Answered::Completed;
             completed += usize::from(last);
-            stored += usize::from(last && stores != Stores::Nothing);
+            stored += usize::from(last && matches!(stores, Stores::Settings(_)));
+            if matches!(stores, Stores::Sequences(..)) {
+                loaded += usize::from(last && record[COUNT] > 0);
+                emptied += usize::from(lent[COUNT] > 0 && record[COUNT] == 0);
+            }
         }
     }
-    compared("refused starts in a long life", refused, 3_794);
+    compared("refused starts in a long life", refused[0], 3_794);
+    compared("of sequences that are not loaded", refused[1], 0);
     compared("completed sessions", completed, 11_139);
     compared("of these that stored settings", stored, 2_711);
+    compared("and that loaded sequences", loaded, 0);
+    compared("counts set to 0 by an answer", emptied, 0);
 }

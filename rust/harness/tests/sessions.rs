@@ -1,14 +1,15 @@
 //! Sessions without the Rust, through the C functions: failures, answers out of turn, slices of another length and forged bytes.
-//! Records and results are in tests/records.rs.
+//! Records and results are in tests/records.rs, what uploads make of records in tests/loaded.rs.
 //! Every slice is lent with markers around it, and those that are only read have to stay (`harness::raw`).
 
-use harness::cases::{CASES, EXCHANGES, accepted, cases, longest, stored, walk};
+use harness::cases::{CASES, EXCHANGES, LOADED, Point, accepted, cases, longest, stored, walk};
 use harness::compared;
 use harness::driver::{Operation, record_bytes};
 use harness::lists::MARKER;
 use harness::random::Random;
 use harness::raw::{self, BYTE, DONE, FAILED, SESSION, result_word, word};
-use harness::records::{Stores, canonical, canonical_record, chip};
+use harness::records::{Answered, CARRIED, COUNT, PURPOSE, Stores};
+use harness::records::{canonical, canonical_record};
 use harness::settings::{Settings, VARIANTS};
 use yambelugo::{DrivingMode, OperationMode, RECORD, Variant};
 
@@ -26,7 +27,8 @@ fn refuses_answers(session: &[u8], made: usize, what: &str) {
 }
 
 /// All 256 codes at every exchange of every operation, by every kind above 1 in turn: 17, the code, the count with the failed
-/// exchange, ended; buffer and record stay, nothing is pending, the result has the count alone, and every later answer is 19.
+/// exchange, ended; the buffer stays, and the record but for the count of sequences at an upload; nothing is pending, the result has the
+/// count of exchanges alone, and every later answer is 19.
 #[test]
 fn every_failure_code_at_every_exchange() {
     let mut failures = 0;
@@ -36,12 +38,17 @@ fn every_failure_code_at_every_exchange() {
                 return;
             }
             for code in 0..=255_u8 {
-                let mut after = point.clone();
+                // The record of the start, which has all sequences.
+                let mut after = Point { record: case.record.to_vec(), ..point.clone() };
                 let kind = FAILED.max(code.wrapping_add(point.made as u8));
                 let told = after.answer(kind, code);
                 assert_eq!(told, word(17, code, point.made + 1, true), "{}", case.name);
                 assert!(after.ended() && after.buffer == point.buffer, "{}", case.name);
-                assert_eq!(after.record, point.record, "{}", case.name);
+                let mut wanted = case.record;
+                if let Some(Operation::UploadWaveformMemory(..)) = case.operation {
+                    wanted[COUNT] = 0;
+                }
+                assert_eq!(after.record, wanted, "{}", case.name);
                 let result = result_word(0, point.made + 1, false);
                 assert_eq!(raw::result(&after.session), result, "{}", case.name);
                 let broken = after.clone();
@@ -65,14 +72,15 @@ fn answers_out_of_turn() {
     for case in cases() {
         walk(&case, |point| {
             let mut refuse = |kind: u8, byte: u8, room: usize| {
-                let mut after = point.clone();
-                after.buffer = vec![byte ^ 0x55; room];
+                let buffer = vec![byte ^ 0x55; room];
+                let record = case.record.to_vec();
+                let mut after = Point { record, buffer, ..point.clone() };
                 let told = after.answer(kind, byte);
                 let what =
                     format!("{}, {} made, kind {kind}, buffer {room}", case.name, point.made);
                 assert_eq!(told, word(19, 0, point.made, point.ended()), "{what}");
                 assert!(after.session == point.session && after.pending == point.pending, "{what}");
-                assert_eq!(after.record, point.record, "{what}");
+                assert_eq!(after.record, case.record, "{what}");
                 assert_eq!(raw::result(&after.session), raw::result(&point.session), "{what}");
                 assert!(after.buffer.iter().all(|it| *it == byte ^ 0x55), "{what}");
                 refused += 1;
@@ -141,7 +149,7 @@ fn memory_goes_to_the_buffer_of_each_answer() {
     for (len, room) in [(1, 1), (3, 7), (7, 3), (100, 100), (300, 120)] {
         let mut session = [MARKER; SESSION];
         let operation = Operation::ReadWaveformMemory(len, room);
-        assert_eq!(raw::start(&operation, &stored(), &mut session), 0);
+        assert_eq!(raw::start(&operation, &mut stored(), &mut session), 0);
         let count = len.min(room).min(100);
         for at in 0..count {
             assert_eq!(raw::result(&session), result_word(0, at, false));
@@ -171,7 +179,7 @@ fn every_bit_of_the_buffer_length_counts() {
         let said = 5 + (1 << bit);
         let mut session = [MARKER; SESSION];
         let operation = Operation::ReadWaveformMemory(2, said);
-        assert_eq!(raw::start(&operation, &stored(), &mut session), 0);
+        assert_eq!(raw::start(&operation, &mut stored(), &mut session), 0);
         for kind in [DONE, BYTE, FAILED] {
             let (mut record, mut after, mut buffer) = (stored(), session, [MARKER; 5]);
             let told = raw::answer(&mut record, &mut after, kind, 1, &mut buffer);
@@ -210,16 +218,16 @@ fn pending_into_buffers_of_every_length() {
     compared("pending exchanges into buffers", copies, 80 * (EXCHANGES + CASES));
 }
 
-/// Every start that is refused leaves the session's bytes: one of zeros is then never begun. One that is accepted leaves none of them
-/// in force.
+/// Every start that is refused leaves the session's bytes and the record's: one of zeros is then never begun. One that is accepted leaves
+/// none of the session's in force.
 #[test]
 fn a_refused_start_writes_nothing() {
     let mut refused = longest();
     refused.actuator.frequency_Hz = 0;
-    let none = record_bytes(0x4A, Variant::DA7282, None);
-    let custom = record_bytes(0x4A, Variant::DA7282, Some(&longest()));
-    let one = record_bytes(0x4A, Variant::DA7281, None);
-    let rows: [(Operation, [u8; RECORD], u8); 14] = [
+    let none = record_bytes(0x4A, Variant::DA7282, None, 0);
+    let custom = record_bytes(0x4A, Variant::DA7282, Some(&longest()), 15);
+    let one = record_bytes(0x4A, Variant::DA7281, None, 1);
+    let rows: [(Operation, [u8; RECORD], u8); 20] = [
         (Operation::Configure(refused), none, 23),
         (Operation::Configure(longest()), one, 14),
         (Operation::SetFrequency(100), none, 15),
@@ -233,20 +241,26 @@ fn a_refused_start_writes_nothing() {
         (Operation::UploadWaveformMemory(vec![0; 101], true), none, 8),
         (Operation::UploadWaveformMemory(vec![0; 356], false), custom, 8),
         (Operation::SelectSequence(16, 0), none, 11),
+        (Operation::SelectSequence(15, 16), none, 11),
         (Operation::PlaySequence(0, 16), custom, 11),
+        (Operation::PlaySequence(16, 0), [0xFF; RECORD], 11),
+        (Operation::SelectSequence(0, 0), none, 28),
+        (Operation::SelectSequence(15, 0), custom, 28),
+        (Operation::PlaySequence(0, 15), none, 28),
+        (Operation::PlaySequence(1, 0), one, 28),
     ];
     for (operation, record, number) in &rows {
         for filling in [0, 0xFF, MARKER] {
-            let mut session = [filling; SESSION];
-            assert_eq!(raw::start(operation, record, &mut session), *number, "{operation:?}");
-            assert_eq!(session, [filling; SESSION], "{operation:?}");
+            let (mut session, mut lent) = ([filling; SESSION], *record);
+            assert_eq!(raw::start(operation, &mut lent, &mut session), *number, "{operation:?}");
+            assert_eq!((session, &lent), ([filling; SESSION], record), "{operation:?}");
             if filling == 0 {
                 refuses_answers(&session, 0, &format!("{operation:?}"));
                 assert_eq!(raw::result(&session), 0, "{operation:?}");
             }
         }
     }
-    compared("refused starts", rows.len(), 14);
+    compared("refused starts", rows.len(), 20);
 
     for case in cases() {
         let sessions = [0, 0xFF, MARKER].map(|filling| {
@@ -270,7 +284,7 @@ fn sessions_of_another_length() {
             for case in cases() {
                 assert_eq!((case.start)(&mut session), 0, "{}", case.name);
             }
-            assert_eq!(raw::start(&refused, &stored(), &mut session), 11);
+            assert_eq!(raw::start(&refused, &mut stored(), &mut session), 11);
             refuses_answers(&session, 0, "another length");
             assert_eq!(raw::result(&session), 0);
             assert!(session.iter().all(|byte| *byte == filling));
@@ -280,29 +294,32 @@ fn sessions_of_another_length() {
     compared("sessions of another length", lengths, 3 * 304);
 }
 
-/// A record of another length has no settings, address 0 and is a DA7280: 15 where settings are needed; other operations run as from
-/// such a record.
+/// A record of another length has no settings, address 0, no sequences, and is a DA7280: 15 where settings are needed, 28 where a sequence
+/// is; other operations run as from such a record, and none writes to it.
 #[test]
 fn records_of_another_length() {
-    let none = record_bytes(0, Variant::DA7280, None);
+    let none = record_bytes(0, Variant::DA7280, None, 0);
     let mut starts = 0;
     for filled in [stored(), [2; RECORD], [0xFF; RECORD]] {
         for len in (0..=80).filter(|len| *len != RECORD) {
             let record: Vec<u8> = filled.iter().cycle().copied().take(len).collect();
             for operation in accepted() {
-                let needs = matches!(
-                    operation,
+                let needed = match operation {
                     Operation::SetFrequency(_)
-                        | Operation::SetOverrideValue(_)
-                        | Operation::Enable
-                        | Operation::Disable
-                        | Operation::SetCustomDriveWaveform(_)
-                );
+                    | Operation::SetOverrideValue(_)
+                    | Operation::Enable
+                    | Operation::Disable
+                    | Operation::SetCustomDriveWaveform(_) => 15,
+                    Operation::SelectSequence(..) | Operation::PlaySequence(..) => 28,
+                    _ => 0,
+                };
                 let (mut session, mut wanted) = ([MARKER; SESSION], [MARKER; SESSION]);
-                let number = raw::start(&operation, &record, &mut session);
-                assert_eq!(number, if needs { 15 } else { 0 }, "{operation:?}, {len} bytes");
-                assert_eq!(raw::start(&operation, &none, &mut wanted), number);
+                let (mut lent, mut same) = (record.clone(), none);
+                let number = raw::start(&operation, &mut lent, &mut session);
+                assert_eq!(number, needed, "{operation:?}, {len} bytes");
+                assert_eq!(raw::start(&operation, &mut same, &mut wanted), number);
                 assert_eq!(session, wanted, "{operation:?}, {len} bytes");
+                assert!(lent == record && same == none, "{operation:?}, {len} bytes");
                 starts += 1;
             }
         }
@@ -335,7 +352,7 @@ fn settings_of_another_length() {
 }
 
 /// A code past the last counts as the last, and a flag is set unless it is 0: in settings, in records, and as an argument. Settings are
-/// stored where a record's byte 2 is above 1.
+/// stored where a record's byte 2 is above 1; the sequences are counted also where they are not.
 #[test]
 fn codes_past_the_last() {
     let record = stored();
@@ -358,7 +375,8 @@ fn codes_past_the_last() {
             same(&|session| raw::configure(&record, &past, session), &|session| {
                 raw::configure(&record, &wanted, session)
             });
-            let stored = |settings: [u8; 34]| [&[0x4A, 1, code.max(2)][..], &settings].concat();
+            let stored =
+                |settings: [u8; 34]| [&[0x4A, 1, code.max(2)][..], &settings, &[9]].concat();
             for operation in [
                 Operation::Enable,
                 Operation::SetFrequency(30),
@@ -368,24 +386,25 @@ fn codes_past_the_last() {
             ] {
                 let mut canonical = stored(wanted);
                 canonical[2] = 2;
-                same(&|session| raw::start(&operation, &stored(past), session), &|session| {
-                    raw::start(&operation, &canonical, session)
+                same(&|session| raw::start(&operation, &mut stored(past), session), &|session| {
+                    raw::start(&operation, &mut canonical.clone(), session)
                 });
             }
         }
     }
-    let none = record_bytes(0x4A, Variant::DA7282, None);
+    let none = record_bytes(0x4A, Variant::DA7282, None, LOADED);
     for code in 0..=255 {
         let mut other = record;
         other[2] = code;
         let wanted = if code > 1 { record } else { none };
         for operation in accepted() {
-            same(&|session| raw::start(&operation, &other, session), &|session| {
-                raw::start(&operation, &wanted, session)
+            same(&|session| raw::start(&operation, &mut { other }, session), &|session| {
+                raw::start(&operation, &mut { wanted }, session)
             });
         }
-        let number = raw::start(&Operation::Enable, &other, &mut [0; SESSION]);
-        assert_eq!(number, if code > 1 { 0 } else { 15 }, "byte 2 is {code}");
+        let mut start = |operation| raw::start(&operation, &mut other, &mut [0; SESSION]);
+        assert_eq!(start(Operation::Enable), if code > 1 { 0 } else { 15 }, "byte 2 is {code}");
+        assert_eq!(start(Operation::SelectSequence(15, 0)), 0, "byte 2 is {code}");
     }
     for code in 2..=255 {
         same(&|session| raw::new(7, code, session), &|session| raw::new(7, 2, session));
@@ -398,20 +417,21 @@ fn codes_past_the_last() {
         same(&|session| raw::set_timebase(&record, code, session), &|session| {
             raw::set_timebase(&record, 1, session)
         });
-        same(&|session| raw::upload(&record, &[1, 2, 3], code, session), &|session| {
-            raw::upload(&record, &[1, 2, 3], 1, session)
+        same(&|session| raw::upload(&mut { record }, &[1, 2, 3], code, session), &|session| {
+            raw::upload(&mut { record }, &[1, 2, 3], 1, session)
         });
     }
     compared("codes past the last", cases, 6 * (1526 + 3 * 764) + 256 * (CASES - 3) + 4 * 254);
 }
 
 /// Any bytes are a record and any are settings: every operation is begun as from the record that they are, in the bytes that the
-/// library writes; `configure` stores its settings in it by the last answer, and no other operation writes to it.
+/// library writes; `configure` stores its settings in it by the last answer, an upload counts its sequences in it from the start on, and
+/// no other operation writes to it.
 #[test]
 fn any_bytes_are_a_record() {
     let mut random = Random::new(0x2ECD);
     let operations = accepted();
-    let (mut cases, mut begun) = (0, [0; 2]);
+    let (mut cases, mut begun) = (0, [0; 3]);
     for _ in 0..100_000 {
         let mut bytes = |settings: Settings| {
             let mut bytes = settings.encode();
@@ -425,10 +445,10 @@ fn any_bytes_are_a_record() {
             bytes
         };
         let (stored, settings) = (bytes(longest()), bytes(longest()));
-        let record =
-            [&[random.byte(), random.near(&[0, 1, 2, 3]), random.near(&[0, 1, 2, 3])], &stored[..]];
-        let mut record = record.concat();
-        let same_record = canonical_record(&record);
+        let head = [random.byte(), random.near(&[0, 1, 2, 3]), random.near(&[0, 1, 2, 3])];
+        let loaded = [random.near(&[0, 1, 2, 15, 16, 17])];
+        let lent = [&head[..], &stored, &loaded].concat();
+        let (mut record, mut same_record) = (lent.clone(), canonical_record(&lent));
 
         let (mut session, mut same) = ([MARKER; SESSION], [MARKER; SESSION]);
         let (number, room, stores) = match random.below(3) {
@@ -440,60 +460,53 @@ fn any_bytes_are_a_record() {
             }
             _ => {
                 let operation = &operations[random.within(1, operations.len() - 1)];
-                let number = raw::start(operation, &record, &mut session);
-                assert_eq!(raw::start(operation, &same_record, &mut same), number, "{operation:?}");
-                let stores = match operation {
-                    Operation::Configure(it) => Stores::configured(&record, &it.encode()),
-                    _ => Stores::Nothing,
-                };
-                (number, operation.room(), stores)
+                let number = raw::start(operation, &mut record, &mut session);
+                let told = raw::start(operation, &mut same_record, &mut same);
+                assert_eq!(told, number, "{operation:?}");
+                (number, operation.room(), Stores::by(operation, &lent))
             }
         };
-        assert_eq!(session, same, "{record:02X?}");
+        assert_eq!(session, same, "{lent:02X?}");
         if number == 0 {
-            let (mut buffer, lent) = (vec![MARKER; room], record.clone());
+            assert_eq!(record, stores.begun(&lent), "{lent:02X?}");
+            let mut buffer = vec![MARKER; room];
             let mut pending = raw::pending(&session, &mut []);
             while pending != 0 {
-                assert_eq!((pending >> 8 & 255, &record), (lent[0].into(), &lent));
-                let (kind, byte) = ((pending >> 16) as u8, random.byte());
-                raw::answer(&mut record, &mut session, kind, byte, &mut buffer);
+                assert_eq!(pending >> 8 & 255, lent[0].into());
+                let (kind, byte, before) = ((pending >> 16) as u8, random.byte(), record.clone());
+                let told = raw::answer(&mut record, &mut session, kind, byte, &mut buffer);
+                let wanted = stores.after(&before, Answered::told(told));
+                assert_eq!(record, wanted, "{before:02X?}, {told:X}");
                 pending = raw::pending(&session, &mut []);
             }
-            assert_eq!(record, stores.after(&lent), "{lent:02X?}");
-            begun[usize::from(stores != Stores::Nothing)] += 1;
+            begun[match stores {
+                Stores::Settings(_) => 1,
+                Stores::Sequences(..) => 2,
+                _ => 0,
+            }] += 1;
+        } else {
+            assert_eq!(record, lent, "{number}");
         }
         cases += 1;
     }
     compared("bytes of records and settings", cases, 100_000);
     compared("of these begun, that store nothing", begun[0], 58_040);
-    compared("and that store settings", begun[1], 19_005);
+    compared("that store settings", begun[1], 19_005);
+    compared("and that count sequences", begun[2], 0);
 }
 
-/// The stage of a session that was begun, the offsets of what is looked at below, and what an operation is for: this test alone knows
-/// how a session is laid out.
+/// The stage of a session that was begun; the offsets of what is looked at below are those of `harness::records` and here alone.
 const BEGUN: u8 = 1;
-const PURPOSE: usize = 16;
-const FOR: usize = 117;
-
-/// What the last answer of a session with these bytes does to the record.
-fn forged(session: &[u8], lent: &[u8]) -> Vec<u8> {
-    let made = canonical_record(&session[FOR..FOR + RECORD]);
-    match session[PURPOSE] {
-        1 if lent.len() == RECORD => made.to_vec(),
-        2 if lent.len() == RECORD && chip(lent) == chip(&made) => made.to_vec(),
-        _ => lent.to_vec(),
-    }
-}
 
 /// Any bytes are a session: random ones, and those of sessions damaged at some bytes. Every call comes back; what is pending has at
 /// most 33 bytes and at most one wanted; an answer is told as the header says and counts one exchange or changes nothing; at
 /// most one byte of the buffer changes, and only for a byte that was wanted; it ends after at most 125 exchanges. The record changes by
-/// the answer that completes the session alone, and the result has the count.
+/// the answer that completes the session alone, or where it is for an upload by each that is taken; and the result has the count.
 #[test]
 fn any_bytes_are_a_session() {
     let mut random = Random::new(0xF0E6);
     let cases = cases();
-    let (mut states, mut completed, mut written) = (0, 0, 0);
+    let (mut states, mut completed, mut written, mut counted) = (0, 0, 0, [0; 2]);
     for state in 0..60_000 {
         let mut session: Vec<u8> = match state % 4 {
             0 => (0..SESSION).map(|_| random.byte()).collect(),
@@ -515,7 +528,7 @@ fn any_bytes_are_a_session() {
         if state % 4 == 0 {
             // Else most of them have ended, and are for nothing.
             (session[1], session[2]) = (BEGUN, random.below(130) as u8);
-            session[PURPOSE] = random.below(7) as u8;
+            session[PURPOSE] = random.below(8) as u8;
         }
         let mut made = None;
         for _ in 0..130 {
@@ -546,9 +559,9 @@ fn any_bytes_are_a_session() {
             let room = if room <= 300 { room as usize } else { random.below(120) };
             let room = if random.chance(90) { room } else { room + 1 };
             let mut buffer = vec![MARKER; room];
-            let mut lent = vec![MARKER; random.pick(&[0, 36, 37, 37, 37, 38])];
+            let mut lent = vec![MARKER; random.pick(&[0, 37, 38, 38, 38, 39])];
             if is_session && lent.len() == RECORD && random.chance(80) {
-                (lent[0], lent[1]) = (session[FOR], session[FOR + 1]);
+                (lent[0], lent[1]) = (session[CARRIED], session[CARRIED + 1]);
             }
             let (before, mut record) = (session.clone(), lent.clone());
             let fits = if wanted == 1 { BYTE } else { DONE };
@@ -571,9 +584,14 @@ fn any_bytes_are_a_session() {
                 assert!((kind > 1) == (number == 17) && count <= 125);
                 assert!(ended == 1 || number == 0);
             }
-            let last = number == 0 && ended == 1;
-            assert_eq!(record, if last { forged(&session, &lent) } else { lent.clone() });
-            written += usize::from(record != lent);
+            let stores = Stores::forged(&session);
+            assert_eq!(record, stores.after(&lent, Answered::told(told)), "{told:X}, {stores:?}");
+            match stores {
+                Stores::Sequences(..) if record != lent => {
+                    counted[usize::from(record[COUNT] != 0)] += 1;
+                }
+                _ => written += usize::from(record != lent),
+            }
             made = Some(count);
             if len == 0 {
                 break;
@@ -584,4 +602,6 @@ fn any_bytes_are_a_session() {
     compared("forged sessions", states, 60_000);
     compared("of these completed", completed, 17_867);
     compared("of these that wrote a record", written, 189);
+    compared("counts of sequences set to 0", counted[0], 0);
+    compared("and to another number", counted[1], 0);
 }
