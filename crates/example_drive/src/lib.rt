@@ -40,6 +40,7 @@ fn unknown() -> DA728x {
         address: 0,
         variant: Variant::DA7280,
         settings: Settings::Absent,
+        sequences: 0,
     }
 }
 
@@ -56,10 +57,13 @@ fn operate(
     )?;
     let d = device(OperationMode::RTWM_MODE, DrivingMode::WIDEBAND);
     let record = configure(rt, record, d, chip, session, NEVER)?;
-    upload(rt, record, memory, chip, session)?;
+    let record = upload(rt, record, memory, chip, session)?;
     show::text(rt, b"\nenable\n")?;
     enable(rt, record, chip, session)?;
-    play(rt, record, chip, session)?;
+    show::text(rt, b"\nplay_sequence: sequence 1, loops 0\n")?;
+    play(rt, record, 1, chip, session)?;
+    show::text(rt, b"\nplay_sequence: sequence 2, which is not loaded\n")?;
+    play(rt, record, 2, chip, session)?;
     fail(rt, record, chip, session)
 }
 
@@ -82,20 +86,21 @@ fn upload(
     memory: WaveformMemory,
     chip: &mut [u8],
     session: &mut [u8],
-) -> io::Result<()> {
+) -> io::Result<DA728x> {
     show::text(
         rt,
         b"\nupload_waveform_memory: turn now, locked afterwards\n",
     )?;
-    let answer = driver::upload_waveform_memory(record, memory, true, session);
-    let _ = example_chip::run(rt, answer, record, session, chip, NEVER)?;
+    let begun = driver::upload_waveform_memory(record, memory, true, session);
+    let record = example_chip::run(rt, begun.answer, begun.driver, session, chip, NEVER)?;
     let image = memory.as_bytes();
     say(
         rt,
         b"  the chip's memory",
         example_chip::holds(chip, &image, memory.len()),
         b" holds the image of turn now\n",
-    )
+    )?;
+    Ok(record)
 }
 
 fn enable(rt: &impl Print, record: DA728x, chip: &mut [u8], session: &mut [u8]) -> io::Result<()> {
@@ -104,9 +109,14 @@ fn enable(rt: &impl Print, record: DA728x, chip: &mut [u8], session: &mut [u8]) 
     Ok(())
 }
 
-fn play(rt: &impl Print, record: DA728x, chip: &mut [u8], session: &mut [u8]) -> io::Result<()> {
-    show::text(rt, b"\nplay_sequence: sequence 1, loops 0\n")?;
-    let answer = driver::play_sequence(record, 1, 0, session);
+fn play(
+    rt: &impl Print,
+    record: DA728x,
+    sequence_id: u8,
+    chip: &mut [u8],
+    session: &mut [u8],
+) -> io::Result<()> {
+    let answer = driver::play_sequence(record, sequence_id, 0, session);
     let _ = example_chip::run(rt, answer, record, session, chip, NEVER)?;
     Ok(())
 }

@@ -12,13 +12,13 @@ use Rattle.memory.specs.declared.WaveformMemoryTimebase.TheVariants.{TIMEBASE_54
 use Rattle.memory.specs.Timebase.{memoryTimebaseAt}
 use Rattle.exchange.specs.declared.Reply.TheVariants.{Done, Byte, Failed}
 use Rattle.exchange.specs.State.{indexed}
-use Rattle.exchange.specs.Session.{final, exchangesOf}
+use Rattle.exchange.specs.Session.{AnswerCall, final, exchangesOf}
 use Rattle.da728x.specs.declared.DA728x.{DA728x}
 use Rattle.da728x.specs.Record.{actuatorConfigAt, deviceConfigAt, recordAt}
 use Rattle.outcome.specs.Outcome.{bigEndian, outcomeOf}
 use Rattle.driver.specs.Operations as operation
 use Rattle.driver.specs.Operations.{Start, declines, begins, startNumber, startedIn, Operation, newRecord, revision}
-use Rattle.driver.specs.Theorems.{allSteps}
+use Rattle.driver.specs.Theorems.{allSteps, recordFinal}
 use Rattle.examples.specs.Rows.{Example, ◌is◌, Hold, checkedExamples}
 
 abbrev pub wireOf : List ℕ → Start → List ℕ
@@ -45,19 +45,30 @@ abbrev pub replaced : List ℕ → List (ℕ × ℕ) → List ℕ
 replaced l [] = l
 replaced l (c ∷ cs) = replaced (set l c.0 c.1) cs
 
--- a DA7280 at 4A with these settings stored; `chip` has the first in DRO_MODE
+-- a DA7280 at 4A with these settings stored and sixteen sequences; `chip` has the first in DRO_MODE
 abbrev pub chipWith : List ℕ → DA728x
-chipWith settings = recordAt (0x4A ∷ 0 ∷ 2 ∷ settings)
+chipWith settings = recordAt (0x4A ∷ 0 ∷ 2 ∷ (settings ++ (16 ∷ [])))
 
 abbrev pub chip : DA728x
 chip = chipWith (settingsFor 1)
 
+-- one without settings, and with so many sequences
+abbrev pub holding : ℕ → DA728x
+holding n = recordAt (0x4A ∷ 0 ∷ 1 ∷ (replicate 34 0 ++ (n ∷ [])))
+
 abbrev pub configuring : Variant → List ℕ → Operation
 configuring v settings = operation.configure (newRecord 0x4A v) (actuatorConfigAt settings 0) (deviceConfigAt settings 18)
 
--- an image of 98 bytes, or of 2
+-- an image of 98 bytes, or of 2, that says five sequences
 abbrev pub loadedTo : ℕ → WaveformMemory
-loadedTo n = record { «data» = replicate 96 7 ++ (8 ∷ 9 ∷ 0 ∷ 0 ∷ []); len = n; num_snippets = 1; num_sequences = 1 }
+loadedTo n = record { «data» = replicate 96 7 ++ (8 ∷ 9 ∷ 0 ∷ 0 ∷ []); len = n; num_snippets = 1; num_sequences = 5 }
+
+-- what the bus answers to a write
+abbrev pub done : AnswerCall
+done = record { reply = Done; buffer = [] }
+
+abbrev pub failed : AnswerCall
+failed = record { reply = Failed 5; buffer = [] }
 
 -- the number that its start tells; 0 where it begins
 abbrev pub refusal : Operation → ℕ
@@ -74,14 +85,17 @@ refusedExamples =
     ∷ operation.disable ∷ (λ r. operation.setCustomDriveWaveform r 1 2 3) ∷ []) is replicate 5 15)
     -- those that need none; drive points in CUSTOM_WAVEFORM, in WIDEBAND and while tracking
     ∷ (map (λ o. refusal (o (newRecord 0x4A DA7280))) (operation.getChipRev ∷ operation.getEvents ∷ operation.getStatus ∷ operation.unlockWaveformMemory ∷ operation.lockWaveformMemory ∷ operation.startSequence
-    ∷ (λ r. operation.setTimebase r TIMEBASE_136_544_2176_4352) ∷ (λ r. operation.selectSequence r 3 2) ∷ (λ r. operation.playSequence r 3 2) ∷ []) is replicate 9 0)
+    ∷ (λ r. operation.setTimebase r TIMEBASE_136_544_2176_4352) ∷ []) is replicate 7 0)
     ∷ (map (λ settings. refusal (operation.setCustomDriveWaveform (chipWith settings) 1 2 3)) (settingsFor 1 ∷ replaced (settingsFor 1) ((19, 1) ∷ []) ∷ accelerating 1 ∷ []) is (0 ∷ 12 ∷ 12 ∷ []))
     ∷ (map (λ hz. refusal (operation.setFrequency chip hz)) (24 ∷ 25 ∷ 1024 ∷ 1025 ∷ []) is (23 ∷ 0 ∷ 0 ∷ 23 ∷ []))
     ∷ (map (λ hz. refusal (operation.setFrequency (chipWith (accelerating 1)) hz)) (49 ∷ 50 ∷ 300 ∷ 301 ∷ []) is (23 ∷ 0 ∷ 0 ∷ 23 ∷ []))
     -- −1 in ETWM_MODE, accelerating and not; −1, 0 and 127 in DRO_MODE, accelerating; 1 in the other modes
     ∷ (map (λ (c : List ℕ × ℤ). refusal (operation.setOverrideValue (chipWith c.0) c.1)) ((accelerating 4, negsuc 0) ∷ (settingsFor 4, negsuc 0) ∷ (accelerating 1, negsuc 0) ∷ (accelerating 1, pos 0) ∷ (accelerating 1, pos 127)
     ∷ (settingsFor 0, pos 1) ∷ (settingsFor 2, pos 1) ∷ (settingsFor 3, pos 1) ∷ []) is (11 ∷ 12 ∷ 11 ∷ 0 ∷ 0 ∷ 12 ∷ 12 ∷ 12 ∷ []))
-    ∷ (map refusal (operation.selectSequence chip 16 0 ∷ operation.selectSequence chip 0 16 ∷ operation.playSequence chip 16 0 ∷ operation.playSequence chip 0 16 ∷ []) is replicate 4 11)
+    -- where 0, 4, 16 or 200 sequences are loaded
+    ∷ (map refusal (operation.selectSequence chip 16 0 ∷ operation.selectSequence (holding 0) 0 16 ∷ operation.playSequence (holding 200) 16 0 ∷ operation.playSequence chip 0 16 ∷ []) is replicate 4 11)
+    ∷ (map (λ (c : ℕ × ℕ). refusal (operation.selectSequence (holding c.0) c.1 2)) ((0, 0) ∷ (4, 0) ∷ (4, 3) ∷ (4, 4) ∷ (4, 9) ∷ (16, 15) ∷ (200, 15) ∷ []) is (28 ∷ 0 ∷ 0 ∷ 28 ∷ 28 ∷ 0 ∷ 0 ∷ []))
+    ∷ (map (λ (c : ℕ × ℕ). refusal (operation.playSequence (holding c.0) c.1 2)) ((0, 0) ∷ (4, 0) ∷ (4, 3) ∷ (4, 4) ∷ (4, 9) ∷ (16, 15) ∷ (200, 15) ∷ []) is (28 ∷ 0 ∷ 0 ∷ 28 ∷ 28 ∷ 0 ∷ 0 ∷ []))
     -- `configure`: as they are; acceleration, and rapid stop with no trigger, where it does not track; no trigger and 253 mA
     ∷ (map (told DA7280) ([] ∷ ((32, 1) ∷ []) ∷ ((33, 1) ∷ (20, 0) ∷ (24, 0) ∷ (28, 0) ∷ []) ∷ ((20, 0) ∷ (24, 0) ∷ (28, 0) ∷ (5, 253) ∷ []) ∷ []) is (0 ∷ 12 ∷ 12 ∷ 13 ∷ []))
     -- one trigger on a DA7281; two and 253 mA; two and acceleration
@@ -138,7 +152,10 @@ wireExamples =
     ∷ (map (λ b. wire (b ∷ []) (operation.playSequence chip 3 2)) (0x00 ∷ 0xFF ∷ []) is ((0x4A002823 ∷ 0x4A0122 ∷ 0x4A002210 ∷ []) ∷ (0x4A002823 ∷ 0x4A0122 ∷ 0x4A0022FF ∷ []) ∷ []))
     -- sessions that run, one with a buffer lent, one whose second of three writes fails; what goes into a buffer; codes that C hands in
     ∷ (outcomeOf (final (startedIn (replicate 280 0) (operation.getStatus chip).start) (record { reply = Byte 9; buffer = 0 ∷ [] } ∷ [])) is record { made = 1; completed = true; value = 9 })
-    ∷ (outcomeOf (final (startedIn (replicate 280 0) (operation.setCustomDriveWaveform chip 1 2 3).start) (record { reply = Done; buffer = [] } ∷ record { reply = Failed 5; buffer = [] } ∷ record { reply = Done; buffer = [] } ∷ [])) is record { made = 2; completed = false; value = 0 })
+    ∷ (outcomeOf (final (startedIn (replicate 280 0) (operation.setCustomDriveWaveform chip 1 2 3).start) (done ∷ failed ∷ done ∷ [])) is record { made = 2; completed = false; value = 0 })
+    -- how many sequences a record with four has once these are answered to an upload of an unlock, a chunk and a lock
+    ∷ (map (λ cs. (recordFinal (startedIn (replicate 280 0) (operation.uploadWaveformMemory (holding 4) (loadedTo 2) true).start) cs (holding 4)).sequences)
+    ([] ∷ replicate 1 done ∷ replicate 2 done ∷ replicate 3 done ∷ (done ∷ done ∷ failed ∷ []) ∷ (failed ∷ done ∷ done ∷ []) ∷ []) is (4 ∷ 0 ∷ 0 ∷ 5 ∷ 0 ∷ 0 ∷ []))
     ∷ (copied (1 ∷ 2 ∷ 3 ∷ []) (8 ∷ 9 ∷ []) is (8 ∷ 9 ∷ 3 ∷ [])) ∷ (copied (1 ∷ []) (8 ∷ 9 ∷ []) is (8 ∷ []))
     ∷ (map memoryTimebaseAt (0 ∷ 1 ∷ []) is (TIMEBASE_544_2176_4352_8704 ∷ TIMEBASE_136_544_2176_4352 ∷ [])) ∷ (map variantAt (0 ∷ 1 ∷ 2 ∷ []) is (DA7280 ∷ DA7281 ∷ DA7282 ∷ []))
     -- TRIM4's codes: inductances around each limit of the cap code; whole ohms at 25 and at 113 µH; columns at 18 ohms
