@@ -311,7 +311,8 @@ fn put(change: Change, out: &mut [u8])
 fn count(n: u8, out: &mut [u8])
     ensures { out.new ≡ recordOut out.old (Sequences n) }
 {
-    if out.len() == da728x::RECORD_SIZE {
+    let size = out.len();
+    if size == da728x::RECORD_SIZE {
         out[37] = n;
     }
 }

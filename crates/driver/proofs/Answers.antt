@@ -133,10 +133,10 @@ quiet r UnlockWaveformMemory t u c = quiet-runs r (setUnlocked true ∷ []) (ome
 quiet r LockWaveformMemory t u c = quiet-runs r (setUnlocked false ∷ []) (omega arith) (tt, tt)
 quiet r (UploadWaveformMemory m lockAfter) t u c = absurd (true≢false u)
 quiet r (ReadWaveformMemory len room) t u c = ((((omega arith, t, no-image, no_record), λ bytes e. omega arith, refl), tt), (λ next s. refl, refl))
-quiet r (SelectSequence id loops) t u c = by-unless _ (firstFailing (sequenceChecks r id loops)) _ (quiet-runs r (selectStep id loops ∷ []) (omega arith) (tt, tt))
+quiet r (SelectSequence id loops) t u c = by-unless _ (firstFailing (sequenceChecks r.sequences id loops)) _ (quiet-runs r (selectStep id loops ∷ []) (omega arith) (tt, tt))
 quiet r StartSequence t u c = quiet-runs r startSteps (omega arith) (tt, (tt, tt))
 quiet r (PlaySequence id loops) t u c =
-    by-unless _ (firstFailing (sequenceChecks r id loops)) _ (quiet-runs r (selectStep id loops ∷ startSteps) (omega arith) (tt, (tt, (tt, tt))))
+    by-unless _ (firstFailing (sequenceChecks r.sequences id loops)) _ (quiet-runs r (selectStep id loops ∷ startSteps) (omega arith) (tt, (tt, (tt, tt))))
 
 -- ---- all eighteen
 

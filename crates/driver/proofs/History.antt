@@ -227,8 +227,8 @@ plays = record {
       (refusals.play-sequence r id loops);
   selected = λ r id loops b xs e.
       sends (operation.selectSequence r id loops).start b xs r.sequences id loops [] (refusals.select-sequence r id loops)
-      (by-unless _ (firstFailing (sequenceChecks r id loops)) _ refl) e;
+      (by-unless _ (firstFailing (sequenceChecks r.sequences id loops)) _ refl) e;
   played = λ r id loops b xs e.
       sends (operation.playSequence r id loops).start b xs r.sequences id loops startSteps (refusals.play-sequence r id loops)
-      (by-unless _ (firstFailing (sequenceChecks r id loops)) _ refl) e;
+      (by-unless _ (firstFailing (sequenceChecks r.sequences id loops)) _ refl) e;
 }

@@ -69,9 +69,9 @@ not-below : (n m : ℕ) → (leb n m ≡ true) ↔ (n ≤ m)
 not-below n m = (leb-true n m, le-leb n m)
 
 checked-sequence : (r : DA728x) (id loops : ℕ) (b : Begun) (xs : List Step) →
-    BeginsUnless (unless (firstFailing (sequenceChecks r id loops)) (begins b xs)) ((11, 15 < id) ∷ (11, 15 < loops) ∷ (28, r.sequences ≤ id) ∷ [])
+    BeginsUnless (unless (firstFailing (sequenceChecks r.sequences id loops)) (begins b xs)) ((11, 15 < id) ∷ (11, 15 < loops) ∷ (28, r.sequences ≤ id) ∷ [])
 checked-sequence r id loops b xs =
-    checked (sequenceChecks r id loops) b xs ((11, 15 < id) ∷ (11, 15 < loops) ∷ (28, r.sequences ≤ id) ∷ [])
+    checked (sequenceChecks r.sequences id loops) b xs ((11, 15 < id) ∷ (11, 15 < loops) ∷ (28, r.sequences ≤ id) ∷ [])
     (refl, above 15 id, (refl, above 15 loops, (refl, not-below r.sequences id, tt)))
 
 pub refusals : Refusals

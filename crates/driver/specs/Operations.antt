@@ -186,14 +186,14 @@ readWaveformMemory r len room =
     record { start = begins (begunWith r.address n room 5 noImage blankRecord) []; answers = λ bytes. n }
 
 -- "a sequence number or loop count above 15 (11)"; document 02, CR 10: "After the test for 11, a number not below it is refused with 28"
-abbrev pub sequenceChecks : DA728x → ℕ → ℕ → List Check
-sequenceChecks r id loops = (ltb 15 id, 11) ∷ (ltb 15 loops, 11) ∷ (leb r.sequences id, 28) ∷ []
+abbrev pub sequenceChecks : ℕ → ℕ → ℕ → List Check
+sequenceChecks sequences id loops = (ltb 15 id, 11) ∷ (ltb 15 loops, 11) ∷ (leb sequences id, 28) ∷ []
 
 abbrev pub selectSequence : DA728x → ℕ → ℕ → Operation
-selectSequence r id loops = plain (unless (firstFailing (sequenceChecks r id loops)) (runs r (selectStep id loops ∷ [])))
+selectSequence r id loops = plain (unless (firstFailing (sequenceChecks r.sequences id loops)) (runs r (selectStep id loops ∷ [])))
 
 abbrev pub startSequence : DA728x → Operation
 startSequence r = plain (runs r startSteps)
 
 abbrev pub playSequence : DA728x → ℕ → ℕ → Operation
-playSequence r id loops = plain (unless (firstFailing (sequenceChecks r id loops)) (runs r (selectStep id loops ∷ startSteps)))
+playSequence r id loops = plain (unless (firstFailing (sequenceChecks r.sequences id loops)) (runs r (selectStep id loops ∷ startSteps)))

@@ -19,6 +19,7 @@ ghost use Rattle.laws.specs.Lists.{at};
 ghost use Rattle.errors.specs.Number.{answerNumber};
 ghost use Rattle.registers.specs.Table.{addressOf};
 ghost use Rattle.config.specs.Codes.{operationCode};
+ghost use Rattle.checks.specs.Checks.{firstFailing};
 ghost use Rattle.config.specs.declared.OperationMode.TheVariants.{DRO_MODE};
 ghost use Rattle.exchange.specs.declared.Step.TheVariants.{Write};
 ghost use Rattle.exchange.specs.State.{begunIn};
@@ -412,24 +413,36 @@ pub fn select_sequence(driver: DA728x, sequence_id: u8, loops: u8, session: &mut
     ensures result_value { answerNumber result ≡ spec.startNumber (spec.selectSequence driver sequence_id loops).start }
     ensures session_after { session.new ≡ spec.startedIn session.old (spec.selectSequence driver sequence_id loops).start }
 {
+    match sequence_checks(driver.sequences, sequence_id, loops) {
+        Answer::Refused(e) => Answer::Refused(e),
+        Answer::Done => {
+            sessions::run(
+                session,
+                driver.address,
+                outcome::COMMAND,
+                Step::Write(
+                    Register::SEQ_CTL2.address(),
+                    sessions::seq_ctl2(sequence_id, loops),
+                ),
+            );
+            Answer::Done
+        }
+    }
+}
+
+// The number of a sequence and its loops, where so many are loaded.
+fn sequence_checks(sequences: u8, sequence_id: u8, loops: u8) -> Answer
+    ensures { answerNumber result ≡ firstFailing (spec.sequenceChecks sequences sequence_id loops) }
+{
     if 15 < sequence_id {
         return Answer::Refused(Error::InvalidValue);
     }
     if 15 < loops {
         return Answer::Refused(Error::InvalidValue);
     }
-    if driver.sequences <= sequence_id {
+    if sequences <= sequence_id {
         return Answer::Refused(Error::MissingSequence);
     }
-    sessions::run(
-        session,
-        driver.address,
-        outcome::COMMAND,
-        Step::Write(
-            Register::SEQ_CTL2.address(),
-            sessions::seq_ctl2(sequence_id, loops),
-        ),
-    );
     Answer::Done
 }
 
@@ -452,21 +465,17 @@ pub fn play_sequence(driver: DA728x, sequence_id: u8, loops: u8, session: &mut [
     ensures result_value { answerNumber result ≡ spec.startNumber (spec.playSequence driver sequence_id loops).start }
     ensures session_after { session.new ≡ spec.startedIn session.old (spec.playSequence driver sequence_id loops).start }
 {
-    if 15 < sequence_id {
-        return Answer::Refused(Error::InvalidValue);
+    match sequence_checks(driver.sequences, sequence_id, loops) {
+        Answer::Refused(e) => Answer::Refused(e),
+        Answer::Done => {
+            play(
+                session,
+                driver.address,
+                sessions::seq_ctl2(sequence_id, loops),
+            );
+            Answer::Done
+        }
     }
-    if 15 < loops {
-        return Answer::Refused(Error::InvalidValue);
-    }
-    if driver.sequences <= sequence_id {
-        return Answer::Refused(Error::MissingSequence);
-    }
-    play(
-        session,
-        driver.address,
-        sessions::seq_ctl2(sequence_id, loops),
-    );
-    Answer::Done
 }
 
 fn play(session: &mut [u8], address: u8, value: u8)

@@ -184,7 +184,7 @@ fn settle(next: DA728x, driver: DA728x) -> Change
 fn count(next: DA728x, sequences: u8, driver: DA728x) -> Change
     ensures { result ≡ spec.counting next sequences driver }
 {
-    if next.address == driver.address {
+    if driver.address == next.address {
         return Change::Sequences(sequences);
     }
     Change::Same

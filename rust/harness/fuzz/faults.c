@@ -15,6 +15,7 @@ REAL(da728x_read_lists);
 REAL(da728x_enable);
 REAL(da728x_configure);
 REAL(da728x_upload_waveform_memory);
+REAL(da728x_play_sequence);
 REAL(da728x_pending);
 REAL(da728x_answer);
 REAL(da728x_result);
@@ -108,14 +109,28 @@ uint8_t da728x_configure(const uint8_t *record, size_t record_len, const uint8_t
     return fault(10) && told == 13 ? 15 : told;
 }
 
-/* 11: a refused start ends the session that was there. */
-uint8_t da728x_upload_waveform_memory(const uint8_t *record, size_t record_len, const uint8_t *image,
+/* Where a record has its count of sequences. */
+#define COUNT 37
+
+/* 11: a refused start ends the session that was there. 24: the start of an upload leaves the count. */
+uint8_t da728x_upload_waveform_memory(uint8_t *record, size_t record_len, const uint8_t *image,
                                       size_t image_len, uint8_t lock_after, uint8_t *session,
                                       size_t session_len)
 {
+    uint8_t count = record_len > COUNT ? record[COUNT] : 0;
     if (fault(11) && image_len > 100 && session_len > 2) session[2] = 255;
-    return real_da728x_upload_waveform_memory(record, record_len, image, image_len, lock_after, session,
-                                              session_len);
+    uint8_t told = real_da728x_upload_waveform_memory(record, record_len, image, image_len, lock_after,
+                                                      session, session_len);
+    if (fault(24) && record_len > COUNT) record[COUNT] = count;
+    return told;
+}
+
+/* 25: the number of a sequence may be the count. */
+uint8_t da728x_play_sequence(const uint8_t *record, size_t record_len, uint8_t sequence_id,
+                             uint8_t loops, uint8_t *session, size_t session_len)
+{
+    uint8_t told = real_da728x_play_sequence(record, record_len, sequence_id, loops, session, session_len);
+    return fault(25) && told == 28 && record_len > COUNT && sequence_id == record[COUNT] ? 0 : told;
 }
 
 /* 12: an exchange is pending after the end. */
@@ -129,10 +144,12 @@ uint32_t da728x_pending(const uint8_t *session, size_t session_len, uint8_t *byt
 #define OF_SESSION 117
 
 /* 13: a byte that is refused is stored. 14: a count of exchanges that is too high. 15: settings are stored before the last
- * exchange. 21: an ended session gives its record again. 22: settings are stored in another chip's record. */
+ * exchange. 21: an ended session gives its record again. 22: settings are stored in another chip's record. 26: the count stays
+ * where an upload fails. */
 uint32_t da728x_answer(uint8_t *record, size_t record_len, uint8_t *session, size_t session_len, uint8_t kind,
                        uint8_t byte, uint8_t *buffer, size_t buffer_len)
 {
+    uint8_t count = record_len > COUNT ? record[COUNT] : 0;
     uint32_t told =
         real_da728x_answer(record, record_len, session, session_len, kind, byte, buffer, buffer_len);
     int of_configure = session_len == DA728X_SESSION && record_len == DA728X_RECORD && session[OF_SESSION + 2] == 2;
@@ -141,6 +158,7 @@ uint32_t da728x_answer(uint8_t *record, size_t record_len, uint8_t *session, siz
     if (fault(15) && of_configure && !(told & 255) && !last) memcpy(record, session + OF_SESSION, DA728X_RECORD);
     if (fault(21) && of_configure && (told & 255) == 19 && told >> 24) memcpy(record, session + OF_SESSION, DA728X_RECORD);
     if (fault(22) && of_configure && last) memcpy(record + 2, session + OF_SESSION + 2, DA728X_RECORD - 2);
+    if (fault(26) && (told & 255) == 17 && record_len > COUNT) record[COUNT] = count;
     return fault(14) && !(told & 255) ? told + 65536 : told;
 }
 

@@ -14,7 +14,7 @@ use harness::random::Random;
 use harness::raw::{self, BYTE, DONE, FAILED, SESSION, result_word, word};
 use harness::records::COUNT;
 use harness::settings::{MEMORY_TIMEBASES, Settings, VARIANTS, near};
-use yambelugo::{DA728x, DrivingMode, OperationMode, RECORD, Variant};
+use yambelugo::{Call, DA728x, DrivingMode, OperationMode, RECORD, Variant};
 
 /// Counts at and next to what a number may be, and far from it.
 const COUNTS: [u8; 7] = [0, 1, 4, 15, 16, 17, 255];
@@ -57,22 +57,23 @@ fn operation(random: &mut Random) -> (Operation, usize) {
         15 => (Operation::StartSequence, 2),
         16 | 17 => (Operation::Configure(Settings::any(random)), 20),
         18 => (Operation::GetStatus, 1),
-        19 => {
-            let plain = [Operation::GetChipRev, Operation::LockWaveformMemory];
-            (plain[random.below(2)].clone(), 1)
-        }
-        20 => (random.pick(&[Operation::GetEvents, Operation::Disable].each_ref()).clone(), 2),
+        19 => (Operation::ReadWaveformMemory(random.below(9), random.below(9)), 4),
+        20 => (Operation::SetTimebase(random.pick(&MEMORY_TIMEBASES)), 2),
         21 => match random.below(3) {
             0 => (Operation::SetFrequency(near(random, 50, 300)), 2),
             1 => (Operation::SetOverrideValue(random.byte() as i8), 1),
-            _ => (Operation::SetTimebase(random.pick(&MEMORY_TIMEBASES)), 2),
-        },
-        22 => match random.below(3) {
-            0 => (Operation::Enable, 1),
-            1 => (Operation::UnlockWaveformMemory, 1),
             _ => (Operation::SetCustomDriveWaveform([1, 2, random.byte()]), 3),
         },
-        _ => (Operation::ReadWaveformMemory(random.below(9), random.below(9)), 4),
+        22 => match random.below(2) {
+            0 => (Operation::LockWaveformMemory, 1),
+            _ => (Operation::UnlockWaveformMemory, 1),
+        },
+        _ => match random.below(4) {
+            0 => (Operation::GetChipRev, 1),
+            1 => (Operation::GetEvents, 4),
+            2 => (Operation::Enable, 1),
+            _ => (Operation::Disable, 2),
+        },
     }
 }
 
@@ -167,16 +168,37 @@ fn random_histories() {
             assert_eq!((met, pair.sequences()), (counts, all.count()));
         }
     }
-    compared("operations in histories", operations, 0);
-    compared("of these dropped half-way", dropped, 0);
-    compared("uploads completed", all.completed, 0);
-    compared("uploads that failed", all.failed, 0);
-    compared("uploads dropped", all.dropped, 0);
-    compared("uploads refused", all.refused, 0);
-    compared("selects and plays begun", begun, 0);
-    compared("refused at the count", at_the_count[0], 0);
-    compared("begun right below it", at_the_count[1], 0);
-    assert_eq!(tally.told(), [(0, 0), (8, 0), (11, 0), (28, 0)]);
+    compared("operations in histories", operations, 648_664);
+    compared("of these dropped half-way", dropped, 28_972);
+    compared("uploads completed", all.completed, 139_963);
+    compared("uploads that failed", all.failed, 19_930);
+    compared("uploads dropped", all.dropped, 13_385);
+    compared("uploads refused", all.refused, 15_729);
+    compared("selects and plays begun", begun, 35_942);
+    compared("refused at the count", at_the_count[0], 31_313);
+    compared("begun right below it", at_the_count[1], 5_220);
+    let wanted = [
+        (0, 318_837),
+        (8, 15_729),
+        (11, 89_399),
+        (12, 4_715),
+        (13, 3_496),
+        (14, 3_294),
+        (15, 36_035),
+        (17, 42_816),
+        (21, 4_682),
+        (22, 5_959),
+        (23, 3_272),
+        (28, 91_458),
+    ];
+    assert_eq!(tally.told(), wanted);
+}
+
+/// One snippet and so many sequences.
+fn of(sequences: usize) -> Vec<Call> {
+    let mut calls = vec![Call::Ramp(1, 1), Call::AddSnippet];
+    calls.extend([Call::FrameNew(1), Call::AddFrame, Call::AddSequence].repeat(sequences));
+    calls
 }
 
 /// What the builders make: an image has the count of its sequences, and these are played and no others.
@@ -186,12 +208,15 @@ fn images_of_the_builders() {
     let (mut images, mut cases, mut begun, mut sizes) = (0, 0, 0, [0; 17]);
     let mut pair = Pair::new(0x4A, Variant::DA7281);
     while images < 2_000 {
-        let calls = patterns::KINDS[images % 2].1(&mut random);
+        let calls = match images % 3 {
+            2 => of(1 + images / 3 % 16),
+            kind => patterns::KINDS[kind].1(&mut random),
+        };
         let Ok(memory) = Builders::after(&calls).memory.build() else { continue };
         let image = hundred(&memory);
         let sequences = plain(&image).expect("an image").sequences.len();
         assert_eq!(usize::from(memory.num_sequences()), sequences);
-        // With the zeros behind it, and without.
+        // Without the zeros behind it, or with them.
         let sent = if random.chance(50) { memory.as_bytes().to_vec() } else { image.to_vec() };
         let upload = Operation::UploadWaveformMemory(sent, true);
         assert!(pair.compare(&upload, &Script::reading(&[0])).answer.is_ok());
@@ -212,7 +237,7 @@ fn images_of_the_builders() {
         sizes[sequences] += 1;
     }
     compared("plays after uploads of images", cases, 2_000 * 17);
-    compared("of these begun", begun, 0);
+    compared("of these begun", begun, 16_735);
     assert!(sizes[1..].iter().all(|it| *it > 10), "{sizes:?}");
 }
 
@@ -429,8 +454,8 @@ fn an_older_upload_after_a_newer_one() {
     compared("older uploads that were completed", completed, 4);
 }
 
-/// Two uploads answered in any order, each to its end, to a failure, or left: the count is what the last answer has set, and 0 behind a
-/// start.
+/// Two uploads whose answers come in any order, each to its end or left, or broken off by any of them: the count is what the last answer
+/// has set, 0 behind a start.
 #[test]
 fn two_uploads_in_any_order() {
     let mut cases = 0;

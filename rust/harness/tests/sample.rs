@@ -73,6 +73,73 @@ fn every_kind_is_there() {
     compared("cases of the stored sample", cases, 4946);
 }
 
+fn bytes(field: &str) -> Vec<u8> {
+    let hex = |pair: &[u8]| u8::from_str_radix(str::from_utf8(pair).unwrap(), 16).unwrap();
+    if field == "-" { vec![] } else { field.as_bytes().chunks(2).map(hex).collect() }
+}
+
+/// A session of the sample: its record before and afterwards, and its number of a sequence or its image.
+struct Session {
+    before: Vec<u8>,
+    after: Vec<u8>,
+    numbers: Vec<u8>,
+    image: Vec<u8>,
+    refused: u8,
+}
+
+fn sessions(sample: &str, kind: &str) -> Vec<Session> {
+    let cases = sample.lines().map(|line| line.split(' ').collect::<Vec<_>>());
+    cases
+        .filter(|case| case[0] == kind)
+        .map(|case| {
+            let [before, numbers, image, refused, after] =
+                [1, 2, 3, 4, 8].map(|at| bytes(case[at]));
+            let after = if after.is_empty() { before.clone() } else { after };
+            Session { before, after, numbers, image, refused: refused[0] }
+        })
+        .collect()
+}
+
+/// Selects and plays of numbers out of range, at the count of sequences in the record, above it, right below it and far below it; and
+/// uploads that are refused, that load sequences, and that leave none, by a failure too.
+#[test]
+fn counts_of_sequences_are_there() {
+    let sample = text("crates/vectors/stdin");
+    for kind in ["2F", "31"] {
+        let mut met = [0; 6];
+        for Session { before, after, numbers, refused, .. } in sessions(&sample, kind) {
+            let (id, count) = (numbers[0], before[37]);
+            met[match refused {
+                11 => 0,
+                28 if count == 0 => 1,
+                28 if id == count => 2,
+                28 => 3,
+                _ if id + 1 == count => 4,
+                _ => 5,
+            }] += 1;
+            assert!(after == before && (refused == 11 || (refused == 0) == (id < count)));
+        }
+        println!("numbers of kind {kind}: {met:?}");
+        assert!(met.iter().all(|cases| *cases > 5), "{met:?}");
+    }
+
+    let mut met = [0; 5];
+    for Session { before, after, image, refused, .. } in sessions(&sample, "2D") {
+        let (count, named) = (after[37], image.get(1).copied().unwrap_or(0));
+        met[match refused {
+            8 => 0,
+            _ if count > 0 && count != before[37] => 1,
+            _ if count > 0 => 2,
+            _ if named > 0 => 3,
+            _ => 4,
+        }] += 1;
+        assert!(after[..37] == before[..37]);
+        assert!(if refused == 8 { after == before } else { [0, named].contains(&count) });
+    }
+    println!("uploads: {met:?}");
+    assert!([0, 1, 3, 4].iter().all(|it| met[*it] > 5), "{met:?}");
+}
+
 /// Buffers that are too short, by kind: the word is 24, or 24 times 65536 beside a length or counts.
 #[test]
 fn short_buffers_are_there() {

@@ -490,9 +490,9 @@ fn any_bytes_are_a_record() {
         cases += 1;
     }
     compared("bytes of records and settings", cases, 100_000);
-    compared("of these begun, that store nothing", begun[0], 58_040);
-    compared("that store settings", begun[1], 19_005);
-    compared("and that count sequences", begun[2], 0);
+    compared("of these begun, that store nothing", begun[0], 27_283);
+    compared("that store settings", begun[1], 18_905);
+    compared("and that count sequences", begun[2], 29_487);
 }
 
 /// The stage of a session that was begun; the offsets of what is looked at below are those of `harness::records` and here alone.
@@ -600,8 +600,8 @@ fn any_bytes_are_a_session() {
         states += 1;
     }
     compared("forged sessions", states, 60_000);
-    compared("of these completed", completed, 17_867);
-    compared("of these that wrote a record", written, 189);
-    compared("counts of sequences set to 0", counted[0], 0);
-    compared("and to another number", counted[1], 0);
+    compared("of these completed", completed, 17_786);
+    compared("of these that wrote a record", written, 190);
+    compared("counts of sequences set to 0", counted[0], 11_136);
+    compared("and to another number", counted[1], 1_497);
 }

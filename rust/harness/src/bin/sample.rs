@@ -80,7 +80,7 @@ Answers of the published Rust to random calls near the limits, refused ones amon
 buffer is too short for its item, its image or its lists; its InvalidValue as 21, 22 or 23 where
 document 02 tells it apart, the low two bits of TRIM4 as document 01 has them, bit 2 of a GPI
 register as its trigger's mode, custom drive points written, where the Rust has no body for it, and
-28 for a sequence that is not among those of the last upload.
+28 for the number of a sequence that is not loaded.
 Written by `scripts/remake-vectors` (rust/harness/src/bin/sample.rs), never by hand; read by the
 program `vectors`. The Rust is da728x-rs, revision REVISION, in rust/oracle, with these sums:
 SUMS
@@ -99,7 +99,7 @@ Kinds 20 to 31, sessions: the record, the numbers among the arguments, the setti
 number of the refusal or 00, the exchanges, the word that the last answer is told, the read buffer,
 the record after it, the word of result. The record is lent with the start and with each answer;
 kind 20 has none at the start, and 38 bytes A5 are lent with its answer. A record after it of no
-bytes says that the one lent is in the end as it was. An exchange is the chip address; how many bytes are
+bytes says that the one lent is as before. An exchange is the chip address; how many bytes are
 sent, plus 80 if a byte is wanted, plus 40 if the bus fails; the bytes sent; the byte read or the
 bus's code, if there is one.
 ";
@@ -594,8 +594,8 @@ fn operated(kind: u8, random: &mut Random) -> Vec<Vec<u8>> {
 fn sequences(operation: &Operation, random: &mut Random) -> u8 {
     match *operation {
         Operation::SelectSequence(id, _) | Operation::PlaySequence(id, _) => {
-            let (at, above) = (id.min(254), id.min(254) + 1);
-            random.pick(&[at, at, above, above, at.saturating_sub(1), 16, 16, 17, 255])
+            let (below, above) = (id.saturating_sub(1), id.saturating_add(1));
+            random.pick(&[id, id, id, below, id / 2, above, above, 16, 17, 255])
         }
         _ => random.near(&[1, 2, 4, 15, 16]),
     }
@@ -603,7 +603,7 @@ fn sequences(operation: &Operation, random: &mut Random) -> u8 {
 
 /// A random operation, and about how many exchanges it makes.
 fn operation(kind: u8, random: &mut Random) -> (Operation, usize) {
-    let mut four_bits = || random.near(&[0, 1, 3, 7, 8, 14, 15, 15, 16, 17]);
+    let mut four_bits = || random.near(&[0, 1, 3, 7, 8, 9, 14, 15, 15, 16]);
     match kind {
         0x21 => (Operation::Configure(Settings::any(random)), 25),
         0x22 => (Operation::GetChipRev, 1),
@@ -629,7 +629,7 @@ fn operation(kind: u8, random: &mut Random) -> (Operation, usize) {
             if let Some(byte) = image.get_mut(1) {
                 *byte = random.near(&[0, 1, 2, 15, 16, 17, 200, 255]);
             }
-            (Operation::UploadWaveformMemory(image, random.chance(50)), 6)
+            (Operation::UploadWaveformMemory(image, random.chance(50)), 1 + len.div_ceil(32))
         }
         0x2E => {
             let mut length = || match random.below(6) {
