@@ -102,6 +102,7 @@ newRecord address variant = record { address = address; variant = variant; setti
 abbrev pub new : ℕ → Variant → Operation
 new address variant = plain (begins (carrying 1 (newRecord address variant)) (Match (addressOf "CHIP_REV") (revision variant) ∷ []))
 
+-- the count of the record that its session carries is not looked at
 abbrev pub configure : DA728x → ActuatorConfig → DeviceConfig → Operation
 configure r a d =
     plain (unless (configureNumber r.variant a d) (begins (carrying 2 (record { address = r.address; variant = r.variant; settings = Given a d; sequences = 0 })) (configureSteps a d)))
