@@ -3,27 +3,23 @@ use Prim.Native.Nat.{ℕ, zero, suc, ◌+◌, ◌*◌, ◌≤◌, ◌<◌}
 use native.Mathlib.Omega.{arith}
 use native.Mathlib.Decide.{dec_le}
 use mathlib.Core.Path.{◌≡◌, refl, sym, ◌∙◌, ap, subst}
-use mathlib.Core.Bool.{Bool, true, false, cond, ◌&&◌, true≢false, false≢true}
+use mathlib.Core.Bool.{Bool, true, false, cond, false≢true}
 use mathlib.Core.List.{List, [], ◌∷◌, ◌++◌, append-nil}
-use mathlib.Core.Logic.{◌↔◌, ◌⊎◌, inl, inr}
-use lib.Dec.{eqb}
-use lib.ListN.{length}
+use mathlib.Core.Logic.{◌↔◌, inl, inr}
 use Rattle.laws.specs.Bytes.{All}
-use Rattle.laws.proofs.Tests.{choice}
 use Rattle.config.specs.declared.ActuatorConfig.{ActuatorConfig}
 use Rattle.config.specs.declared.DeviceConfig.{DeviceConfig}
 use Rattle.config.specs.declared.Variant.{Variant}
-use Rattle.memory.specs.declared.WaveformMemory.{WaveformMemory}
 use Rattle.checks.specs.Checks.{configureNumber, firstFailing}
 use Rattle.checks.specs.Blames.{Fault, OfFirst}
 use Rattle.field.specs.Field.{withOf}
 use Rattle.exchange.specs.declared.Step.{Step}
 use Rattle.exchange.specs.declared.Step.TheVariants.{Write}
-use Rattle.exchange.specs.State.{isSession, purposeIn, completed, Begun, begunIn}
+use Rattle.exchange.specs.State.{isSession, completed, Begun, begunIn}
 use Rattle.exchange.specs.Session.{AnswerCall, final}
 use Rattle.da728x.specs.declared.DA728x.{DA728x}
 use Rattle.outcome.specs.declared.Change.{Change}
-use Rattle.outcome.specs.Outcome.{forUpload, changeFor, isChipOf, recordBy}
+use Rattle.outcome.specs.Outcome.{isChipOf, recordBy}
 use Rattle.da728x.specs.declared.Settings.TheVariants.{Given}
 use Rattle.plans.specs.Configure.{configureSteps}
 use Rattle.sessions.specs.Sessions.{carrying, seqCtl2, selectStep, startSteps}
@@ -94,10 +90,8 @@ module _ (r : DA728x) (st : List ℕ) (cs : List AnswerCall) (s : isSession st �
       by (begins b xs) e =
           let h = quiet-holds r.address (operationOf r q) (quiet r q t u c) b xs e st s in
           let none = ap (changeFrom st) (sym e) ∙ stored.starts r q st t u in
-          let p = h.0.purpose in
-          let leaves : Leaves (purposeIn (begunIn st b xs)) = (λ next m. ap (λ (purpose : ℕ). changeFor purpose next m) p ∙ h.1.0 next m, ap (λ (purpose : ℕ). eqb purpose forUpload) p ∙ h.1.1) in
           ap (λ (m : Change). (recordFinal (begunIn st b xs) cs (recordBy r m)).sequences) none
-          ∙ ap (λ (x : DA728x). x.sequences) (spares cs (begunIn st b xs) r h.0.session leaves)
+          ∙ ap (λ (x : DA728x). x.sequences) (spares cs (begunIn st b xs) r h.0.session (subst Leaves (sym h.0.purpose) h.1))
 
 module _ (r : DA728x) (us : List Upload) (h : r.sequences ≡ lastCount us) (st : List ℕ) (cs : List AnswerCall) where
   abbrev Counted : Request → Type 0

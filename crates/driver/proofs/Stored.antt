@@ -2,7 +2,7 @@
 -- nothing.
 use Prim.Native.Nat.{ℕ, ◌≤◌}
 use native.Mathlib.Omega.{arith}
-use mathlib.Core.Path.{◌≡◌, refl, sym, ◌∙◌, ap}
+use mathlib.Core.Path.{◌≡◌, refl, sym, ◌∙◌, ap, subst}
 use mathlib.Core.Bool.{Bool, true, false, cond, ◌&&◌, and-eq-true_iff, true≢false}
 use mathlib.Core.List.{List, [], ◌∷◌, append-nil}
 use lib.ListN.{length}
@@ -32,14 +32,14 @@ use Rattle.sessions.specs.Sessions.{carrying, sendSteps}
 use Rattle.outcome.specs.declared.Change.{Change}
 use Rattle.outcome.specs.declared.Change.TheVariants.{Same, To, Sequences}
 use Rattle.driver.specs.Operations as operation
-use Rattle.outcome.specs.Outcome.{changeFor, recordBy, settling, isChipOf, forUpload, zeroing, withSequences}
+use Rattle.outcome.specs.Outcome.{changeFor, changeBefore, recordBy, settling, counting, isChipOf, forUpload, zeroing, withSequences}
 use Rattle.driver.specs.Operations.{Start, declines, begins, startedIn, changeFrom, revision, newRecord, uploadRecord, uploadBegun, uploadSteps}
 use Rattle.driver.specs.Theorems.{Request, Configure, UploadWaveformMemory, operationOf, Typed, isUpload, allSteps, changeBehind, recordFinal, Stored}
 use Rattle.driver.proofs.Answers.{By, by-unless, by-both, Quiet, quiet, quiet-holds, fits-new, fits-upload, holds-configure}
 use Rattle.driver.proofs.Begun.{Holds, holds}
 use Rattle.driver.proofs.Creates.{creates}
 use Rattle.driver.proofs.Starts.{configured}
-use Rattle.driver.proofs.Records.{Leaves, refused, dead, failed, before, for-none, unfinished, counts, loads, settles}
+use Rattle.driver.proofs.Records.{Leaves, refused, dead, failed, before, for-none, unfinished, counts, runs-to}
 
 -- what a session begun so makes of a record
 abbrev madeBy : Begun → DA728x → DA728x
@@ -50,16 +50,16 @@ module _ {s : List ℕ} {b : Begun} (cs : List AnswerCall) (r : DA728x) where
   pub settled : (xs : List Step) → Holds s b xs → 1 ≤ length xs → eqb b.purpose forUpload ≡ false → recordFinal s cs r ≡ cond (completed (final s cs)) (madeBy b r) r
   settled [] h n p = absurd (omega arith)
   settled (x ∷ xs) h n p =
-      settles cs s x xs h.session h.steps (ap (λ (purpose : ℕ). eqb purpose forUpload) h.purpose ∙ p) r
-      ∙ (λ i. cond (completed (final s cs)) (recordBy r (changeFor (h.purpose i) (recordAt (h.«record» i)) r)) r)
+      ap (λ (done : Bool). recordFinal s cs (cond done (madeBy b r) r)) (sym (unfinished s x xs h.steps))
+      ∙ runs-to b.purpose (recordAt b.«record») (λ done. cond done (madeBy b r) r) by cs s h.session h.purpose (ap recordAt h.«record»)
+    where
+      by : (done : Bool) → recordBy r (cond done (changeFor b.purpose (recordAt b.«record») r) (changeBefore b.purpose (recordAt b.«record») r)) ≡ cond done (madeBy b r) r
+      by true = refl
+      by false = ap (λ (upload : Bool). recordBy r (cond upload (counting (recordAt b.«record») 0 r) Same)) p
 
   -- one that is for no record never does
   stays : (xs : List Step) → Holds s b xs → Leaves b.purpose → (c : AnswerCall) → changeBehind (final s cs) c r ≡ Same
-  stays xs h k c =
-      let p = keeps cs s h.session in
-      let e = p.purpose ∙ h.purpose in
-      for-none (final s cs) c r p.session
-      (λ next q. ap (λ (purpose : ℕ). changeFor purpose next q) e ∙ k.0 next q, ap (λ (purpose : ℕ). eqb purpose forUpload) e ∙ k.1)
+  stays xs h k c = for-none (final s cs) c r (subst Leaves (sym ((keeps cs s h.session).purpose ∙ h.purpose)) k)
 
 -- ---- what a start does to the record
 
@@ -108,8 +108,15 @@ module _ (r : DA728x) (m : WaveformMemory) (lockAfter : Bool) (st : List ℕ) (l
 
   pub loaded-in : (cs : List AnswerCall) → recordFinal s cs (withSequences r 0) ≡ withSequences r (cond (completed (final s cs)) m.num_sequences 0)
   loaded-in cs =
-      ap (λ (k : Bool). recordFinal s cs (withSequences r (cond k m.num_sequences 0))) (sym none-made)
-      ∙ loads (uploadRecord r m) r refl cs s held.session held.purpose carries
+      ap (λ (done : Bool). recordFinal s cs (by-end done)) (sym none-made)
+      ∙ runs-to forUpload (uploadRecord r m) by-end becomes cs s held.session held.purpose carries
+    where
+      by-end : Bool → DA728x
+      by-end done = withSequences r (cond done m.num_sequences 0)
+
+      becomes : (done : Bool) → recordBy (by-end false) (cond done (counting (uploadRecord r m) m.num_sequences (by-end false)) (counting (uploadRecord r m) 0 (by-end false))) ≡ by-end done
+      becomes true = ap (λ (own : Bool). recordBy (by-end false) (cond own (Sequences m.num_sequences) Same)) (eq-eqb r.address r.address refl)
+      becomes false = ap (λ (own : Bool). recordBy (by-end false) (cond own (Sequences 0) Same)) (eq-eqb r.address r.address refl)
 
 -- ---- `configure`, for the record lent
 

@@ -374,7 +374,15 @@ pub fn upload_waveform_memory(
     };
     let image = memory.as_bytes();
     let n = sessions::shown(memory.len());
-    exchange::begin(session, driver.address, 0, 0, outcome::UPLOAD, image, next.to_bytes());
+    exchange::begin(
+        session,
+        driver.address,
+        0,
+        0,
+        outcome::UPLOAD,
+        image,
+        next.to_bytes(),
+    );
     sessions::send(session, n, lock_after);
     Uploading {
         answer: Answer::Done,
