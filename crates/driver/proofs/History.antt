@@ -1,7 +1,6 @@
 -- Over every history of a record its count of sequences is that of the last upload that was accepted, if it was completed. Assumes nothing.
 use Prim.Native.Nat.{ℕ, zero, suc, ◌+◌, ◌*◌, ◌≤◌, ◌<◌}
 use native.Mathlib.Omega.{arith}
-use native.Mathlib.Decide.{dec_le}
 use mathlib.Core.Path.{◌≡◌, refl, sym, ◌∙◌, ap, subst}
 use mathlib.Core.Bool.{Bool, true, false, cond, false≢true}
 use mathlib.Core.List.{List, [], ◌∷◌, ◌++◌, append-nil}
@@ -162,19 +161,7 @@ module _ (sequences id loops : ℕ) where
     where
       third : ¬ (15 < loops) → OfFirst 0 ((28, sequences ≤ id) ∷ []) → InRange
       third m (inl f) = absurd (omega (arith, f.1))
-      third m (inr k) = (not-above id n.0, not-above loops m, below k.0)
-        where
-          not-above : (a : ℕ) → ¬ (15 < a) → a ≤ 15
-          not-above a n = go (dec_le a 15) where
-            go : Dec (a ≤ 15) → a ≤ 15
-            go (yes h) = h
-            go (no h) = absurd (n (omega arith))
-
-          below : ¬ (sequences ≤ id) → id < sequences
-          below n = go (dec_le sequences id) where
-            go : Dec (sequences ≤ id) → id < sequences
-            go (yes h) = absurd (n h)
-            go (no h) = omega arith
+      third m (inr k) = (omega (arith, n.0), omega (arith, m), omega (arith, k.0))
 
       second : OfFirst 0 ((11, 15 < loops) ∷ (28, sequences ≤ id) ∷ []) → InRange
       second (inl f) = absurd (omega (arith, f.1))

@@ -19,7 +19,7 @@ use yambelugo::{Variant, WaveformMemoryTimebase};
 /// Bytes around a lent buffer, to see that they stay.
 const GUARD: usize = 8;
 
-/// The answers after which a session is dropped that is run to its end.
+/// More answers than a session takes: it is run to its end, and never dropped before.
 pub const NEVER: usize = usize::MAX;
 
 /// An operation on a record.
@@ -120,11 +120,13 @@ pub enum Value {
     Count(usize),
 }
 
+/// What an operation gives, or the number of its refusal, with the kind of failure at 17.
+pub type Answer = Result<Value, (u8, Option<ErrorKind>)>;
+
 /// What running an operation came to.
 #[derive(Debug, Clone, PartialEq)]
 pub struct Outcome {
-    /// Or the number of the refusal, with the kind of failure at 17.
-    pub answer: Result<Value, (u8, Option<ErrorKind>)>,
+    pub answer: Answer,
     pub made: usize,
     pub log: Vec<Exchange>,
     /// The lent buffer with the bytes around it.
@@ -134,15 +136,11 @@ pub struct Outcome {
 }
 
 impl Outcome {
-    /// The answer of a session that was dropped before its end: none.
-    pub const DROPPED: Result<Value, (u8, Option<ErrorKind>)> = Err((0, None));
+    /// In place of the answer of a session that was dropped before its end; no refusal has this number.
+    pub const DROPPED: Answer = Err((0, None));
 
     /// With these exchanges, and no byte read into the buffer.
-    fn new(
-        answer: Result<Value, (u8, Option<ErrorKind>)>,
-        log: Vec<Exchange>,
-        room: usize,
-    ) -> Self {
+    fn new(answer: Answer, log: Vec<Exchange>, room: usize) -> Self {
         Self { answer, made: log.len(), log, lent: markers(room), records: Vec::new() }
     }
 
@@ -259,7 +257,7 @@ pub struct Published {
     pub address: u8,
     pub variant: Variant,
     pub stored: Option<Settings>,
-    /// The published driver does not know what the chip's memory has: document 02 (CR 10) does.
+    /// The last upload, which the published driver does not keep: document 02 (CR 10) adds it.
     pub loaded: Loaded,
     /// GPI registers written: those where the published mode bit is the trigger's, and those where it is not.
     pub modes: [usize; 2],
@@ -337,8 +335,8 @@ impl Published {
         outcome
     }
 
-    /// The record after the start of an operation that came to this, and after each answer: settings are stored by the last answer, and
-    /// an upload has no sequences before its own.
+    /// The record after the start of an operation that came to this, and after each answer: the last answer of `configure` stores the
+    /// settings, and that of an upload counts its sequences, of which there are none from the start on.
     fn kept(&mut self, operation: &Operation, outcome: &Outcome) -> Vec<[u8; RECORD]> {
         if let Operation::UploadWaveformMemory(image, _) = operation {
             self.loaded = Loaded::begun(image);

@@ -281,6 +281,9 @@ impl Chip {
 
     /// What is printed of an operation with this outcome, words parted by single blanks.
     fn printed(&mut self, outcome: &Outcome) -> Vec<String> {
+        if let (Err((number, None)), 0) = (outcome.answer, outcome.made) {
+            return vec![format!("refused with {}", refusal(number))];
+        }
         let mut lines = Vec::new();
         let failed = outcome.answer.is_err();
         for (i, exchange) in outcome.log.iter().enumerate() {
@@ -343,14 +346,16 @@ fn exchanges_are_the_published_ones() {
     let settings = |mode, driving| Operation::Configure(Settings::plain(mode, driving));
     let rtwm = settings(OperationMode::RTWM_MODE, DrivingMode::WIDEBAND);
     let dro = settings(OperationMode::DRO_MODE, DrivingMode::FREQUENCY_TRACK);
-    let play = Operation::PlaySequence(1, 0);
+    let play = |id| Operation::PlaySequence(id, 0);
+    assert_eq!(image[1], 2, "the sequences of turn now");
     let memory = ["the chip's memory holds the image of turn now"];
     let record = ["the record is the one from before"];
-    let operations: [(&str, Operation, &[u8], Option<_>, &[&str]); 6] = [
+    let operations: [(&str, Operation, &[u8], Option<_>, &[&str]); 7] = [
         ("configure:", rtwm, &[0x14, 0x20], None, &[]),
         ("upload_waveform_memory:", upload, &[], None, &memory),
         ("enable", Operation::Enable, &[], None, &[]),
-        ("play_sequence: sequence 1, loops 0", play, &[0x22], None, &[]),
+        ("play_sequence: sequence 1, loops 0", play(1), &[0x22], None, &[]),
+        ("play_sequence: sequence 2, which is not loaded", play(2), &[], None, &[]),
         ("configure:", dro, &[0x14, 0x20], Some(FAILS), &record),
         ("enable, ", Operation::Enable, &[], None, &[]),
     ];

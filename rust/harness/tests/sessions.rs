@@ -561,7 +561,10 @@ fn any_bytes_are_a_session() {
             let mut buffer = vec![MARKER; room];
             let mut lent = vec![MARKER; random.pick(&[0, 37, 38, 38, 38, 39])];
             if is_session && lent.len() == RECORD && random.chance(80) {
-                (lent[0], lent[1]) = (session[CARRIED], session[CARRIED + 1]);
+                lent[0] = session[CARRIED];
+                if random.chance(80) {
+                    lent[1] = session[CARRIED + 1];
+                }
             }
             let (before, mut record) = (session.clone(), lent.clone());
             let fits = if wanted == 1 { BYTE } else { DONE };

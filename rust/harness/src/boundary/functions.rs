@@ -110,7 +110,7 @@ pub struct Tally {
     pub made: u64,
     pub stored: u64,
     pub spared: u64,
-    /// Counts of sequences that a start set to 0 and that an answer set: to 0, or to what was uploaded; each from another.
+    /// Counts of sequences that changed: to 0 by the start of an upload, to 0 by an answer to one, and to what was uploaded.
     pub begun: u64,
     pub emptied: u64,
     pub loaded: u64,
