@@ -1,3 +1,4 @@
+pub mod Counts
 pub mod Puts
 pub mod Telling
 pub mod Uploads

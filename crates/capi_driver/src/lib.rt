@@ -18,7 +18,8 @@ ghost use Rattle.exchange.specs.Turn.{pendingOf, reportOf, turnReport, stateAfte
 ghost use Rattle.outcome.specs.declared.Change.TheVariants.{To, Sequences};
 ghost use Rattle.outcome.specs.Outcome.{changeBy, outcomeOf};
 ghost use Rattle.driver.specs.Operations as spec;
-ghost use Rattle.capi_driver.specs.Words.{exchangeWord, replyOf, reportWord, recordOut, resultWord, uploadOf};
+ghost use Rattle.errors.specs.Number.{answerNumber};
+ghost use Rattle.capi_driver.specs.Words.{countOut, exchangeWord, replyOf, reportWord, recordOut, resultWord, uploadOf};
 
 use config::Variant;
 use da728x::DA728x;
@@ -31,6 +32,8 @@ use outcome::{Change, Outcome};
 const DONE: u8 = 0;
 
 const BYTE: u8 = 1;
+
+const OUT_OF_TURN: u8 = 19;
 
 #[unsafe(no_mangle)]
 pub extern "C" fn da728x_new(address: u8, variant: u8, session: &mut [u8]) -> u8
@@ -285,15 +288,41 @@ pub extern "C" fn da728x_answer(
     word(turn)
 }
 
-// The record after an answer that gave this turn; it is looked at only where it may change.
+// The record after an answer that gave this turn; it is looked at only where it may change, and an upload's count goes to its place.
 #[tactic(auto, unfolding(outcome::specs::Outcome::changeBy))]
 fn store(record: &mut [u8], session: &[u8], turn: Turn)
     ensures { «record».new
         ≡ recordOut «record».old (changeBy session.now (turnReport turn) (recordAt «record».old)) }
 {
+    if outcome::is_upload(session) {
+        store_count(record, session, turn);
+        return;
+    }
     if outcome::may_change(session, turn) {
         let change = outcome::change_by(da728x::chip(record), session, turn);
         put(change, record);
+    }
+}
+
+fn store_count(record: &mut [u8], session: &[u8], turn: Turn)
+    requires { length session.now ≡ 280 }
+    ensures { «record».new ≡ countOut «record».old session.now turn.ended (answerNumber turn.answer) }
+{
+    let answer = turn.answer;
+    let number = answer.number();
+    let size = record.len();
+    if size == da728x::RECORD_SIZE {
+        if session[exchange::RECORD] == record[0] {
+            if turn.ended {
+                if number == 0 {
+                    record[37] = session[exchange::PLAN - 1];
+                    return;
+                }
+            }
+            if number != OUT_OF_TURN {
+                record[37] = 0;
+            }
+        }
     }
 }
 

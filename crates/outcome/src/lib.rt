@@ -2,7 +2,7 @@
 // CR 10): what a session is for decides both. Proved: they are those of specs/Outcome.antt, whatever the session's bytes are. Left out: the operations, which are in `driver`.
 #![tactic(auto)]
 
-ghost use Rattle.std.specs.Prelude.{min, ◌≡◌, cond, ◌&&◌, ◌||◌, true, [], ◌∷◌, eqb, length};
+ghost use Rattle.std.specs.Prelude.{min, ◌≡◌, cond, ◌&&◌, ◌||◌, [], ◌∷◌, eqb, length};
 ghost use Rattle.exchange.specs.State.{isSession, completed, purposeIn, recordIn};
 ghost use Rattle.exchange.specs.Turn.{turnReport};
 ghost use Rattle.da728x.specs.Record.{recordAt};
@@ -71,29 +71,35 @@ fn with_sequences(driver: DA728x, sequences: u8) -> DA728x
     }
 }
 
-// Whether an answer that gave this turn may change a record; where not, none need be looked at (proofs/Changes.antt, `unchanged`).
+// Whether an answer that gave this turn may change a record, where the session is of no upload; if not, none need be looked at
+// (proofs/Changes.antt, `unchanged`).
 pub fn may_change(session: &[u8], turn: Turn) -> bool
     ensures { result
-        ≡ (isSession session.now && cond (eqb (purposeIn session.now) 6) true
-        (turn.ended && (eqb (purposeIn session.now) 1 || eqb (purposeIn session.now) 2))) }
+        ≡ (turn.ended && (isSession session.now && (eqb (purposeIn session.now) 1 || eqb (purposeIn session.now) 2))) }
 {
-    if session.len() == exchange::SESSION_SIZE {
-        return may_change_for(session[exchange::PURPOSE], turn.ended);
+    if turn.ended {
+        if session.len() == exchange::SESSION_SIZE {
+            return has_record(session[exchange::PURPOSE]);
+        }
     }
     false
 }
 
-fn may_change_for(purpose: u8, ended: bool) -> bool
-    ensures { result ≡ cond (eqb purpose 6) true (ended && (eqb purpose 1 || eqb purpose 2)) }
+// Whether a session for this purpose carries a record that its last success gives.
+fn has_record(purpose: u8) -> bool
+    ensures { result ≡ eqb purpose 1 || eqb purpose 2 }
 {
-    if purpose == UPLOAD {
+    if purpose == NEW {
         return true;
     }
-    if ended {
-        if purpose == NEW {
-            return true;
-        }
-        return purpose == SETTINGS;
+    purpose == SETTINGS
+}
+
+pub fn is_upload(session: &[u8]) -> bool
+    ensures { result ≡ isSession session.now && eqb (purposeIn session.now) spec.forUpload }
+{
+    if session.len() == exchange::SESSION_SIZE {
+        return session[exchange::PURPOSE] == UPLOAD;
     }
     false
 }
