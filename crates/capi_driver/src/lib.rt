@@ -16,7 +16,7 @@ ghost use Rattle.memory.specs.Timebase.{memoryTimebaseAt};
 ghost use Rattle.da728x.specs.Record.{recordAt, actuatorConfigAt, deviceConfigAt};
 ghost use Rattle.exchange.specs.Turn.{pendingOf, reportOf, turnReport, stateAfter, bufferAfter};
 ghost use Rattle.outcome.specs.declared.Change.TheVariants.{To, Sequences};
-ghost use Rattle.outcome.specs.Outcome.{changeBy, outcomeOf};
+ghost use Rattle.outcome.specs.Outcome.{zeroing, changeBy, outcomeOf};
 ghost use Rattle.driver.specs.Operations as spec;
 ghost use Rattle.errors.specs.Number.{answerNumber};
 ghost use Rattle.capi_driver.specs.Words.{countOut, exchangeWord, replyOf, reportWord, recordOut, resultWord, uploadOf};
@@ -180,7 +180,7 @@ pub extern "C" fn da728x_upload_waveform_memory(
     let loaded = WaveformMemory::from_bytes(data, image.len() as u8, data[0], data[1]);
     let memory = loaded.memory;
     let driver = DA728x::from_bytes(record);
-    put(outcome::zeroing(session), record);
+    zero(record, session);
     let started = driver::upload_waveform_memory(driver, memory, 0 < lock_after, session);
     let answer = started.answer;
     answer.number()
@@ -284,8 +284,9 @@ pub extern "C" fn da728x_answer(
     ensures buffer_after { buffer.new ≡ bufferAfter session.old (replyOf kind byte) buffer.old }
 {
     let turn = exchange::answer(session, reply(kind, byte), buffer);
+    let told = word(turn);
     store(record, session, turn);
-    word(turn)
+    told
 }
 
 // The record after an answer that gave this turn; it is looked at only where it may change, and an upload's count goes to its place.
@@ -333,6 +334,15 @@ fn put(change: Change, out: &mut [u8])
         Change::Same => {}
         Change::To(next) => write(next, out),
         Change::Sequences(n) => count(n, out),
+    }
+}
+
+// The start of an upload in these bytes.
+fn zero(record: &mut [u8], session: &[u8])
+    ensures { «record».new ≡ recordOut «record».old (zeroing session.now) }
+{
+    if session.len() == exchange::SESSION_SIZE {
+        count(0, record);
     }
 }
 

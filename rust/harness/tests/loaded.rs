@@ -322,9 +322,9 @@ fn every_upload_on_every_record() {
     let every = 2 * (101 + 32 * (1 + 2 + 3) + 4 * 4) + 101;
     assert_eq!(every, 719);
     compared("uploads on records", uploads, 7 * 202);
-    compared("uploads that failed", failed, 7 * every);
-    compared("uploads dropped", dropped, 7 * every);
-    compared("answers out of turn", refused, 7 * every);
+    compared("failures of uploads on records", failed, 7 * every);
+    compared("uploads on records that were dropped", dropped, 7 * every);
+    compared("answers to uploads out of turn", refused, 7 * every);
 }
 
 /// The count is byte 1, every value of it, whatever else is uploaded; 0 where there is no byte 1.

@@ -24,6 +24,6 @@ returns c =
     c.copy_into.ensures.buffer_after c.from_bytes-loaded.ensures in
     record {
       value = c.number-2.ensures ∙ c.upload_waveform_memory-started.ensures.result_value ∙ ap startNumber k;
-      record_after = c.put.ensures ∙ ap (recordOut c.args.«record».now) (c.zeroing.ensures ∙ ap (changeFrom c.args.session.now) k);
+      record_after = c.zero.ensures ∙ ap (λ s. recordOut c.args.«record».now (changeFrom c.args.session.now s)) k;
       session_after = c.upload_waveform_memory-started.ensures.session_after ∙ ap (startedIn c.args.session.now) k;
     }
