@@ -334,10 +334,10 @@ size_t da728x_replace_trigger(uint8_t byte, uint8_t value, uint8_t *out, size_t 
  *                                the count of its own record stays 0: every select and play is
  *                                refused with 28. Upload again. (Chips on two buses may have the
  *                                same address: then the count goes to the record that is lent)
- *   a copy of the record         NO refusal: an upload sets the count of the bytes that are lent.
- *                                Lent with the start, the copy has a count of 0, and the record
- *                                keeps its own until it is lent with an answer. A copy that is
- *                                never lent says what was loaded before
+ *   a copy, or a second record,  NO refusal: an upload sets the count of the bytes that are lent.
+ *   of one chip                  Lent with the start, the copy has a count of 0, and the record
+ *                                keeps its own until it is lent with an answer. One that is never
+ *                                lent says what was loaded before
  *   a record that da728x_new     NO refusal: it is what its bytes say. Zeros are a DA7280 at
  *   has not made, or whose       address 0, and da728x_configure sets that up. A driving mode or a
  *   bytes were changed           count that is written into it by hand is taken for the chip's
@@ -354,7 +354,7 @@ size_t da728x_replace_trigger(uint8_t byte, uint8_t value, uint8_t *out, size_t 
  *   than DA728X_SESSION          nothing is pending, every answer is refused with 19, the result is
  *                                0. If the length is wrong at the start only: NO sign. The start
  *                                returns 0, and pending and result are those of the operation
- *                                before
+ *                                before. An upload's start leaves the count then
  *   a session of zeros           was never begun: nothing is pending, every answer is refused
  *                                with 19, the result is 0
  *   other bytes that no start    NO refusal: they may be taken for a session under way or
@@ -366,15 +366,21 @@ size_t da728x_replace_trigger(uint8_t byte, uint8_t value, uint8_t *out, size_t 
  *   a memory that is unlocked    NO refusal, and the count stays. Write it by
  *   and written by other means   da728x_upload_waveform_memory alone
  *   a selection from before an   NO refusal: da728x_start_sequence starts what the chip has
- *   upload                       selected, also if the new image has no such sequence. Select anew
- *   a trigger's sequence number  NO refusal: it is not held against the count. See that the image
- *   that the image has not       has the sequences of all triggers
+ *   upload                       selected, also if the new image has no such sequence, and also
+ *                                while an upload is under way or after one that failed, when the
+ *                                memory may have a part of each image. Select anew after an upload
+ *   a trigger's sequence number  NO refusal: it is not held against the count, and a trigger plays
+ *   that the image has not       during an upload too. See that the image has the sequences of all
+ *                                triggers
  *   a chip that lost its supply  NO refusal: the record still says what was set up, and its count
  *                                what was loaded. Run da728x_configure and
  *                                da728x_upload_waveform_memory again, and
  *                                da728x_set_custom_drive_waveform, whose points no record holds
  *   a record kept over a reset   NO refusal: it says what was set up and loaded when its bytes were
  *                                kept, also if an upload was begun since
+ *   a record kept by an earlier  has 37 bytes, without the count: put a 0 behind them, or run
+ *   version of this library      da728x_new. Lent as they are, they are a record of another length;
+ *                                with any other byte behind them, NO refusal: that is the count
  *
  * A record is:
  *    0      chip address, of 7 bits, handed to the bus as it is (0x4A by the datasheet)
@@ -382,8 +388,8 @@ size_t da728x_replace_trigger(uint8_t byte, uint8_t value, uint8_t *out, size_t 
  *    2      2 if settings are stored (above 2 counts as 2), else 1 (0 counts as 1) and bytes 3 to
  *           36 are 0
  *    3..36  the settings
- *   37      the count: how many sequences the image has that was uploaded last, if that upload was
- *           completed, else 0. It is kept without settings too
+ *   37      the count, at DA728X_SEQUENCES: how many sequences the image has that was uploaded last,
+ *           if that upload was completed, else 0. It is kept without settings too
  * A record of another length has no settings, address 0, a count of 0, and is a DA7280. Settings
  * are:
  *    0      actuator type: 0 LRA, 1 ERM
@@ -412,6 +418,7 @@ size_t da728x_replace_trigger(uint8_t byte, uint8_t value, uint8_t *out, size_t 
  * input pin, RTWM a sequence that is started over the bus, ETWM one that a trigger starts. */
 #define DA728X_SESSION 280
 #define DA728X_RECORD 38
+#define DA728X_SEQUENCES 37
 #define DA728X_SETTINGS 34
 
 /* Each of these starts an operation, from a record (da728x_new: from an address and a variant).

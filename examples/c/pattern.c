@@ -306,7 +306,7 @@ static uint8_t begin_play(uint8_t sequence_id, uint8_t loops)
 }
 
 /* The bus loses the third exchange: the chip then has 32 bytes of the image and is unlocked. The
- * count of sequences, byte 37 of the record, is 0 until an upload is completed. */
+ * count of sequences in the record is 0 until an upload is completed. */
 static void upload(struct chip *chip, const uint8_t image[DA728X_IMAGE])
 {
     struct end end;
@@ -320,7 +320,7 @@ static void upload(struct chip *chip, const uint8_t image[DA728X_IMAGE])
     expect_bytes("the memory's front", chip->registers + SNP_MEM_0, image, 32);
     expect("the memory behind", chip->registers[SNP_MEM_0 + 32], 0xFF);
     expect("unlocked", chip->registers[MEM_CTL2], 0x80);
-    expect("sequences after a failure", record[37], 0);
+    expect("sequences after a failure", record[DA728X_SEQUENCES], 0);
     expect("playing after a failure", begin_play(0, 0), 28);
     printf("upload: the bus failed with code %u at exchange %u; begun anew\n", end.code, end.made);
 
@@ -328,7 +328,7 @@ static void upload(struct chip *chip, const uint8_t image[DA728X_IMAGE])
     run_whole(chip, "upload", begin_upload(image), 6);
     expect_bytes("the chip's memory", chip->registers + SNP_MEM_0, image, DA728X_IMAGE);
     expect("locked", chip->registers[MEM_CTL2], 0);
-    expect("sequences loaded", record[37], 2);
+    expect("sequences loaded", record[DA728X_SEQUENCES], 2);
 }
 
 /* What the chip itself says that its memory holds. */
@@ -375,7 +375,7 @@ static void wave(struct chip *chip)
     run_whole(chip, "configure for a wave", da728x_configure(record, sizeof record, settings,
                                                              sizeof settings, session,
                                                              sizeof session), 18);
-    expect("sequences after configure", record[37], 2);
+    expect("sequences after configure", record[DA728X_SEQUENCES], 2);
 
     /* A write is lost: the chip has the first new point alone, so all three are set again. */
     chip->transfers = 0;

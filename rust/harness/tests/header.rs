@@ -1,6 +1,7 @@
 //! What the wrapper cannot say: the C functions as the header declares them.
 
 use ffi::*;
+use harness::records::COUNT;
 use harness::settings::Settings;
 use harness::{GAINS, TIMEBASES, compared, oracle, raw, text};
 use std::ptr::{null, null_mut};
@@ -144,7 +145,7 @@ fn codes_of_calls() {
     compared("codes of calls", defined.len(), 14);
 }
 
-/// The sizes and the kinds of answers that the header defines are those of the tests and of the wrapper.
+/// The sizes, the place of the count and the kinds of answers that the header defines are those of the tests and of the wrapper.
 #[test]
 fn sizes_and_kinds() {
     let header = text("include/da728x.h");
@@ -161,6 +162,7 @@ fn sizes_and_kinds() {
         ("LISTS", raw::LISTS),
         ("SESSION", raw::SESSION),
         ("RECORD", yambelugo::RECORD),
+        ("SEQUENCES", COUNT),
         ("SETTINGS", settings.len()),
         ("DONE", raw::DONE.into()),
         ("BYTE", raw::BYTE.into()),
@@ -168,7 +170,7 @@ fn sizes_and_kinds() {
     ];
     assert_eq!(defined, used);
     assert_eq!(size_of::<yambelugo::DA728x>(), yambelugo::RECORD);
-    compared("sizes and kinds", defined.len(), 8);
+    compared("sizes and kinds", defined.len(), 9);
 }
 
 /// A function's name, the types of its arguments and the type of its answer, in Rust's words.

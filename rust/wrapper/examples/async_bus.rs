@@ -106,7 +106,7 @@ fn image() -> Result<[u8; IMAGE], Error> {
     Ok(image)
 }
 
-/// Uploads the image, and reads the memory back. Nothing can be played before.
+/// Uploads the image, and reads the memory back. No sequence can be selected or played before.
 async fn fill(chip: &mut Chip, driver: &mut DA728x, image: &[u8]) -> Result<(), Error> {
     println!("upload, of which the fourth exchange is lost:");
     assert_eq!(driver.play_sequence(0, 2), Err(Error::MissingSequence));

@@ -21,12 +21,13 @@ const SEQUENCES: usize = 37;
 /// stored, and of how many sequences are loaded.
 ///
 /// An operation starts a [`Session`], which borrows the driver until it is dropped. So one session
-/// runs at a time on a chip, and it is this driver that gets the settings, after the last exchange
+/// runs at a time on a driver, and it is this one that gets the settings, after the last exchange
 /// of [`DA728x::configure`], and the number of sequences ([`DA728x::sequences`]) of an upload: 0
 /// from its start on, that of the image after its last exchange. Every other operation leaves the
 /// record as it is, and so does a `configure` that fails. It is neither `Copy` nor `Clone`, so that
-/// no copy falls behind: a second driver of one chip comes only from bytes that you kept, by
-/// [`DA728x::from_bytes`].
+/// no copy falls behind. Make one driver for each chip: a second one, by [`DA728x::new`] or from
+/// bytes that you kept ([`DA728x::from_bytes`]), sees nothing of the first one's settings and
+/// uploads, and sessions of both can run at a time.
 ///
 /// Its arguments are checked when an operation starts; a refused one starts no session.
 ///
@@ -79,7 +80,8 @@ impl DA728x {
     /// The record with these bytes, laid out as the C header says; each byte string is one.
     ///
     /// A record that was kept over a reset of the processor says what was set up and loaded when
-    /// its bytes were kept, also if an upload was begun since: the chip itself is not asked.
+    /// its bytes were kept, also if an upload was begun since: the chip itself is not asked. Bytes
+    /// that an earlier version of this library kept are 37: put a 0 behind them.
     ///
     /// ```
     /// # use yambelugo::{DA728x, Error, Exchange, Refusal, Variant};
@@ -510,7 +512,8 @@ impl DA728x {
     }
 
     /// Starts the sequence that is selected; the chip has to be enabled. That the image has it is
-    /// not checked: one that was selected before an upload is started too, so select anew after it.
+    /// not checked: one that was selected before an upload is started too, also where that failed and
+    /// the memory may have a part of each image. So select anew after an upload.
     pub fn start_sequence(&mut self) -> Session<'_> {
         self.starts(plain(ffi::da728x_start_sequence))
     }
@@ -723,7 +726,7 @@ impl Session<'_> {
     /// Takes back what the bus answered to the pending exchange. The last answer to
     /// [`DA728x::configure`] stores the settings in the driver, that to [`DA728x::new`] makes one,
     /// and that to [`DA728x::upload_waveform_memory`] sets [`DA728x::sequences`], which is 0 until
-    /// then. Any other answer leaves the driver as it is.
+    /// then. An answer to any other operation leaves the driver as it is.
     ///
     /// `buffer` counts for [`DA728x::read_waveform_memory`] only: a buffer of the length that was
     /// said at the start, in which the byte is stored at its own index.
