@@ -388,8 +388,8 @@ size_t da728x_replace_trigger(uint8_t byte, uint8_t value, uint8_t *out, size_t 
  *    2      2 if settings are stored (above 2 counts as 2), else 1 (0 counts as 1) and bytes 3 to
  *           36 are 0
  *    3..36  the settings
- *   37      the count, at DA728X_SEQUENCES: how many sequences the image has that was uploaded last,
- *           if that upload was completed, else 0. It is kept without settings too
+ *   37      the count, at DA728X_SEQUENCES: how many sequences the image has that was uploaded
+ *           last, if that upload was completed, else 0. It is kept without settings too
  * A record of another length has no settings, address 0, a count of 0, and is a DA7280. Settings
  * are:
  *    0      actuator type: 0 LRA, 1 ERM
