@@ -13,7 +13,7 @@ use Rattle.checks.specs.Checks.{configureNumber, firstFailing}
 use Rattle.checks.specs.Blames.{Fault, OfFirst}
 use Rattle.field.specs.Field.{withOf}
 use Rattle.exchange.specs.declared.Step.{Step}
-use Rattle.exchange.specs.declared.Step.TheVariants.{Write}
+use Rattle.exchange.specs.declared.Step.TheVariants.{Write, Read, Update}
 use Rattle.exchange.specs.State.{isSession, completed, Begun, begunIn}
 use Rattle.exchange.specs.Session.{AnswerCall, final}
 use Rattle.da728x.specs.declared.DA728x.{DA728x}
@@ -191,10 +191,11 @@ unfolding seqCtl2 withOf
 selecting id loops p q = omega arith
 
 sends : (s : Start) (b : Begun) (xs : List Step) (sequences id loops : ℕ) (ys : List Step) → BeginsUnless s (none-of sequences id loops) →
-    By (λ c zs. zs ≡ selectStep id loops ∷ ys) s → s ≡ begins b xs → xs ≡ Write 0x28 (id + 16 * loops) ∷ ys
+    By (λ c zs. (c.reads ≡ 0) × (zs ≡ selectStep id loops ∷ ys)) s → s ≡ begins b xs → (b.reads ≡ 0) × (xs ≡ Write 0x28 (id + 16 * loops) ∷ ys)
 sends s b xs sequences id loops ys f g e =
     let h = faultless sequences id loops (subst (λ (x : Start). BeginsUnless x (none-of sequences id loops)) e f) in
-    subst (By (λ c zs. zs ≡ selectStep id loops ∷ ys)) e g ∙ ap (λ (v : ℕ). Write 0x28 v ∷ ys) (selecting id loops h.0 h.1)
+    let k = subst (By (λ c zs. (c.reads ≡ 0) × (zs ≡ selectStep id loops ∷ ys))) e g in
+    (k.0, k.1 ∙ ap (λ (v : ℕ). Write 0x28 v ∷ ys) (selecting id loops h.0 h.1))
 
 pub plays : Plays
 plays = record {
@@ -208,8 +209,9 @@ plays = record {
       (refusals.play-sequence r id loops);
   selected = λ r id loops b xs e.
       sends (operation.selectSequence r id loops).start b xs r.sequences id loops [] (refusals.select-sequence r id loops)
-      (by-unless _ (firstFailing (sequenceChecks r.sequences id loops)) _ refl) e;
+      (by-unless _ (firstFailing (sequenceChecks r.sequences id loops)) _ (refl, refl)) e;
   played = λ r id loops b xs e.
       sends (operation.playSequence r id loops).start b xs r.sequences id loops startSteps (refusals.play-sequence r id loops)
-      (by-unless _ (firstFailing (sequenceChecks r.sequences id loops)) _ refl) e;
+      (by-unless _ (firstFailing (sequenceChecks r.sequences id loops)) _ (refl, refl)) e;
+  started = λ r b xs e. subst (By (λ c zs. (c.reads ≡ 0) × (zs ≡ Read 0x22 ∷ Update 0x22 4 1 1 ∷ []))) e (refl, refl);
 }

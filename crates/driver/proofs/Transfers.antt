@@ -1,7 +1,7 @@
 -- An upload sends what the memory shows, and a read fills the front of the buffer. Assumes nothing.
 use Prim.Native.Nat.{ℕ, zero, suc, ◌^◌, ◌<◌, min}
 use native.Mathlib.Omega.{arith}
-use mathlib.Core.Path.{◌≡◌, refl, sym, ◌∙◌, ap}
+use mathlib.Core.Path.{◌≡◌, refl, sym, ◌∙◌, ap, subst}
 use mathlib.Core.Bool.{Bool, true, false, not, ◌&&◌}
 use mathlib.Core.List.{List, [], ◌∷◌, ◌++◌, append-nil}
 use lib.Dec.{ltb, eqb}
@@ -20,7 +20,7 @@ use Rattle.memory.specs.declared.WaveformMemory.{WaveformMemory}
 use Rattle.da728x.specs.declared.DA728x.{DA728x}
 use Rattle.sessions.specs.Sessions.{noImage, blankRecord, setUnlocked, memCtl2, chunkSteps, lockSteps, sendSteps}
 use Rattle.driver.specs.Operations.{uploadBegun, uploadSteps}
-use Rattle.driver.proofs.Answers.{fits-upload}
+use Rattle.driver.proofs.Answers.{By, fits-upload}
 use Rattle.driver.specs.Theorems.{addressed, payload, Transfers}
 use Rattle.driver.proofs.Begun.{Holds, holds, all-sent, all-came, no-image, no_record}
 use Rattle.driver.proofs.Upload.{shown}
@@ -64,8 +64,14 @@ locks : (m : WaveformMemory) → uploadSteps m true ≡ uploadSteps m false ++ (
 unfolding sendSteps lockSteps memCtl2 withOf
 locks m = ap (λ (xs : List Step). setUnlocked true ∷ xs) (ap (λ (xs : List Step). xs ++ (Write 0x2D 0x00 ∷ [])) (sym (append-nil (chunkSteps (min m.len 100)))))
 
+unlocks : (m : WaveformMemory) (lockAfter : Bool) → take 1 (uploadSteps m lockAfter) ≡ Write 0x2D 0x80 ∷ []
+unfolding sendSteps memCtl2 withOf
+unlocks m lockAfter = refl
+
 pub transfers : Transfers
 transfers = record {
+  alone = λ r m lockAfter b xs e. subst (By (λ c ys. (c.reads ≡ 0) × (ys ≡ uploadSteps m lockAfter))) e (refl, refl);
+  unlocks = unlocks;
   locks = locks;
   shown = λ r m lockAfter st cs l e. sent-whole r m lockAfter st cs l e;
   reads = λ r len buffer st replies e h.

@@ -5,12 +5,11 @@ use Rattle.config.specs.declared.Variant.{Variant}
 use Rattle.laws.specs.Bytes.{All}
 use Rattle.memory.specs.declared.WaveformMemory.{WaveformMemory}
 use Rattle.exchange.specs.declared.Step.{Step}
-use Rattle.exchange.specs.declared.Step.TheVariants.{Write}
+use Rattle.exchange.specs.declared.Step.TheVariants.{Write, Read, Update}
 use Rattle.exchange.specs.State.{isSession, completed, Begun, begunIn}
 use Rattle.exchange.specs.Session.{AnswerCall, final}
 use Rattle.da728x.specs.declared.DA728x.{DA728x}
 use Rattle.outcome.specs.Outcome.{recordBy}
-use Rattle.sessions.specs.Sessions.{startSteps}
 use Rattle.driver.specs.Operations as operation
 use Rattle.driver.specs.Operations.{Start, declines, begins, changeFrom, newRecord}
 use Rattle.driver.specs.Theorems.{Request, UploadWaveformMemory, operationOf, Typed, recordFinal}
@@ -97,8 +96,11 @@ pub record Plays : Type 0 where
       Begins (operation.selectSequence (inForce r es) id loops).start ↔ ((id ≤ 15) × (loops ≤ 15) × IsLoaded (uploads [] r es) id)
   pub plays : (address : ℕ) (variant : Variant) (es : List Event) (id loops : ℕ) → All TypedEvent es → let r = newRecord address variant in
       Begins (operation.playSequence (inForce r es) id loops).start ↔ ((id ≤ 15) × (loops ≤ 15) × IsLoaded (uploads [] r es) id)
-  -- and then this sequence is what the chip is given, with these loops (the address of SEQ_CTL2 and its fields are said again here)
+  -- and then this sequence is what the chip is given, with these loops; playing starts it, as `start_sequence` does, and no memory is read (SEQ_CTL2 and
+  -- its fields, and bit 4 of TOP_CTL1, are said again here)
   pub selected : (r : DA728x) (id loops : ℕ) (b : Begun) (xs : List Step) → (operation.selectSequence r id loops).start ≡ begins b xs →
-      xs ≡ Write 0x28 (id + 16 * loops) ∷ []
+      (b.reads ≡ 0) × (xs ≡ Write 0x28 (id + 16 * loops) ∷ [])
   pub played : (r : DA728x) (id loops : ℕ) (b : Begun) (xs : List Step) → (operation.playSequence r id loops).start ≡ begins b xs →
-      xs ≡ Write 0x28 (id + 16 * loops) ∷ startSteps
+      (b.reads ≡ 0) × (xs ≡ Write 0x28 (id + 16 * loops) ∷ Read 0x22 ∷ Update 0x22 4 1 1 ∷ [])
+  pub started : (r : DA728x) (b : Begun) (xs : List Step) → (operation.startSequence r).start ≡ begins b xs →
+      (b.reads ≡ 0) × (xs ≡ Read 0x22 ∷ Update 0x22 4 1 1 ∷ [])

@@ -248,7 +248,11 @@ payload [] = []
 payload (e ∷ es) = cond (leb (addressOf "SNP_MEM_0") (at e.bytes 0)) (addressed (at e.bytes 0) (drop 1 (take e.len e.bytes))) [] ++ payload es
 
 pub record Transfers : Type 0 where
-  -- where the lock is asked for, it is the last exchange (the address and the byte are said again here), and else there is none
+  -- an upload unlocks the memory first, and where the lock is asked for, it is the last exchange, else there is none (address and bytes are said again
+  -- here); these steps are all that it makes
+  pub alone : (r : DA728x) (m : WaveformMemory) (lockAfter : Bool) (b : Begun) (xs : List Step) → (operation.uploadWaveformMemory r m lockAfter).start ≡ begins b xs →
+      (b.reads ≡ 0) × (xs ≡ uploadSteps m lockAfter)
+  pub unlocks : (m : WaveformMemory) (lockAfter : Bool) → take 1 (uploadSteps m lockAfter) ≡ Write 0x2D 0x80 ∷ []
   pub locks : (m : WaveformMemory) → uploadSteps m true ≡ uploadSteps m false ++ (Write 0x2D 0x00 ∷ [])
   -- "Upload sends what `WaveformMemory::as_bytes` shows .. from address 84 (hexadecimal)": once completed, each byte to its own address; no other goes
   -- into the memory
