@@ -344,7 +344,8 @@ size_t da728x_replace_trigger(uint8_t byte, uint8_t value, uint8_t *out, size_t 
  *   a record of another length   lent with a start: it has no settings, address 0, a count of 0,
  *   than DA728X_RECORD           and is a DA7280. Lent with an answer: NO refusal. It is never
  *                                written: also after an upload every select and play is refused
- *                                with 28
+ *                                with 28. Lent with an upload's start only: the image goes to
+ *                                address 0, and the count of a record of another address stays
  *   settings that are cut short  missing bytes count as 0. With up to 8 bytes it is 22 (21 for a
  *                                voltage above 6000 mV), with 9 to 11 it is 23 (or the 21 or 22
  *                                that is tested before it); with 12 or more there may be NO

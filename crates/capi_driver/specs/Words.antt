@@ -34,7 +34,8 @@ recordOut l Same = l
 recordOut l (To r) = cond (eqb (length l) 38) (recordBytes r) l
 recordOut l (Sequences n) = cond (eqb (length l) 38) (set l 37 n) l
 
--- the same of an answer to an upload, by the bytes of its session: the address is at 117, the image's count at 154
+-- the same of an answer to an upload, by the bytes of its session: the address is at 117, the image's count at 154. Of a private contract alone, and equal to
+-- the rule above (proofs/Counts.antt)
 abbrev pub countOut : List ℕ → List ℕ → Bool → ℕ → List ℕ
 countOut l st ended number =
     cond (eqb (length l) 38 && eqb (at st 117) (at l 0)) (cond (ended && eqb number 0) (set l 37 (at st 154)) (cond (eqb number 19) l (set l 37 0))) l

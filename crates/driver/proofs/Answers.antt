@@ -37,7 +37,7 @@ use Rattle.driver.specs.Theorems.{Request, Configure, GetChipRev, GetEvents, Get
 use Rattle.driver.proofs.Records.{Leaves}
 use Rattle.driver.proofs.Begun.{Fits, Holds, holds, no-image, no_record, valueOf, answered, counted, within, all_made}
 use Rattle.exchange.proofs.Latest.{bytesWanted}
-use Rattle.driver.proofs.Mismatch.{AllPlain, all_plain, frequency-plain, configure-plain, send-plain, never}
+use Rattle.driver.proofs.Mismatch.{AllPlain, AllTame, plain, all_plain, frequency-tame, configure-tame, send-plain, never}
 use Rattle.driver.proofs.Starts.{configured}
 use Rattle.driver.proofs.Upload.{few}
 
@@ -69,12 +69,16 @@ abbrev pub SoundOperation : ℕ → Operation → Type 0
 SoundOperation address o = By (Sound address o.answers) o.start
 
 -- and compares nothing
-abbrev pub Calm : ℕ → (List ℕ → ℕ) → Begun → List Step → Type 0
+abbrev Calm : ℕ → (List ℕ → ℕ) → Begun → List Step → Type 0
 Calm address result b xs = Sound address result b xs × AllPlain xs
+
+-- and is of registers alone
+abbrev pub Tamed : ℕ → (List ℕ → ℕ) → Begun → List Step → Type 0
+Tamed address result b xs = Sound address result b xs × AllTame xs
 
 -- and leaves the record
 abbrev pub Quiet : ℕ → (List ℕ → ℕ) → Begun → List Step → Type 0
-Quiet address result b xs = Calm address result b xs × Leaves b.purpose
+Quiet address result b xs = Tamed address result b xs × Leaves b.purpose
 
 abbrev pub QuietOperation : ℕ → Operation → Type 0
 QuietOperation address o = By (Quiet address o.answers) o.start
@@ -84,7 +88,7 @@ pub by-both : {P Q : Begun → List Step → Type 0} → ((b : Begun) (xs : List
 by-both f (declines number) p = p
 by-both f (begins b xs) p = f b xs p
 
-quiet-runs : (r : DA728x) (xs : List Step) → length xs ≤ 25 → AllPlain xs → By (Quiet r.address (λ bytes. 0)) (runs r xs)
+quiet-runs : (r : DA728x) (xs : List Step) → length xs ≤ 25 → AllTame xs → By (Quiet r.address (λ bytes. 0)) (runs r xs)
 quiet-runs r xs h p = ((((h, omega arith, no-image, no_record), λ bytes e. refl, refl), p), (λ next s. refl, refl))
 
 -- so its session holds what it was begun with
@@ -94,7 +98,7 @@ quiet-holds address o q b xs e st s = let g = subst (λ (x : Start). By (Quiet a
 
 -- ---- the fifteen that leave the record
 
-one_byte : (r : DA728x) (xs : List Step) → length xs ≤ 25 → AllPlain xs →
+one_byte : (r : DA728x) (xs : List Step) → length xs ≤ 25 → AllTame xs →
     ((bytes : List ℕ) → length bytes ≡ bytesWanted (exchangesOf r.address 0 noImage (allSteps (blank 3 r.address) xs) bytes) → length bytes ≡ 1) →
     By (Quiet r.address (bigEndian 0)) (begins (blank 3 r.address) xs)
 one_byte r xs h p w = ((((h, omega arith, no-image, no_record), λ bytes e. go bytes (w bytes e), refl), p), (λ next s. refl, refl))
@@ -113,30 +117,30 @@ three-bytes (a ∷ b ∷ c ∷ d ∷ bytes) e = absurd (omega (arith, e))
 
 pub quiet : (r : DA728x) (q : Request) → Typed q → isUpload q ≡ false → isConfigure q ≡ false → QuietOperation r.address (operationOf r q)
 quiet r (Configure a d) t u c = absurd (true≢false c)
-quiet r GetChipRev t u c = one_byte r (Read (addressOf "CHIP_REV") ∷ []) (omega arith) (tt, tt) (λ bytes e. e)
-quiet r GetEvents t u c = ((((omega arith, omega arith, no-image, no_record), λ bytes e. three-bytes bytes e, refl), (tt, (tt, (tt, (tt, tt))))), (λ next s. refl, refl))
-quiet r GetStatus t u c = one_byte r (Read (addressOf "IRQ_STATUS1") ∷ []) (omega arith) (tt, tt) (λ bytes e. e)
+quiet r GetChipRev t u c = one_byte r (Read (addressOf "CHIP_REV") ∷ []) (omega arith) (refl, tt) (λ bytes e. e)
+quiet r GetEvents t u c = ((((omega arith, omega arith, no-image, no_record), λ bytes e. three-bytes bytes e, refl), (refl, (refl, (refl, (refl, tt))))), (λ next s. refl, refl))
+quiet r GetStatus t u c = one_byte r (Read (addressOf "IRQ_STATUS1") ∷ []) (omega arith) (refl, tt) (λ bytes e. e)
 quiet r (SetFrequency hz) t u c =
     by-settings _ r.settings _ (λ a d. by-unless _ (firstFailing ((outsideBand d.driving_mode hz, 23) ∷ [])) _
-    (quiet-runs r (frequencySteps hz) (omega (arith, frequency hz)) (frequency-plain hz)))
+    (quiet-runs r (frequencySteps hz) (omega (arith, frequency hz)) (frequency-tame hz)))
 quiet r (SetOverrideValue value) t u c =
     by-settings _ r.settings _ (λ a d. by-unless _ (firstFailing (overrideChecks d value)) _
-    (quiet-runs r (Write (addressOf "TOP_CTL2") (overrideByte value) ∷ []) (omega arith) (tt, tt)))
-quiet r (SetTimebase timebase) t u c = quiet-runs r (updated "SEQ_CTL1" (put "FREQ_WAVEFORM_TIMEBASE" (timebaseBit timebase))) (omega arith) (tt, (tt, tt))
-quiet r Enable t u c = by-settings _ r.settings _ (λ a d. quiet-runs r (Write (addressOf "TOP_CTL1") (enabled d.operation_mode) ∷ []) (omega arith) (tt, tt))
+    (quiet-runs r (Write (addressOf "TOP_CTL2") (overrideByte value) ∷ []) (omega arith) (refl, tt)))
+quiet r (SetTimebase timebase) t u c = quiet-runs r (updated "SEQ_CTL1" (put "FREQ_WAVEFORM_TIMEBASE" (timebaseBit timebase))) (omega arith) (refl, (refl, tt))
+quiet r Enable t u c = by-settings _ r.settings _ (λ a d. quiet-runs r (Write (addressOf "TOP_CTL1") (enabled d.operation_mode) ∷ []) (omega arith) (refl, tt))
 quiet r Disable t u c =
-    by-settings _ r.settings _ (λ a d. quiet-runs r (updated "TOP_CTL1" (put "OPERATION_MODE" (operationCode INACTIVE))) (omega arith) (tt, (tt, tt)))
+    by-settings _ r.settings _ (λ a d. quiet-runs r (updated "TOP_CTL1" (put "OPERATION_MODE" (operationCode INACTIVE))) (omega arith) (refl, (refl, tt)))
 quiet r (SetCustomDriveWaveform p1 p2 p3) t u c =
     by-settings _ r.settings _ (λ a d. by-unless _ (firstFailing (drivePointChecks d)) _
-    (quiet-runs r (drivePointSteps p1 p2 p3) (omega arith) (tt, (tt, (tt, tt)))))
-quiet r UnlockWaveformMemory t u c = quiet-runs r (setUnlocked true ∷ []) (omega arith) (tt, tt)
-quiet r LockWaveformMemory t u c = quiet-runs r (setUnlocked false ∷ []) (omega arith) (tt, tt)
+    (quiet-runs r (drivePointSteps p1 p2 p3) (omega arith) (refl, (refl, (refl, tt)))))
+quiet r UnlockWaveformMemory t u c = quiet-runs r (setUnlocked true ∷ []) (omega arith) (refl, tt)
+quiet r LockWaveformMemory t u c = quiet-runs r (setUnlocked false ∷ []) (omega arith) (refl, tt)
 quiet r (UploadWaveformMemory m lockAfter) t u c = absurd (true≢false u)
 quiet r (ReadWaveformMemory len room) t u c = ((((omega arith, t, no-image, no_record), λ bytes e. omega arith, refl), tt), (λ next s. refl, refl))
-quiet r (SelectSequence id loops) t u c = by-unless _ (firstFailing (sequenceChecks r.sequences id loops)) _ (quiet-runs r (selectStep id loops ∷ []) (omega arith) (tt, tt))
-quiet r StartSequence t u c = quiet-runs r startSteps (omega arith) (tt, (tt, tt))
+quiet r (SelectSequence id loops) t u c = by-unless _ (firstFailing (sequenceChecks r.sequences id loops)) _ (quiet-runs r (selectStep id loops ∷ []) (omega arith) (refl, tt))
+quiet r StartSequence t u c = quiet-runs r startSteps (omega arith) (refl, (refl, tt))
 quiet r (PlaySequence id loops) t u c =
-    by-unless _ (firstFailing (sequenceChecks r.sequences id loops)) _ (quiet-runs r (selectStep id loops ∷ startSteps) (omega arith) (tt, (tt, (tt, tt))))
+    by-unless _ (firstFailing (sequenceChecks r.sequences id loops)) _ (quiet-runs r (selectStep id loops ∷ startSteps) (omega arith) (refl, (refl, (refl, tt))))
 
 -- ---- all eighteen
 
@@ -149,10 +153,14 @@ fits-configure r a d = (at_most a d, omega arith, no-image, record-length (confi
 pub fits-upload : (r : DA728x) (m : WaveformMemory) (lockAfter : Bool) → length m.«data» ≡ 100 → Fits (uploadBegun r m) (uploadSteps m lockAfter)
 fits-upload r m lockAfter e = (few m lockAfter, omega arith, e, record-length (uploadRecord r m))
 
+pub tamed : (r : DA728x) (q : Request) → Typed q → isUpload q ≡ false → By (Tamed r.address (operationOf r q).answers) (operationOf r q).start
+tamed r (Configure a d) t u = by-unless _ (configureNumber r.variant a d) _ ((fits-configure r a d, λ bytes e. refl, refl), configure-tame a d)
+tamed r (UploadWaveformMemory m lockAfter) t u = absurd (true≢false u)
+tamed r q t u = by-both {P = Quiet r.address (operationOf r q).answers} (λ b xs p. p.0) (operationOf r q).start (quiet r q t u refl)
+
 calm : (r : DA728x) (q : Request) → Typed q → By (Calm r.address (operationOf r q).answers) (operationOf r q).start
-calm r (Configure a d) t = by-unless _ (configureNumber r.variant a d) _ ((fits-configure r a d, λ bytes e. refl, refl), configure-plain a d)
 calm r (UploadWaveformMemory m lockAfter) t = ((fits-upload r m lockAfter t, λ bytes e. refl, refl), send-plain (min m.len 100) lockAfter)
-calm r q t = by-both {P = Quiet r.address (operationOf r q).answers} (λ b xs p. p.0) (operationOf r q).start (quiet r q t refl refl)
+calm r q t = by-both {P = Tamed r.address (operationOf r q).answers} {Q = Calm r.address (operationOf r q).answers} (λ b xs p. (p.0, plain xs p.1)) (operationOf r q).start (tamed r q t refl)
 
 -- what an accepted `configure` begins
 pub holds-configure : (r : DA728x) (a : ActuatorConfig) (d : DeviceConfig) (st : List ℕ) → configureNumber r.variant a d ≡ 0 → isSession st ≡ true →

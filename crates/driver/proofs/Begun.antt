@@ -105,7 +105,7 @@ to-chip (x ∷ xs) address last image bytes = (own x, to-chip xs address _ image
     own (Chunk offset len) = refl
     own (Store index) = refl
 
-all-taken : (P : Exchange → Type 0) (n : ℕ) (es : List Exchange) → All P es → All P (take n es)
+pub all-taken : (P : Exchange → Type 0) (n : ℕ) (es : List Exchange) → All P es → All P (take n es)
 all-taken P zero es h = tt
 all-taken P (suc n) [] h = tt
 all-taken P (suc n) (e ∷ es) h = (h.0, all-taken P n es h.1)

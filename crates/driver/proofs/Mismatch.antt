@@ -1,13 +1,16 @@
--- 16 is told of a step that compares only, and `new` alone has one. Assumes nothing.
+-- 16 is told of a step that compares only, and `new` alone has one; steps on registers alone write nothing into the waveform memory. Assumes nothing.
 use Prim.Native.Nat.{ℕ, zero, suc, ◌-◌, min}
 use native.Mathlib.Omega.{arith}
 use mathlib.Core.Path.{◌≡◌, refl, sym, ◌∙◌, ap, subst}
-use mathlib.Core.Bool.{Bool, true, false, not, ◌&&◌, true≢false, false≢true}
+use mathlib.Core.Bool.{Bool, true, false, cond, not, ◌&&◌, true≢false, false≢true}
 use mathlib.Core.List.{List, [], ◌∷◌, ◌++◌}
-use Prim.Native.String.{String}
-use lib.Dec.{ltb, eqb}
-use lib.ListN.{length, drop}
+use Prim.Native.String.{String, ◌++◌ as ◌&◌}
+use lib.Dec.{ltb, leb, eqb}
+use lib.ListN.{length, take, drop}
+use borrow.Author.Tests.{ltb-true, lt-leb}
 use Rattle.laws.specs.Bytes.{All}
+use Rattle.laws.specs.Lists.{at}
+use Rattle.registers.specs.Table.{addressOf}
 use Rattle.laws.proofs.Lists.{all_append}
 use Rattle.laws.proofs.Tests.{choice}
 use Rattle.config.specs.declared.ActuatorConfig.{ActuatorConfig}
@@ -21,15 +24,17 @@ use Rattle.config.specs.declared.DrivingMode.TheVariants.{FREQUENCY_TRACK, WIDEB
 use Rattle.checks.specs.Checks.{etwm}
 use Rattle.exchange.specs.declared.Step.{Step}
 use Rattle.exchange.specs.declared.Step.TheVariants.{Write, Read, Update, Match, Chunk, Store}
+use Rattle.exchange.specs.declared.Exchange.{Exchange}
+use Rattle.exchange.specs.Steps.{memoryAddress, exchangeFor}
 use Rattle.exchange.specs.declared.Reply.{Reply}
 use Rattle.exchange.specs.declared.Reply.TheVariants.{Done, Byte, Failed}
 use Rattle.exchange.specs.State.{indexed, left, Begun}
 use Rattle.exchange.specs.Turn.{pendingFor, resized, reportOf}
-use Rattle.exchange.specs.Session.{AnswerCall, fitsExchange, taken, numberAt, final, sent, brokenOff}
+use Rattle.exchange.specs.Session.{AnswerCall, fitsExchange, taken, numberAt, final, sent, brokenOff, exchangesOf}
 use Rattle.exchange.proofs.Session.{session}
 use Rattle.plans.specs.Configure.{featureSteps, limitSteps, calibrationSteps, pidSteps, frequencySteps, rapidStopSteps, phaseSteps, customSteps, drivingSteps, gpiSteps, givenSteps, triggerSteps, configureSteps}
 use Rattle.sessions.specs.Sessions.{chunkStep, chunkSteps, lockSteps, sendSteps}
-use Rattle.driver.specs.Theorems.{allSteps}
+use Rattle.driver.specs.Theorems.{allSteps, addressed}
 use Rattle.driver.proofs.Begun.{Holds}
 
 -- ---- steps that compare nothing
@@ -57,48 +62,104 @@ stores (suc n) i = (tt, stores n (suc i))
 pub all_plain : (b : Begun) (xs : List Step) → AllPlain xs → AllPlain (allSteps b xs)
 all_plain b xs p = all_append Plain xs _ p (stores (min b.reads 100) 0)
 
--- ---- such are those of `configure`, and of an upload
+-- ---- steps on registers alone, which write nothing from the waveform memory's first address on
 
-pub frequency-plain : (hz : ℕ) → AllPlain (frequencySteps hz)
+abbrev Tame : Step → Type 0
+Tame (Write register value) = ltb register 132 ≡ true
+Tame (Read register) = ltb register 132 ≡ true
+Tame (Update register shift width value) = ltb register 132 ≡ true
+Tame (Match register value) = ⊥
+Tame (Chunk offset len) = ⊥
+Tame (Store i) = Unit
+
+abbrev pub AllTame : List Step → Type 0
+AllTame xs = All Tame xs
+
+-- they compare nothing
+pub plain : (xs : List Step) → AllTame xs → AllPlain xs
+plain [] p = tt
+plain (x ∷ xs) p = (one x p.0, plain xs p.1)
+  where
+    one : (x : Step) → Tame x → Plain x
+    one (Write register value) h = tt
+    one (Read register) h = tt
+    one (Update register shift width value) h = tt
+    one (Match register value) h = absurd h
+    one (Chunk offset len) h = tt
+    one (Store i) h = tt
+
+tame-stores : (n i : ℕ) → AllTame (indexed Store i n)
+tame-stores zero i = tt
+tame-stores (suc n) i = (tt, tame-stores n (suc i))
+
+-- what one writes into the memory
+abbrev pub into : Exchange → List (ℕ × ℕ)
+into e = cond (leb 132 (at e.bytes 0)) (addressed (at e.bytes 0) (drop 1 (take e.len e.bytes))) []
+
+-- nothing
+pub tame-exchanges : (xs : List Step) → AllTame xs → (address last : ℕ) (image bytes : List ℕ) → All (λ e. into e ≡ []) (exchangesOf address last image xs bytes)
+tame-exchanges [] p address last image bytes = tt
+tame-exchanges (x ∷ xs) p address last image bytes = (one x p.0, tame-exchanges xs p.1 address _ image _)
+  where
+    below : (register : ℕ) (l : List (ℕ × ℕ)) → ltb register 132 ≡ true → cond (leb 132 register) l [] ≡ []
+    below register l h = ap (λ (b : Bool). cond b l []) (lt-leb 132 register (ltb-true register 132 h))
+
+    one : (x : Step) → Tame x → into (exchangeFor address last image x) ≡ []
+    one (Write register value) h = below register _ h
+    one (Read register) h = below register _ h
+    one (Update register shift width value) h = below register _ h
+    one (Match register value) h = absurd h
+    one (Chunk offset len) h = absurd h
+    one (Store i) h = choice (λ (l : List (ℕ × ℕ)). l ≡ []) (leb 132 (memoryAddress i)) [] [] refl refl
+
+pub all_tame : (b : Begun) (xs : List Step) → AllTame xs → AllTame (allSteps b xs)
+all_tame b xs p = all_append Tame xs _ p (tame-stores (min b.reads 100) 0)
+
+-- ---- such are those of `configure`
+
+pub frequency-tame : (hz : ℕ) → AllTame (frequencySteps hz)
 unfolding frequencySteps
-frequency-plain hz = (tt, (tt, tt))
+frequency-tame hz = (refl, (refl, tt))
 
-pid-plain : (p : Pid) → AllPlain (pidSteps p)
+pid-tame : (p : Pid) → AllTame (pidSteps p)
 unfolding pidSteps
-pid-plain pid.Absent = tt
-pid-plain (pid.Given kp ki) = (tt, (tt, (tt, (tt, tt))))
+pid-tame pid.Absent = tt
+pid-tame (pid.Given kp ki) = (refl, (refl, (refl, (refl, tt))))
 
-driving-plain : (m : DrivingMode) → AllPlain (drivingSteps m)
+driving-tame : (m : DrivingMode) → AllTame (drivingSteps m)
 unfolding drivingSteps phaseSteps customSteps
-driving-plain FREQUENCY_TRACK = tt
-driving-plain WIDEBAND = (tt, (tt, tt))
-driving-plain CUSTOM_WAVEFORM = (tt, (tt, (tt, (tt, tt))))
+driving-tame FREQUENCY_TRACK = tt
+driving-tame WIDEBAND = (refl, (refl, tt))
+driving-tame CUSTOM_WAVEFORM = (refl, (refl, (refl, (refl, tt))))
 
-gpi-plain : (digit : String) (t : Trigger) → AllPlain (gpiSteps digit t)
+gpi-tame : (digit : String) (t : Trigger) → ltb (addressOf ("GPI_" & digit & "_CTL")) 132 ≡ true → AllTame (gpiSteps digit t)
 unfolding gpiSteps
-gpi-plain digit trigger.Absent = tt
-gpi-plain digit (trigger.Given t) = (tt, tt)
+gpi-tame digit trigger.Absent e = tt
+gpi-tame digit (trigger.Given t) e = (e, tt)
 
-given-plain : (r s t : Trigger) → AllPlain (givenSteps r s t)
+given-tame : (r s t : Trigger) → AllTame (givenSteps r s t)
 unfolding givenSteps
-given-plain r s t =
-    all_append Plain (gpiSteps "0" r) (gpiSteps "1" s ++ gpiSteps "2" t) (gpi-plain "0" r) (all_append Plain (gpiSteps "1" s) (gpiSteps "2" t) (gpi-plain "1" s) (gpi-plain "2" t))
+given-tame r s t =
+    all_append Tame (gpiSteps "0" r) (gpiSteps "1" s ++ gpiSteps "2" t) (gpi-tame "0" r refl)
+    (all_append Tame (gpiSteps "1" s) (gpiSteps "2" t) (gpi-tame "1" s refl) (gpi-tame "2" t refl))
 
-triggers-plain : (d : DeviceConfig) → AllPlain (triggerSteps d)
+triggers-tame : (d : DeviceConfig) → AllTame (triggerSteps d)
 unfolding triggerSteps
-triggers-plain d =
-    choice AllPlain (etwm d.operation_mode) (givenSteps d.gpi_trigger_0 d.gpi_trigger_1 d.gpi_trigger_2) []
-    (given-plain d.gpi_trigger_0 d.gpi_trigger_1 d.gpi_trigger_2) tt
+triggers-tame d =
+    choice AllTame (etwm d.operation_mode) (givenSteps d.gpi_trigger_0 d.gpi_trigger_1 d.gpi_trigger_2) []
+    (given-tame d.gpi_trigger_0 d.gpi_trigger_1 d.gpi_trigger_2) tt
 
-pub configure-plain : (a : ActuatorConfig) (d : DeviceConfig) → AllPlain (configureSteps a d)
+pub configure-tame : (a : ActuatorConfig) (d : DeviceConfig) → AllTame (configureSteps a d)
 unfolding featureSteps limitSteps calibrationSteps rapidStopSteps
-configure-plain a d =
+configure-tame a d =
     let mode = drivingSteps d.driving_mode in
     let last = rapidStopSteps ++ (mode ++ triggerSteps d) in
     let period = frequencySteps a.frequency_Hz in
-    let end : AllPlain last = (tt, (tt, all_append Plain mode (triggerSteps d) (driving-plain d.driving_mode) (triggers-plain d))) in
-    let rest = all_append Plain (pidSteps a.pid_Kp_Ki) (period ++ last) (pid-plain a.pid_Kp_Ki) (all_append Plain period last (frequency-plain a.frequency_Hz) end) in
-    (tt, (tt, (tt, (tt, (tt, (tt, (tt, (tt, (tt, (tt, rest))))))))))
+    let end : AllTame last = (refl, (refl, all_append Tame mode (triggerSteps d) (driving-tame d.driving_mode) (triggers-tame d))) in
+    let rest = all_append Tame (pidSteps a.pid_Kp_Ki) (period ++ last) (pid-tame a.pid_Kp_Ki) (all_append Tame period last (frequency-tame a.frequency_Hz) end) in
+    (refl, (refl, (refl, (refl, (refl, (refl, (refl, (refl, (refl, (refl, rest))))))))))
+
+-- ---- an upload compares nothing
 
 chunk-plain : (n offset : ℕ) → AllPlain (chunkStep n offset)
 unfolding chunkStep

@@ -6,8 +6,10 @@ use mathlib.Core.Bool.{Bool, true, false, not, ◌&&◌}
 use mathlib.Core.List.{List, [], ◌∷◌, ◌++◌, append-nil}
 use lib.Dec.{ltb, eqb}
 use lib.ListN.{length, take, drop, get_or}
+use Rattle.laws.specs.Bytes.{All}
 use Rattle.exchange.specs.declared.Step.{Step}
-use Rattle.exchange.specs.declared.Step.TheVariants.{Write, Store}
+use Rattle.exchange.specs.declared.Exchange.{Exchange}
+use Rattle.exchange.specs.declared.Step.TheVariants.{Write, Match, Store}
 use Rattle.exchange.specs.State.{isSession, readCount, indexed, completed, Begun, begunWith, begunIn}
 use Rattle.exchange.specs.Turn.{resized}
 use Rattle.exchange.specs.Session.{AnswerCall, exchangesOf, final, sent, came}
@@ -18,11 +20,12 @@ use Rattle.field.specs.Field.{withOf}
 use Rattle.registers.specs.Table.{addressOf}
 use Rattle.memory.specs.declared.WaveformMemory.{WaveformMemory}
 use Rattle.da728x.specs.declared.DA728x.{DA728x}
-use Rattle.sessions.specs.Sessions.{noImage, blankRecord, setUnlocked, memCtl2, chunkSteps, lockSteps, sendSteps}
-use Rattle.driver.specs.Operations.{uploadBegun, uploadSteps}
-use Rattle.driver.proofs.Answers.{By, fits-upload}
-use Rattle.driver.specs.Theorems.{addressed, payload, Transfers}
-use Rattle.driver.proofs.Begun.{Holds, holds, all-sent, all-came, no-image, no_record}
+use Rattle.sessions.specs.Sessions.{noImage, blankRecord, carrying, setUnlocked, memCtl2, chunkSteps, lockSteps, sendSteps}
+use Rattle.driver.specs.Operations.{begins, revision, newRecord, uploadBegun, uploadSteps}
+use Rattle.driver.proofs.Answers.{By, Tamed, tamed, fits-new, fits-upload}
+use Rattle.driver.proofs.Mismatch.{into, all_tame, tame-exchanges}
+use Rattle.driver.specs.Theorems.{Request, operationOf, Typed, isUpload, allSteps, addressed, payload, Transfers}
+use Rattle.driver.proofs.Begun.{Holds, holds, in_order, all-taken, all-sent, all-came, no-image, no_record}
 use Rattle.driver.proofs.Upload.{shown}
 
 -- memory reads want a byte each
@@ -60,6 +63,21 @@ module _ (r : DA728x) (m : WaveformMemory) (lockAfter : Bool) (st : List ℕ) (c
       ∙ ap (λ (xs : List Step). exchangesOf r.address 0 m.«data» xs (came s cs)) (append-nil (uploadSteps m lockAfter)))
       ∙ shown r m lockAfter (came s cs) l
 
+-- what writes nothing into the memory
+none-into : (es : List Exchange) → All (λ e. into e ≡ []) es → payload es ≡ []
+none-into [] h = refl
+none-into (e ∷ es) h = λ i. h.0 i ++ none-into es h.1 i
+
+none-sent : {s : List ℕ} {b : Begun} {xs : List Step} (h : Holds s b xs) (cs : List AnswerCall) →
+    All (λ e. into e ≡ []) (exchangesOf b.address 0 b.image xs (came s cs)) → payload (sent s cs) ≡ []
+none-sent {s} h cs a = ap payload (in_order h cs) ∙ none-into _ (all-taken (λ e. into e ≡ []) (length (sent s cs)) _ a)
+
+spares : (r : DA728x) (q : Request) → Typed q → isUpload q ≡ false → (b : Begun) (xs : List Step) → (operationOf r q).start ≡ begins b xs →
+    (st : List ℕ) (cs : List AnswerCall) → isSession st ≡ true → payload (sent (begunIn st b xs) cs) ≡ []
+spares r q t u b xs e st cs s =
+    let g = subst (By (Tamed r.address (operationOf r q).answers)) e (tamed r q t u) in
+    none-sent (holds st b xs s g.0.0) cs (tame-exchanges (allSteps b xs) (all_tame b xs g.1) b.address 0 b.image _)
+
 locks : (m : WaveformMemory) → uploadSteps m true ≡ uploadSteps m false ++ (Write 0x2D 0x00 ∷ [])
 unfolding sendSteps lockSteps memCtl2 withOf
 locks m = ap (λ (xs : List Step). setUnlocked true ∷ xs) (ap (λ (xs : List Step). xs ++ (Write 0x2D 0x00 ∷ [])) (sym (append-nil (chunkSteps (min m.len 100)))))
@@ -70,6 +88,9 @@ unlocks m lockAfter = refl
 
 pub transfers : Transfers
 transfers = record {
+  spares = spares;
+  spares-new = λ address variant st cs s.
+      none-sent (holds st (carrying 1 (newRecord address variant)) (Match (addressOf "CHIP_REV") (revision variant) ∷ []) s (fits-new address variant).0) cs (refl, tt);
   alone = λ r m lockAfter b xs e. subst (By (λ c ys. (c.reads ≡ 0) × (ys ≡ uploadSteps m lockAfter))) e (refl, refl);
   unlocks = unlocks;
   locks = locks;

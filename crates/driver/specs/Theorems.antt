@@ -259,6 +259,11 @@ pub record Transfers : Type 0 where
   pub shown : (r : DA728x) (m : WaveformMemory) (lockAfter : Bool) (st : List ℕ) (cs : List AnswerCall) → length m.«data» ≡ 100 → isSession st ≡ true →
       let s = startedIn st (operation.uploadWaveformMemory r m lockAfter).start in
       completed (final s cs) ≡ true → payload (sent s cs) ≡ addressed (addressOf "SNP_MEM_0") (take m.len m.«data»)
+  -- no other operation writes into it, whatever is answered
+  pub spares : (r : DA728x) (q : Request) → Typed q → isUpload q ≡ false → (b : Begun) (xs : List Step) → (operationOf r q).start ≡ begins b xs →
+      (st : List ℕ) (cs : List AnswerCall) → isSession st ≡ true → payload (sent (begunIn st b xs) cs) ≡ []
+  pub spares-new : (address : ℕ) (variant : Variant) (st : List ℕ) (cs : List AnswerCall) → isSession st ≡ true →
+      payload (sent (startedIn st (operation.new address variant).start) cs) ≡ []
   -- a read fills the front of the buffer with the bytes that came, and changes no other byte
   pub reads : (r : DA728x) (len : ℕ) (buffer : List ℕ) (st : List ℕ) (replies : List Reply) → isSession st ≡ true → length buffer < 2 ^ 64 →
       let s = startedIn st (operation.readWaveformMemory r len (length buffer)).start in
