@@ -521,11 +521,12 @@ uint8_t da728x_lock_waveform_memory(const uint8_t *record, size_t record_len,
  * tells whether they are an image. The session keeps a copy of them. If an exchange fails, the
  * memory may be unlocked and hold a part of each image: upload again before playing.
  * The start sets the count of the record to 0, unless it is refused, or the record or the session
- * is of another length. So does each answer that is taken (da728x_answer says of which records);
- * that to the last exchange, the lock's if it is asked for, sets it to byte 1 of what was uploaded,
- * which in an image is how many sequences it has (0 if there is no byte 1). So after a failure, or
- * if the session is left half-way, da728x_select_sequence and da728x_play_sequence are refused with
- * 28 until an upload is completed. No other byte of the record changes. */
+ * is of another length. So does each answer that is taken (da728x_answer says of which records),
+ * but for the one that completes the upload, the lock's if it is asked for: it sets the count to
+ * byte 1 of what was uploaded, which in an image is how many sequences it has (0 if there is no
+ * byte 1). So after a failure, or if the session is left half-way, da728x_select_sequence and
+ * da728x_play_sequence are refused with 28 until an upload is completed. No other byte of the
+ * record changes. */
 uint8_t da728x_upload_waveform_memory(uint8_t *record, size_t record_len,
                                       const uint8_t *image, size_t image_len, uint8_t lock_after,
                                       uint8_t *session, size_t session_len);
@@ -581,8 +582,8 @@ uint32_t da728x_pending(const uint8_t *session, size_t session_len,
  * session was started for (a variant code above 2 is then written as 2; the count stays). If the
  * session is an upload, every answer but a refused one (19) writes the count, byte 37, where the
  * record has the address that the upload goes to (its variant does not matter): that of the image
- * if this was the last exchange, else 0, also at 17. In every other case, and if record_len is not
- * DA728X_RECORD, no byte of record changes.
+ * if this completes the upload, else 0, so at 17 too, whichever exchange failed. In every other
+ * case, and if record_len is not DA728X_RECORD, no byte of record changes.
  * Where no memory is read buffer may be of any length. */
 uint32_t da728x_answer(uint8_t *record, size_t record_len, uint8_t *session, size_t session_len,
                        uint8_t kind, uint8_t byte, uint8_t *buffer, size_t buffer_len);

@@ -29,12 +29,12 @@ pub record Telling : Type 0 where
   -- what the bus answered: 0 done, 1 a byte, any other kind a failure with its code
   pub replies : (kind byte : ℕ) → (replyOf 0 byte ≡ Done) × (replyOf 1 byte ≡ Byte byte) × (2 ≤ kind → replyOf kind byte ≡ Failed byte)
   -- the record that it writes, as a start does: 38 bytes then hold what the change makes of the record in them; other lengths stay, and one that is left
-  -- keeps its bytes; another count is in the last byte, and the other 37 stay, whatever they are
+  -- keeps its bytes; another count of sequences is in the last byte, and the other 37 stay, whatever they are
   pub records : (l : List ℕ) (c : Change) → length l ≡ 38 → recordAt (recordOut l c) ≡ recordBy (recordAt l) c
   pub spared : (l : List ℕ) (c : Change) → (¬ (length l ≡ 38)) ⊎ (c ≡ Same) → recordOut l c ≡ l
+  pub counted : (l : List ℕ) (n : ℕ) → length l ≡ 38 → recordOut l (Sequences n) ≡ take 37 l ++ (n ∷ [])
   -- bytes of another length are no record: no sequences, whatever they are
   pub none : (l : List ℕ) → ¬ (length l ≡ 38) → recordAt l ≡ record { address = 0; variant = DA7280; settings = Absent; sequences = 0 }
-  pub counted : (l : List ℕ) (n : ℕ) → length l ≡ 38 → recordOut l (Sequences n) ≡ take 37 l ++ (n ∷ [])
   -- da728x_result
   pub results : (st : List ℕ) → Bytes st → let o = outcomeOf st in let word = resultWord o in
       (word % 2 ^ 24 ≡ o.value) × (word / 2 ^ 24 % 256 ≡ o.made) × (word / 2 ^ 32 ≡ codeOf o.completed)

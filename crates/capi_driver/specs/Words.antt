@@ -28,7 +28,7 @@ replyOf kind byte = get_or (Done ∷ Byte byte ∷ []) kind (Failed byte)
 unfoldable pub reportWord : Report → ℕ
 reportWord t = t.number + 256 * t.code + 65536 * t.made + 16777216 * codeOf t.ended
 
--- the caller's record afterwards: bytes of another length stay as they are, and another count alone moves no other byte
+-- the caller's record afterwards: bytes of another length stay as they are, and another count of sequences moves no other byte
 abbrev pub recordOut : List ℕ → Change → List ℕ
 recordOut l Same = l
 recordOut l (To r) = cond (eqb (length l) 38) (recordBytes r) l

@@ -1,7 +1,7 @@
 // The functions exported for C that drive the chip (lib.rs; document 01, 'Exchanges' and 'Rust forms without a counterpart'), on numbers
 // and byte slices; include/da728x.h declares and explains each. The caller lends the session's bytes and the record's; `da728x_pending`
-// and `da728x_answer` run the session, and the answer that completes `new` or `configure` changes the record; so do the start of an upload and each
-// answer to it (document 02, CR 10). Every one is total: any bytes, any lengths.
+// and `da728x_answer` run the session, and the answer that completes `new` or `configure` changes the record; so do the start of an
+// upload and each answer that it takes (document 02, CR 10). Every one is total: any bytes, any lengths.
 // Proved: the answer and every lent byte are those of the definitions of `driver` and `exchange` for the record that the bytes hold; how
 // an answer is one number is specs/Words.antt, and proofs/Telling.antt: each word gives back its parts, and
 // an upload sends the bytes that were handed in.
@@ -337,7 +337,7 @@ fn put(change: Change, out: &mut [u8])
     }
 }
 
-// The start of an upload in these bytes.
+// What the start of an upload does to the record, in a session of these bytes.
 fn zero(record: &mut [u8], session: &[u8])
     ensures { «record».new ≡ recordOut «record».old (zeroing session.now) }
 {

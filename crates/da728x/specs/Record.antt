@@ -1,7 +1,7 @@
 -- Document 01, 'Rust forms without a counterpart': "the record in and out by value"; document 02, CR 10: it "gains the sequence count of the last
 -- wholly uploaded image". The layout is ours.
 -- The driver record as 38 bytes: chip address, variant, 1 for a record without settings or 2 where settings are stored, then the
--- settings, and last the count. Numbers of two bytes have the least byte first; choices are their codes. Read back, a third byte above 1 says
+-- settings, and last the count of sequences. Numbers of two bytes have the least byte first; choices are their codes. Read back, a third byte above 1 says
 -- that settings are stored, and a flag is set by any byte but 0. Bytes of another length, and zeros, are a DA7280 at address 0
 -- without settings and without sequences.
 --   3 actuator type, 4 nominal mV, 6 absolute mV, 8 current mA, 10 impedance mOhm, 12 inductance µH, 14 frequency Hz,

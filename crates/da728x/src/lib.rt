@@ -25,7 +25,7 @@ pub struct DA728x {
     pub address: u8,
     pub variant: Variant,
     pub settings: Settings,
-    // How many sequences the last wholly uploaded image has; 0 while none is.
+    // How many sequences the image of the last upload has, if that was completed; else 0.
     pub sequences: u8,
 }
 

@@ -248,8 +248,8 @@ payload [] = []
 payload (e ∷ es) = cond (leb (addressOf "SNP_MEM_0") (at e.bytes 0)) (addressed (at e.bytes 0) (drop 1 (take e.len e.bytes))) [] ++ payload es
 
 pub record Transfers : Type 0 where
-  -- an upload unlocks the memory first, and where the lock is asked for, it is the last exchange, else there is none (address and bytes are said again
-  -- here); these steps are all that it makes
+  -- an upload makes its steps and reads nothing; it unlocks the memory first, and where the lock is asked for, that is one exchange more, the last
+  -- (address and bytes are said again here)
   pub alone : (r : DA728x) (m : WaveformMemory) (lockAfter : Bool) (b : Begun) (xs : List Step) → (operation.uploadWaveformMemory r m lockAfter).start ≡ begins b xs →
       (b.reads ≡ 0) × (xs ≡ uploadSteps m lockAfter)
   pub unlocks : (m : WaveformMemory) (lockAfter : Bool) → take 1 (uploadSteps m lockAfter) ≡ Write 0x2D 0x80 ∷ []

@@ -2,7 +2,7 @@
 -- Bytes of another length, and those whose stage is not 1, have no step left and are not completed.
 --   0 chip address               6 how many steps               16 what the operation is for
 --   1 stage: 0 not begun,        7 how many memory reads        17 the image to upload, 100 bytes
---     1 begun, 2 broken off      8 length of the read buffer,  117 the record that it is for, 38 bytes
+--     1 begun, 2 broken off      8 length of the read buffer,  117 the record that it carries, 38 bytes
 --   2 exchanges made               8 bytes                     155 the steps, 25 of five bytes
 --   3 the last three bytes read, the newest first
 use Rattle.std.specs.Prelude.{ℕ, suc, zero, ◌+◌, ◌-◌, ◌*◌, min, Bool, true, false, cond, ◌&&◌, List, [], ◌∷◌, ◌++◌, map, ltb, leb, eqb, length, take, drop, set, replicate}

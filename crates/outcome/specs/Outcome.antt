@@ -11,8 +11,8 @@ use Rattle.outcome.specs.declared.Change.TheVariants.{Same, To, Sequences}
 use Rattle.outcome.specs.declared.Outcome.{Outcome}
 
 -- What a session is for: 0 no record and no value, 1 the record of `new`, 2 the settings of `configure`,
--- 3 the byte read last, 4 the last three bytes, 5 how many bytes of memory were read, 6 an upload. The session carries a record: the new one, one with
--- the settings, or one with the address and the number of sequences of the image.
+-- 3 the byte read last, 4 the last three bytes, 5 how many bytes of memory were read, 6 an upload. The sessions of 1, 2 and 6 carry a record: the new one,
+-- one with the settings, one with the address and the image's number of sequences.
 
 -- bytes as one number, the first highest
 abbrev pub bigEndian : ℕ → List ℕ → ℕ
@@ -30,8 +30,8 @@ settling next r = cond (isChipOf next r) (To (record { address = r.address; vari
 abbrev pub forUpload : ℕ
 forUpload = 6
 
--- the start of an upload: "zero .. from the first exchange of any upload". From the start on is ours: it hands that exchange out, and nothing tells
--- when it is on the bus; where the lent bytes are no session, there is none
+-- the start of an upload: "zero .. from the first exchange of any upload". From the start on is ours: of the calls that are lent the record it is the
+-- last before that exchange is on the bus; where the lent bytes are no session, none will be made
 abbrev pub zeroing : List ℕ → Change
 zeroing st = cond (isSession st) (Sequences 0) Same
 

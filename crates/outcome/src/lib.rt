@@ -1,5 +1,6 @@
-// What an answer makes of the record in force, and what a session came to (lib.rs; document 01, 'Exchanges'; document 02,
-// CR 10): what a session is for decides both. Proved: they are those of specs/Outcome.antt, whatever the session's bytes are. Left out: the operations, which are in `driver`.
+// What a start and an answer make of the record in force, and what a session came to (lib.rs; document 01, 'Exchanges'; document 02, CR 10):
+// what a session is for decides both. Proved: they are those of specs/Outcome.antt, whatever the session's bytes are. Left out: the
+// operations, which are in `driver`.
 #![tactic(auto)]
 
 ghost use Rattle.std.specs.Prelude.{min, ◌≡◌, cond, ◌&&◌, ◌||◌, [], ◌∷◌, eqb, length};

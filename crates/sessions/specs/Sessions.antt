@@ -12,7 +12,7 @@ use Rattle.plans.specs.Fields.{put, fresh, written, updated}
 
 -- ---- what a session is begun with
 
--- what stands for an image where nothing is uploaded, and for a record where none is made and no settings are stored
+-- what stands for an image where nothing is uploaded, and for a record where none is made, no settings are stored and nothing is uploaded
 unfoldable pub noImage : List ℕ
 noImage = replicate 100 0
 
