@@ -10,21 +10,21 @@ use borrow.Author.Tests.{lt-ltb, le-ltb, le-leb, lt-leb, ltb-true, ltb-false}
 use lib.Dec.{ltb, leb}
 use lib.ListN.{length, set, take, replicate, get_or, length-set, length-map, length-take}
 use lib.Seq.{take-suc-set}
-use Rattle.laws.specs.Whole.{whole, wholeOut}
-use Rattle.errors.specs.Told.{Told, gives, refuses, toldBy, toldNumber, Handed, Built, accepted, refused}
+use Rattle.laws.specs.Whole.{whole, whole_out}
+use Rattle.errors.specs.Told.{Told, gives, refuses, told_by, told_number, Handed, Built, accepted, refused}
 use Rattle.snippet.specs.declared.Snippet.{Snippet}
 use Rattle.snippet.specs.declared.SnippetBuilder.{SnippetBuilder}
-use Rattle.snippet.specs.Snippet.{snippetBytes}
+use Rattle.snippet.specs.Snippet.{snippet_bytes}
 use Rattle.sequence.specs.declared.Sequence.{Sequence}
 use Rattle.sequence.specs.declared.SequenceBuilder.{SequenceBuilder}
-use Rattle.sequence.specs.Sequence.{sequenceBytes}
-use Rattle.memory.specs.Image.{imageBytes}
-use Rattle.memory.specs.Memory.{newMemory, snippetItems, sequenceItems, noMemory, memoryOf, imageNumber, builtMemory}
+use Rattle.sequence.specs.Sequence.{sequence_bytes}
+use Rattle.memory.specs.Image.{image_bytes}
+use Rattle.memory.specs.Memory.{new_memory, snippet_items, sequence_items, no_memory, memory_of, image_number, built_memory}
 use Rattle.memory.specs.declared.WaveformMemoryBuilder.{WaveformMemoryBuilder}
 use Rattle.assemble.specs.Kept as pool
-use Rattle.assemble.specs.Kept.{kept, Pushed, PushedUnless, addedNumber, KeptBoth}
+use Rattle.assemble.specs.Kept.{kept, Pushed, PushedUnless, added_number, KeptBoth}
 use Rattle.assemble.proofs.Keeping.{count}
-use Rattle.pattern.proofs.Items.{withBuiltSnippet, withBuiltSequence}
+use Rattle.pattern.proofs.Items.{with_built_snippet, with_built_sequence}
 use Rattle.assemble.specs.Holding.{Keeps, KeepsMemory, StepsSnippets, StepsSequences}
 
 -- ---- an array whose first n items are kept
@@ -42,8 +42,8 @@ module _ {A : Type 0} (most : ℕ) (f : A → List ℕ) (array : List A) (n : �
   kept_by : (t : Bool) (x l' : List ℕ) → ltb (length items) most ≡ t → Pushed most x l l' → l' ≡ kept most (cond t (items ++ (x ∷ [])) items)
   kept_by t x l' e p = p items (let h = k.room in let g = counted in omega arith) k.same ∙ ap (λ (u : Bool). kept most (cond u (items ++ (x ∷ [])) items)) e
 
-  pub keeps-more : (a : A) (x l' : List ℕ) → n < most → x ≡ f a → Pushed most x l l' → Keeps most f (set array n a) (n + 1) l'
-  keeps-more a x l' h e p =
+  pub keeps_more : (a : A) (x l' : List ℕ) → n < most → x ≡ f a → Pushed most x l l' → Keeps most f (set array n a) (n + 1) l'
+  keeps_more a x l' h e p =
       let s : map f (take (n + 1) (set array n a)) ≡ items ++ (f a ∷ []) =
       ap (λ (j : ℕ). map f (take j (set array n a))) (add-one n)
       ∙ ap (map f) (take-suc-set array n a (let g = k.long in omega arith))
@@ -54,8 +54,8 @@ module _ {A : Type 0} (most : ℕ) (f : A → List ℕ) (array : List A) (n : �
         same = kept_by true x l' (lt-ltb (length items) most (let g = counted in omega arith)) p ∙ ap (λ (y : List ℕ). kept most (items ++ (y ∷ []))) e ∙ ap (kept most) (sym s);
       }
 
-  pub keeps-full : (x l' : List ℕ) → most ≤ n → Pushed most x l l' → Keeps most f array n l'
-  keeps-full x l' h p =
+  pub keeps_full : (x l' : List ℕ) → most ≤ n → Pushed most x l l' → Keeps most f array n l'
+  keeps_full x l' h p =
       record { long = k.long; room = k.room; same = kept_by false x l' (le-ltb (length items) most (let g = counted in omega arith)) p }
 
 -- ---- a builder M with such an array
@@ -80,21 +80,21 @@ module _ {M A : Type 0} (most full : ℕ) (f : A → List ℕ) (array : M → Li
     by n true u g p m h w = (g, subst (Holds m) (sym p) h)
     by n false true g p m h w =
         let b : num m < most = let c = number_is most f (array m) (num m) l h in let d = ltb-true (get_or l 0 0) most w in omega arith in
-        let r = keeps-more most f (array m) (num m) l h a x l' b e p in
+        let r = keeps_more most f (array m) (num m) l h a x l' b e p in
         rw (lt-leb most (num m) b) (g, rw (sets m a, counts m a) r)
     by n false false g p m h w =
         let b : most ≤ num m = let c = number_is most f (array m) (num m) l h in let d = ltb-false (get_or l 0 0) most w in omega arith in
-        rw (le-leb most (num m) b) (g, keeps-full most f (array m) (num m) l h x l' b p)
+        rw (le-leb most (num m) b) (g, keeps_full most f (array m) (num m) l h x l' b p)
 
     -- where the code's number j is k, and its own `full` is this one
-    pub added : (n j i : ℕ) → j ≡ k → i ≡ full → n ≡ addedNumber most i j l → PushedUnless (ltb 0 j) most x l l' → Steps k a l n l'
+    pub added : (n j i : ℕ) → j ≡ k → i ≡ full → n ≡ added_number most i j l → PushedUnless (ltb 0 j) most x l l' → Steps k a l n l'
     added n j i u v g p m h =
-        by n (ltb 0 k) (ltb (get_or l 0 0) most) (g ∙ ap₂ (λ (d c : ℕ). addedNumber most c d l) u v) (subst (λ (d : ℕ). PushedUnless (ltb 0 d) most x l l') u p) m h refl
+        by n (ltb 0 k) (ltb (get_or l 0 0) most) (g ∙ ap₂ (λ (d c : ℕ). added_number most c d l) u v) (subst (λ (d : ℕ). PushedUnless (ltb 0 d) most x l l') u p) m h refl
 
 -- ---- the memory's builder
 
-abbrev moreSnippets : WaveformMemoryBuilder → Snippet → WaveformMemoryBuilder
-moreSnippets m s =
+abbrev more_snippets : WaveformMemoryBuilder → Snippet → WaveformMemoryBuilder
+more_snippets m s =
     record {
       snippets = set m.snippets m.num_snippets s;
       sequences = m.sequences;
@@ -103,8 +103,8 @@ moreSnippets m s =
       acceleration_enabled = m.acceleration_enabled;
     }
 
-abbrev moreSequences : WaveformMemoryBuilder → Sequence → WaveformMemoryBuilder
-moreSequences m s =
+abbrev more_sequences : WaveformMemoryBuilder → Sequence → WaveformMemoryBuilder
+more_sequences m s =
     record {
       snippets = m.snippets;
       sequences = set m.sequences m.num_sequences s;
@@ -114,42 +114,42 @@ moreSequences m s =
     }
 
 module _ (r : Built Snippet SnippetBuilder) (l : List ℕ) where
-  pub snippet-added : (n j i : ℕ) (x l' : List ℕ) → j ≡ r.number → i ≡ 6 → n ≡ addedNumber 15 i j l → x ≡ snippetBytes r.item → PushedUnless (ltb 0 j) 15 x l l'
-      → StepsSnippets (λ m. withBuiltSnippet m r) l n l'
-  snippet-added n j i x l' u v e f p =
-      added 15 6 snippetBytes (λ m. m.snippets) (λ m. m.num_snippets) moreSnippets (λ m a. refl) (λ m a. refl) r.number r.item l l' x f n j i u v e p
+  pub snippet_added : (n j i : ℕ) (x l' : List ℕ) → j ≡ r.number → i ≡ 6 → n ≡ added_number 15 i j l → x ≡ snippet_bytes r.item → PushedUnless (ltb 0 j) 15 x l l'
+      → StepsSnippets (λ m. with_built_snippet m r) l n l'
+  snippet_added n j i x l' u v e f p =
+      added 15 6 snippet_bytes (λ m. m.snippets) (λ m. m.num_snippets) more_snippets (λ m a. refl) (λ m a. refl) r.number r.item l l' x f n j i u v e p
 
 module _ (r : Built Sequence SequenceBuilder) (l : List ℕ) where
-  pub sequence-added : (n j i : ℕ) (x l' : List ℕ) → j ≡ r.number → i ≡ 7 → n ≡ addedNumber 16 i j l → x ≡ sequenceBytes r.item → PushedUnless (ltb 0 j) 16 x l l'
-      → StepsSequences (λ m. withBuiltSequence m r) l n l'
-  sequence-added n j i x l' u v e f p =
-      added 16 7 sequenceBytes (λ m. m.sequences) (λ m. m.num_sequences) moreSequences (λ m a. refl) (λ m a. refl) r.number r.item l l' x f n j i u v e p
+  pub sequence_added : (n j i : ℕ) (x l' : List ℕ) → j ≡ r.number → i ≡ 7 → n ≡ added_number 16 i j l → x ≡ sequence_bytes r.item → PushedUnless (ltb 0 j) 16 x l l'
+      → StepsSequences (λ m. with_built_sequence m r) l n l'
+  sequence_added n j i x l' u v e f p =
+      added 16 7 sequence_bytes (λ m. m.sequences) (λ m. m.num_sequences) more_sequences (λ m a. refl) (λ m a. refl) r.number r.item l l' x f n j i u v e p
 
 -- ---- from nothing to an image
 
-pub keeps-none : KeepsMemory (newMemory false) (replicate 116 0) (replicate 117 0)
+pub keeps_none : KeepsMemory (new_memory false) (replicate 116 0) (replicate 117 0)
 unfolding kept
-keeps-none = (record { long = refl; room = omega arith; same = refl }, record { long = refl; room = omega arith; same = refl })
+keeps_none = (record { long = refl; room = omega arith; same = refl }, record { long = refl; room = omega arith; same = refl })
 
 -- the image that the bytes build is the builder's
 module _ (m : WaveformMemoryBuilder) (l k : List ℕ) (w : KeepsMemory m l k) where
-  pub kept-both : length l ≡ 116 → length k ≡ 117 → KeptBoth l k
-  kept-both p q =
-      let a = number_is 15 snippetBytes m.snippets m.num_snippets l w.0 in
-      let b = number_is 16 sequenceBytes m.sequences m.num_sequences k w.1 in
-      record { snippetsLong = p; sequencesLong = q; snippetsFew = omega (arith, w.0.room); sequencesFew = omega (arith, w.1.room) }
+  pub kept_both : length l ≡ 116 → length k ≡ 117 → KeptBoth l k
+  kept_both p q =
+      let a = number_is 15 snippet_bytes m.snippets m.num_snippets l w.0 in
+      let b = number_is 16 sequence_bytes m.sequences m.num_sequences k w.1 in
+      record { snippets_long = p; sequences_long = q; snippets_few = omega (arith, w.0.room); sequences_few = omega (arith, w.1.room) }
 
-  pub image-built : (buffer buffer' : List ℕ) (n : ℕ) → pool.ImageLaid l k buffer n buffer'
-      → let item = toldBy (builtMemory m).number (builtMemory m).item.«data» in (n ≡ toldNumber (whole buffer item)) × (buffer' ≡ wholeOut buffer item)
-  unfolding builtMemory
-  image-built buffer buffer' n r =
-      let a = counted 15 snippetBytes m.snippets m.num_snippets l w.0 in
-      let b = counted 16 sequenceBytes m.sequences m.num_sequences k w.1 in
-      let p = r (snippetItems m) (sequenceItems m) (omega (arith, w.0.room)) (omega (arith, w.1.room)) w.0.same w.1.same in
-      let item = same (ltb 0 (imageNumber (snippetItems m) (sequenceItems m))) in
-      (p.0 ∙ ap (λ (t : Told (List ℕ)). toldNumber (whole buffer t)) item, p.1 ∙ ap (wholeOut buffer) item)
+  pub image_built : (buffer buffer' : List ℕ) (n : ℕ) → pool.ImageLaid l k buffer n buffer'
+      → let item = told_by (built_memory m).number (built_memory m).item.«data» in (n ≡ told_number (whole buffer item)) × (buffer' ≡ whole_out buffer item)
+  unfolding built_memory
+  image_built buffer buffer' n r =
+      let a = counted 15 snippet_bytes m.snippets m.num_snippets l w.0 in
+      let b = counted 16 sequence_bytes m.sequences m.num_sequences k w.1 in
+      let p = r (snippet_items m) (sequence_items m) (omega (arith, w.0.room)) (omega (arith, w.1.room)) w.0.same w.1.same in
+      let item = same (ltb 0 (image_number (snippet_items m) (sequence_items m))) in
+      (p.0 ∙ ap (λ (t : Told (List ℕ)). told_number (whole buffer t)) item, p.1 ∙ ap (whole_out buffer) item)
     where
-      same : (t : Bool) → cond {A = Told (List ℕ)} t (refuses (imageNumber (snippetItems m) (sequenceItems m))) (gives (imageBytes (snippetItems m) (sequenceItems m)))
-          ≡ cond t (refuses (imageNumber (snippetItems m) (sequenceItems m))) (gives (cond t noMemory (memoryOf (snippetItems m) (sequenceItems m))).«data»)
+      same : (t : Bool) → cond {A = Told (List ℕ)} t (refuses (image_number (snippet_items m) (sequence_items m))) (gives (image_bytes (snippet_items m) (sequence_items m)))
+          ≡ cond t (refuses (image_number (snippet_items m) (sequence_items m))) (gives (cond t no_memory (memory_of (snippet_items m) (sequence_items m))).«data»)
       same true = refl
       same false = refl

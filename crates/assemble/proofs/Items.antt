@@ -7,67 +7,67 @@ use native.Mathlib.Omega.{arith}
 use borrow.Author.Tests.{lt-ltb, le-ltb}
 use lib.Dec.{ltb}
 use lib.ListN.{length, take, length-append}
-use Rattle.errors.specs.Told.{Told, gives, refuses, onTold, toldBy, built}
-use Rattle.snippet.specs.Snippet.{pwlByte, noSnippet, snippetBytes}
-use Rattle.sequence.specs.Sequence.{noSequence, sequenceBytes}
+use Rattle.errors.specs.Told.{Told, gives, refuses, on_told, told_by, built}
+use Rattle.snippet.specs.Snippet.{pwl_byte, no_snippet, snippet_bytes}
+use Rattle.sequence.specs.Sequence.{no_sequence, sequence_bytes}
 use Rattle.frame.specs.declared.FrameBuilder.{FrameBuilder}
-use Rattle.frame.specs.Frame.{bytesOf, frameBytes, builtFrame}
-use Rattle.content.specs.Content.{byteOf, framesBytes}
+use Rattle.frame.specs.Frame.{bytes_of, frame_bytes, built_frame}
+use Rattle.content.specs.Content.{byte_of, frames_bytes}
 use Rattle.calls.specs.declared.UnderWay.TheVariants as UnderWay
-use Rattle.calls.specs.Calls.{frameBegun}
-use Rattle.pattern.specs.Calls.{snippetFrom, pointsFrom, begunBy, FrameCalls, frameFrom, sequenceFrom, framesFrom}
-use Rattle.pattern.proofs.Items.{frameRan}
-use Rattle.pattern.proofs.Snippets.{snippet-holds}
-use Rattle.pattern.proofs.Frames.{built-bytes, FrameOutcome, frame-outcome}
-use Rattle.pattern.proofs.Sequences.{sequence-holds}
-use Rattle.assemble.specs.Lists.{groupsOf}
-use Rattle.assemble.specs.Items.{snippetItem, sequenceItem, WholeItems}
+use Rattle.calls.specs.Calls.{frame_begun}
+use Rattle.pattern.specs.Calls.{snippet_from, points_from, begun_by, FrameCalls, frame_from, sequence_from, frames_from}
+use Rattle.pattern.proofs.Items.{frame_ran}
+use Rattle.pattern.proofs.Snippets.{snippet_holds}
+use Rattle.pattern.proofs.Frames.{built_bytes, FrameOutcome, frame_outcome}
+use Rattle.pattern.proofs.Sequences.{sequence_holds}
+use Rattle.assemble.specs.Lists.{groups_of}
+use Rattle.assemble.specs.Items.{snippet_item, sequence_item, WholeItems}
 use Rattle.assemble.proofs.Assembly.{Three, three}
 
 -- what building tells
-built-told : {I B : Type 0} (bytes : I → List ℕ) (n : ℕ) (none item : I) (b : B) (t : Bool) → 0 < n
-    → let r = cond t (built n none b) (built 0 item b) in toldBy r.number (bytes r.item) ≡ cond t (refuses n) (gives (bytes item))
-built-told bytes n none item b true h = simp (lt-ltb 0 n h)
-built-told bytes n none item b false h = refl
+built_told : {I B : Type 0} (bytes : I → List ℕ) (n : ℕ) (none item : I) (b : B) (t : Bool) → 0 < n
+    → let r = cond t (built n none b) (built 0 item b) in told_by r.number (bytes r.item) ≡ cond t (refuses n) (gives (bytes item))
+built_told bytes n none item b true h = simp (lt-ltb 0 n h)
+built_told bytes n none item b false h = refl
 
-map-take : {A B : Type 0} (f : A → B) (n : ℕ) (l : List A) → take n (map f l) ≡ map f (take n l)
-map-take f zero l = refl
-map-take f (suc n) [] = refl
-map-take f (suc n) (x ∷ l) = ap (λ r. f x ∷ r) (map-take f n l)
+map_take : {A B : Type 0} (f : A → B) (n : ℕ) (l : List A) → take n (map f l) ≡ map f (take n l)
+map_take f zero l = refl
+map_take f (suc n) [] = refl
+map_take f (suc n) (x ∷ l) = ap (λ r. f x ∷ r) (map_take f n l)
 
 -- a sequence has bytes exactly if it has frames
-frames-some : (fs : List FrameBuilder) (n : ℕ) → n ≡ length (framesBytes fs) → ltb n 1 ≡ ltb (length fs) 1
-frames-some [] n e = ap (λ (k : ℕ). ltb k 1) e
-frames-some (f ∷ fs) n e = le-ltb n 1 (omega (arith, e, length-append (bytesOf f) (framesBytes fs))) ∙ sym (le-ltb (length (f ∷ fs)) 1 (omega arith))
+frames_some : (fs : List FrameBuilder) (n : ℕ) → n ≡ length (frames_bytes fs) → ltb n 1 ≡ ltb (length fs) 1
+frames_some [] n e = ap (λ (k : ℕ). ltb k 1) e
+frames_some (f ∷ fs) n e = le-ltb n 1 (omega (arith, e, length-append (bytes_of f) (frames_bytes fs))) ∙ sym (le-ltb (length (f ∷ fs)) 1 (omega arith))
 
 -- a frame that is begun is built of its fields
 module _ (m : FrameCalls) where
-  frame-told : (t : Told FrameBuilder) → FrameOutcome m t → Three t
-      → onTold (frameBegun (onTold t (λ f. UnderWay.Begun (frameRan f m.calls)) (λ n. UnderWay.NotBegun))) (λ f. gives (frameBytes (builtFrame f))) refuses
-      ≡ onTold t (λ f. gives (bytesOf (frameFrom m))) refuses
-  frame-told (gives f) w h = ap gives (built-bytes (frameRan f m.calls) ∙ ap bytesOf w.0)
-  frame-told (refuses n) w h = ap refuses (sym h)
+  frame_told : (t : Told FrameBuilder) → FrameOutcome m t → Three t
+      → on_told (frame_begun (on_told t (λ f. UnderWay.Begun (frame_ran f m.calls)) (λ n. UnderWay.NotBegun))) (λ f. gives (frame_bytes (built_frame f))) refuses
+      ≡ on_told t (λ f. gives (bytes_of (frame_from m))) refuses
+  frame_told (gives f) w h = ap gives (built_bytes (frame_ran f m.calls) ∙ ap bytes_of w.0)
+  frame_told (refuses n) w h = ap refuses (sym h)
 
 module _ (calls : List ℕ) where
-  whole-snippet : let ps = pointsFrom (groupsOf calls).snippet in snippetItem calls ≡ cond (ltb (length ps) 1) (refuses 9) (gives (map byteOf ps))
-  whole-snippet =
-      let b = snippetFrom (groupsOf calls).snippet in
-      let h = (snippet-holds (groupsOf calls).snippet).shows in
-      let shown = map-take pwlByte b.len b.points ∙ h.shown in
-      built-told snippetBytes 9 noSnippet (record { points = b.points; len = b.len }) b (ltb b.len 1) (omega arith) ∙ (λ i. cond (ltb (h.counted i) 1) (refuses 9) (gives (shown i)))
+  whole_snippet : let ps = points_from (groups_of calls).snippet in snippet_item calls ≡ cond (ltb (length ps) 1) (refuses 9) (gives (map byte_of ps))
+  whole_snippet =
+      let b = snippet_from (groups_of calls).snippet in
+      let h = (snippet_holds (groups_of calls).snippet).shows in
+      let shown = map_take pwl_byte b.len b.points ∙ h.shown in
+      built_told snippet_bytes 9 no_snippet (record { points = b.points; len = b.len }) b (ltb b.len 1) (omega arith) ∙ (λ i. cond (ltb (h.counted i) 1) (refuses 9) (gives (shown i)))
 
-  whole-sequence : let fs = framesFrom (groupsOf calls).sequence in sequenceItem calls ≡ cond (ltb (length fs) 1) (refuses 10) (gives (framesBytes fs))
-  whole-sequence =
-      let b = sequenceFrom (groupsOf calls).sequence in
-      let h = sequence-holds (groupsOf calls).sequence in
-      let some = frames-some (framesFrom (groupsOf calls).sequence) b.len h.counted in
-      built-told sequenceBytes 10 noSequence (record { «data» = b.«data»; len = b.len }) b (ltb b.len 1) (omega arith) ∙ (λ i. cond (some i) (refuses 10) (gives (h.shown i)))
+  whole_sequence : let fs = frames_from (groups_of calls).sequence in sequence_item calls ≡ cond (ltb (length fs) 1) (refuses 10) (gives (frames_bytes fs))
+  whole_sequence =
+      let b = sequence_from (groups_of calls).sequence in
+      let h = sequence_holds (groups_of calls).sequence in
+      let some = frames_some (frames_from (groups_of calls).sequence) b.len h.counted in
+      built_told sequence_bytes 10 no_sequence (record { «data» = b.«data»; len = b.len }) b (ltb b.len 1) (omega arith) ∙ (λ i. cond (some i) (refuses 10) (gives (h.shown i)))
 
-  pub whole-items : WholeItems calls
-  whole-items =
-      let m = (groupsOf calls).frame in
+  pub whole_items : WholeItems calls
+  whole_items =
+      let m = (groups_of calls).frame in
       record {
-        snippet = whole-snippet;
-        frame = frame-told m (begunBy m.begin) (frame-outcome m.begin m.calls) (three m.begin);
-        sequence = whole-sequence;
+        snippet = whole_snippet;
+        frame = frame_told m (begun_by m.begin) (frame_outcome m.begin m.calls) (three m.begin);
+        sequence = whole_sequence;
       }

@@ -10,32 +10,32 @@ use lib.ListN.{length, take, drop, length-append, length-take, length-drop, drop
 use lib.Seq.{take_all, take_at, drop_at, drop-drop, take-append-le, take-append-add}
 use Rattle.laws.specs.Copied.{copied, over}
 use Rattle.laws.specs.Lists.{joined}
-use Rattle.memory.specs.Image.{endPointers}
-use Rattle.assemble.specs.Kept.{sumOf, ends}
+use Rattle.memory.specs.Image.{end_pointers}
+use Rattle.assemble.specs.Kept.{sum_of, ends}
 
 -- ---- of items
 
-pub sumOf-lengths : (items : List (List ℕ)) → sumOf (map length items) ≡ length (joined items)
-sumOf-lengths [] = refl
-sumOf-lengths (x ∷ xs) = ap (λ (n : ℕ). length x + n) (sumOf-lengths xs) ∙ sym (length-append x (joined xs))
+pub sum_of_lengths : (items : List (List ℕ)) → sum_of (map length items) ≡ length (joined items)
+sum_of_lengths [] = refl
+sum_of_lengths (x ∷ xs) = ap (λ (n : ℕ). length x + n) (sum_of_lengths xs) ∙ sym (length-append x (joined xs))
 
-pub ends-pointers : (items : List (List ℕ)) (before : ℕ) → ends before (map length items) ≡ endPointers before items
-ends-pointers [] before = refl
-ends-pointers (x ∷ xs) before = ap (λ (l : List ℕ). (before + length x) ∷ l) (ends-pointers xs (before + length x))
+pub ends_pointers : (items : List (List ℕ)) (before : ℕ) → ends before (map length items) ≡ end_pointers before items
+ends_pointers [] before = refl
+ends_pointers (x ∷ xs) before = ap (λ (l : List ℕ). (before + length x) ∷ l) (ends_pointers xs (before + length x))
 
-pub ends-append : (xs ys : List ℕ) (before : ℕ) → ends before (xs ++ ys) ≡ ends before xs ++ ends (before + sumOf xs) ys
-ends-append [] ys before = ap (λ (k : ℕ). ends k ys) (sym (add-zero before))
-ends-append (x ∷ xs) ys before =
-    let e : before + x + sumOf xs ≡ before + (x + sumOf xs) = omega arith in
-    ap (λ (l : List ℕ). (before + x) ∷ l) (ends-append xs ys (before + x) ∙ ap (λ (k : ℕ). ends (before + x) xs ++ ends k ys) e)
+pub ends_append : (xs ys : List ℕ) (before : ℕ) → ends before (xs ++ ys) ≡ ends before xs ++ ends (before + sum_of xs) ys
+ends_append [] ys before = ap (λ (k : ℕ). ends k ys) (sym (add-zero before))
+ends_append (x ∷ xs) ys before =
+    let e : before + x + sum_of xs ≡ before + (x + sum_of xs) = omega arith in
+    ap (λ (l : List ℕ). (before + x) ∷ l) (ends_append xs ys (before + x) ∙ ap (λ (k : ℕ). ends (before + x) xs ++ ends k ys) e)
 
-pub joined-append : (xs ys : List (List ℕ)) → joined (xs ++ ys) ≡ joined xs ++ joined ys
-joined-append [] ys = refl
-joined-append (x ∷ xs) ys = ap (λ (l : List ℕ). x ++ l) (joined-append xs ys) ∙ sym (append_assoc x (joined xs) (joined ys))
+pub joined_append : (xs ys : List (List ℕ)) → joined (xs ++ ys) ≡ joined xs ++ joined ys
+joined_append [] ys = refl
+joined_append (x ∷ xs) ys = ap (λ (l : List ℕ). x ++ l) (joined_append xs ys) ∙ sym (append_assoc x (joined xs) (joined ys))
 
-pub ends-length : (l : List ℕ) (before : ℕ) → length (ends before l) ≡ length l
-ends-length [] before = refl
-ends-length (x ∷ l) before = ap suc (ends-length l (before + x))
+pub ends_length : (l : List ℕ) (before : ℕ) → length (ends before l) ≡ length l
+ends_length [] before = refl
+ends_length (x ∷ l) before = ap suc (ends_length l (before + x))
 
 -- ---- bytes behind others
 
@@ -68,8 +68,8 @@ copied_more z a b = go (dec_le (length a) (length z)) where
       ∙ sym (ap (λ (l : List ℕ). l ++ drop (length (a ++ b)) z) t ∙ ap (λ (l : List ℕ). take (length z) a ++ l) r)
 
 -- laid behind what was laid
-pub over-more : (l a b : List ℕ) (at next : ℕ) → next ≡ at + length a → at ≤ length l → over (over l at a) next b ≡ over l at (a ++ b)
-over-more l a b at next e h =
+pub over_more : (l a b : List ℕ) (at next : ℕ) → next ≡ at + length a → at ≤ length l → over (over l at a) next b ≡ over l at (a ++ b)
+over_more l a b at next e h =
     let p : List ℕ = take at l ++ a in
     let d : List ℕ = drop (at + length a) l in
     let n : length p ≡ next = simp (length-append, length-take) (omega arith) in

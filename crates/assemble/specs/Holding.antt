@@ -1,12 +1,12 @@
 -- Bytes that keep what a memory's builder holds (Kept.antt), which the private functions work on instead of the builder.
 use Rattle.std.specs.Prelude.{ℕ, ◌≤◌, ◌≡◌, List, map, length, take}
 use Rattle.errors.specs.Told.{Handed}
-use Rattle.snippet.specs.Snippet.{snippetBytes}
-use Rattle.sequence.specs.Sequence.{sequenceBytes}
+use Rattle.snippet.specs.Snippet.{snippet_bytes}
+use Rattle.sequence.specs.Sequence.{sequence_bytes}
 use Rattle.calls.specs.Said.{Call}
 use Rattle.calls.specs.declared.Builders.{Builders}
 use Rattle.memory.specs.declared.WaveformMemoryBuilder.{WaveformMemoryBuilder}
-use Rattle.assemble.specs.Flat.{State, state, flatCalled}
+use Rattle.assemble.specs.Flat.{State, state, flat_called}
 use Rattle.assemble.specs.Kept.{kept}
 
 -- the bytes l keep the first n items of an array
@@ -16,10 +16,10 @@ pub record Keeps {A : Type 0} (most : ℕ) (bytes : A → List ℕ) (array : Lis
   pub same : l ≡ kept most (map bytes (take n array))
 
 abbrev pub KeepsSnippets : WaveformMemoryBuilder → List ℕ → Type 0
-KeepsSnippets m l = Keeps 15 snippetBytes m.snippets m.num_snippets l
+KeepsSnippets m l = Keeps 15 snippet_bytes m.snippets m.num_snippets l
 
 abbrev pub KeepsSequences : WaveformMemoryBuilder → List ℕ → Type 0
-KeepsSequences m l = Keeps 16 sequenceBytes m.sequences m.num_sequences l
+KeepsSequences m l = Keeps 16 sequence_bytes m.sequences m.num_sequences l
 
 abbrev pub KeepsMemory : WaveformMemoryBuilder → List ℕ → List ℕ → Type 0
 KeepsMemory m l k = KeepsSnippets m l × KeepsSequences m k
@@ -32,11 +32,11 @@ abbrev pub StepsSequences : (WaveformMemoryBuilder → Handed WaveformMemoryBuil
 StepsSequences step l n l' = (m : WaveformMemoryBuilder) → KeepsSequences m l → (n ≡ (step m).number) × KeepsSequences (step m).builder l'
 
 -- the three builders with the number of a call
-abbrev pub shownBy : Handed State → Handed Builders
-shownBy r = record { number = r.number; builder = r.builder.builders }
+abbrev pub shown_by : Handed State → Handed Builders
+shown_by r = record { number = r.number; builder = r.builder.builders }
 
 -- a call on all four, told by its number and the three builders after it
 abbrev pub StepsMemory : Builders → Call → List ℕ → List ℕ → Handed Builders → List ℕ → List ℕ → Type 0
 StepsMemory b call l k told l' k' =
     (m : WaveformMemoryBuilder) → KeepsMemory m l k
-    → (told ≡ shownBy (flatCalled (state b m) call)) × KeepsMemory (flatCalled (state b m) call).builder.memory l' k'
+    → (told ≡ shown_by (flat_called (state b m) call)) × KeepsMemory (flat_called (state b m) call).builder.memory l' k'

@@ -1,23 +1,23 @@
 -- Items kept in lent bytes: their number, a length for each, then their bytes, of which a hundred have room.
 use Rattle.std.specs.Prelude.{ℕ, ◌+◌, ◌-◌, ◌≤◌, ◌≡◌, Bool, true, false, cond, List, [], ◌∷◌, ◌++◌, map, ltb, length, get_or, replicate}
-use Rattle.errors.specs.Told.{toldBy, toldNumber}
+use Rattle.errors.specs.Told.{told_by, told_number}
 use Rattle.laws.specs.Copied.{copied}
-use Rattle.laws.specs.Whole.{whole, wholeOut}
+use Rattle.laws.specs.Whole.{whole, whole_out}
 use Rattle.laws.specs.Lists.{joined}
-use Rattle.memory.specs.Image.{imageBytes}
-use Rattle.memory.specs.Memory.{imageNumber}
+use Rattle.memory.specs.Image.{image_bytes}
+use Rattle.memory.specs.Memory.{image_number}
 
 -- how many bytes that takes, for `most` items
-abbrev pub roomFor : ℕ → ℕ
-roomFor most = 101 + most
+abbrev pub room_for : ℕ → ℕ
+room_for most = 101 + most
 
 -- where there is room for the lengths of `most` items
 unfoldable pub kept : ℕ → List (List ℕ) → List ℕ
 kept most items = length items ∷ (map length items ++ replicate (most - length items) 0) ++ copied (replicate 100 0) (joined items)
 
-abbrev pub sumOf : List ℕ → ℕ
-sumOf [] = 0
-sumOf (x ∷ xs) = x + sumOf xs
+abbrev pub sum_of : List ℕ → ℕ
+sum_of [] = 0
+sum_of (x ∷ xs) = x + sum_of xs
 
 -- the index of each item's last byte, by the items' lengths
 abbrev pub ends : ℕ → List ℕ → List ℕ
@@ -35,20 +35,20 @@ PushedUnless true most bytes l l' = l' ≡ l
 PushedUnless false most bytes l l' = Pushed most bytes l l'
 
 -- the number of an item that is added: its own refusal, else `full` where there is no room
-abbrev pub addedNumber : ℕ → ℕ → ℕ → List ℕ → ℕ
-addedNumber most full number l = cond (ltb 0 number) number (cond (ltb (get_or l 0 0) most) 0 full)
+abbrev pub added_number : ℕ → ℕ → ℕ → List ℕ → ℕ
+added_number most full number l = cond (ltb 0 number) number (cond (ltb (get_or l 0 0) most) 0 full)
 
 -- ---- the image
 
 -- lengths and bytes of snippets, then of sequences, that fit into an image
 pub record Fits (ls xs ks ys : List ℕ) : Type 0 where
   pub size : length ls + length ks + length xs + length ys ≤ 98
-  pub snippetsLaid : sumOf ls ≡ length xs
-  pub sequencesLaid : sumOf ks ≡ length ys
+  pub snippets_laid : sum_of ls ≡ length xs
+  pub sequences_laid : sum_of ks ≡ length ys
 
 -- the image that they make
-abbrev pub imageFrom : List ℕ → List ℕ → List ℕ → List ℕ → List ℕ
-imageFrom ls xs ks ys =
+abbrev pub image_from : List ℕ → List ℕ → List ℕ → List ℕ → List ℕ
+image_from ls xs ks ys =
     length ls ∷ length ks
     ∷ ends (1 + length ls + length ks) (ls ++ ks)
     ++ xs
@@ -57,13 +57,13 @@ imageFrom ls xs ks ys =
 
 -- bytes that keep snippets and sequences: as long as that takes, and no more of them than there can be
 pub record KeptBoth (l k : List ℕ) : Type 0 where
-  pub snippetsLong : length l ≡ roomFor 15
-  pub sequencesLong : length k ≡ roomFor 16
-  pub snippetsFew : get_or l 0 0 ≤ 15
-  pub sequencesFew : get_or k 0 0 ≤ 16
+  pub snippets_long : length l ≡ room_for 15
+  pub sequences_long : length k ≡ room_for 16
+  pub snippets_few : get_or l 0 0 ≤ 15
+  pub sequences_few : get_or k 0 0 ≤ 16
 
 -- the answer and the buffer after the image of snippets and sequences that are kept was built
 abbrev pub ImageLaid : List ℕ → List ℕ → List ℕ → ℕ → List ℕ → Type 0
 ImageLaid l k buffer n buffer' =
     (ss qs : List (List ℕ)) → length ss ≤ 15 → length qs ≤ 16 → l ≡ kept 15 ss → k ≡ kept 16 qs
-    → let item = toldBy (imageNumber ss qs) (imageBytes ss qs) in (n ≡ toldNumber (whole buffer item)) × (buffer' ≡ wholeOut buffer item)
+    → let item = told_by (image_number ss qs) (image_bytes ss qs) in (n ≡ told_number (whole buffer item)) × (buffer' ≡ whole_out buffer item)

@@ -11,16 +11,16 @@ mod pool;
 
 ghost use Rattle.std.specs.Prelude.{◌≡◌, false, cond, min, ◌+◌, ◌≤◌, ◌<◌, ltb, length, replicate, set};
 ghost use Rattle.laws.specs.Copied.{copied};
-ghost use Rattle.laws.specs.Whole.{wholeOut};
-ghost use Rattle.errors.specs.Number.{answerNumber};
+ghost use Rattle.laws.specs.Whole.{whole_out};
+ghost use Rattle.errors.specs.Number.{answer_number};
 ghost use Rattle.errors.specs.Told.{handed, built};
-ghost use Rattle.memory.specs.Memory.{withSnippet, withSequence};
-ghost use Rattle.calls.specs.Calls.{callsIn, callOf};
-ghost use Rattle.pattern.specs.Calls.{memoryFrom, withBuilt};
-ghost use Rattle.assemble.specs.Lists.{groupsOf, answersOf, buildersOf, lastPlace, withPlace, firstRefused};
-ghost use Rattle.assemble.specs.Items.{imageItem, strictItem, leniently, strictly};
-ghost use Rattle.assemble.specs.Flat.{lessSnippet, lessSequence};
-ghost use Rattle.assemble.specs.Kept.{roomFor, PushedUnless, addedNumber};
+ghost use Rattle.memory.specs.Memory.{with_snippet, with_sequence};
+ghost use Rattle.calls.specs.Calls.{calls_in, call_of};
+ghost use Rattle.pattern.specs.Calls.{memory_from, with_built};
+ghost use Rattle.assemble.specs.Lists.{groups_of, answers_of, builders_of, last_place, with_place, first_refused};
+ghost use Rattle.assemble.specs.Items.{image_item, strict_item, leniently, strictly};
+ghost use Rattle.assemble.specs.Flat.{less_snippet, less_sequence};
+ghost use Rattle.assemble.specs.Kept.{room_for, PushedUnless, added_number};
 ghost use Rattle.assemble.specs.Holding.{KeepsMemory, StepsSnippets, StepsSequences, StepsMemory};
 
 use calls::{ADD_SEQUENCE, ADD_SNIPPET, Builders, Record, Stepped};
@@ -46,8 +46,8 @@ struct Ran {
 
 // Gives the answer to each call: they go to the front of `answers`, as many as fit. Builds nothing, and answers how many calls there are.
 pub fn answers(calls: &[u8], answers: &mut [u8]) -> usize
-    ensures count { result ≡ length (callsIn calls.now) }
-    ensures answers { answers.new ≡ copied answers.old (answersOf calls.now) }
+    ensures count { result ≡ length (calls_in calls.now) }
+    ensures answers { answers.new ≡ copied answers.old (answers_of calls.now) }
 {
     let mut snippets = [0u8; SNIPPETS_KEPT];
     let mut sequences = [0u8; SEQUENCES_KEPT];
@@ -57,7 +57,7 @@ pub fn answers(calls: &[u8], answers: &mut [u8]) -> usize
 
 // The snippet, the frame and the sequence under construction after the calls.
 pub fn builders(calls: &[u8]) -> Builders
-    ensures { result ≡ buildersOf calls.now }
+    ensures { result ≡ builders_of calls.now }
 {
     let mut none = [0u8; 0];
     let mut snippets = [0u8; SNIPPETS_KEPT];
@@ -70,7 +70,7 @@ pub fn builders(calls: &[u8]) -> Builders
 // or the number of the build's refusal, or, where there is none, of BufferTooShort; a refusal leaves `image`.
 pub fn assemble(calls: &[u8], image: &mut [u8]) -> u8
     ensures answer { result ≡ leniently image.old calls.now }
-    ensures image { image.new ≡ wholeOut image.old (imageItem calls.now) }
+    ensures image { image.new ≡ whole_out image.old (image_item calls.now) }
 {
     let mut none = [0u8; 0];
     let mut snippets = [0u8; SNIPPETS_KEPT];
@@ -83,7 +83,7 @@ pub fn assemble(calls: &[u8], image: &mut [u8]) -> u8
 // from 1 (the build's own and BufferTooShort come with place 0); a refusal leaves `image`.
 pub fn assemble_strict(calls: &[u8], image: &mut [u8]) -> u32
     ensures answer { result ≡ strictly image.old calls.now }
-    ensures image { image.new ≡ wholeOut image.old (strictItem calls.now) }
+    ensures image { image.new ≡ whole_out image.old (strict_item calls.now) }
 {
     let mut none = [0u8; 0];
     let mut snippets = [0u8; SNIPPETS_KEPT];
@@ -98,12 +98,12 @@ pub fn assemble_strict(calls: &[u8], image: &mut [u8]) -> u32
 
 // Runs the calls on new builders, the memory's kept in bytes that are zero; the answers go to the front of the buffer, as many as fit.
 fn run(calls: &[u8], answers: &mut [u8], snippets: &mut [u8], sequences: &mut [u8]) -> Ran
-    requires { (snippets.old ≡ replicate (roomFor 15) 0) × (sequences.old ≡ replicate (roomFor 16) 0) }
-    ensures builders { result.builders ≡ buildersOf calls.now }
-    ensures count { result.count ≡ length (callsIn calls.now) }
-    ensures told { result.told ≡ firstRefused 0 (answersOf calls.now) }
-    ensures answers { answers.new ≡ copied answers.old (answersOf calls.now) }
-    ensures memory { KeepsMemory (memoryFrom false (groupsOf calls.now).memory) snippets.new sequences.new }
+    requires { (snippets.old ≡ replicate (room_for 15) 0) × (sequences.old ≡ replicate (room_for 16) 0) }
+    ensures builders { result.builders ≡ builders_of calls.now }
+    ensures count { result.count ≡ length (calls_in calls.now) }
+    ensures told { result.told ≡ first_refused 0 (answers_of calls.now) }
+    ensures answers { answers.new ≡ copied answers.old (answers_of calls.now) }
+    ensures memory { KeepsMemory (memory_from false (groups_of calls.now).memory) snippets.new sequences.new }
 {
     let mut b = Builders::new();
     let mut at = 0usize;
@@ -128,8 +128,8 @@ fn run(calls: &[u8], answers: &mut [u8], snippets: &mut [u8], sequences: &mut [u
 
 // Makes the call that a record says, on the builders or on the items kept.
 fn step(b: Builders, record: Record, snippets: &mut [u8], sequences: &mut [u8]) -> Stepped
-    requires { (length snippets.old ≡ roomFor 15) × (length sequences.old ≡ roomFor 16) }
-    ensures { StepsMemory b (callOf «record») snippets.old sequences.old (handed result.number result.builders)
+    requires { (length snippets.old ≡ room_for 15) × (length sequences.old ≡ room_for 16) }
+    ensures { StepsMemory b (call_of «record») snippets.old sequences.old (handed result.number result.builders)
         snippets.new sequences.new }
 {
     let code = record.code;
@@ -150,7 +150,7 @@ fn step(b: Builders, record: Record, snippets: &mut [u8], sequences: &mut [u8]) 
 
 // A snippet that was accepted is used up.
 fn less_snippet(b: Builders, number: u8) -> Stepped
-    ensures { handed result.number result.builders ≡ handed number (lessSnippet b number) }
+    ensures { handed result.number result.builders ≡ handed number (less_snippet b number) }
 {
     if 0 < number {
         return Stepped {
@@ -174,7 +174,7 @@ fn less_snippet(b: Builders, number: u8) -> Stepped
 
 // A sequence that was accepted is used up.
 fn less_sequence(b: Builders, number: u8) -> Stepped
-    ensures { handed result.number result.builders ≡ handed number (lessSequence b number) }
+    ensures { handed result.number result.builders ≡ handed number (less_sequence b number) }
 {
     if 0 < number {
         return Stepped {
@@ -198,8 +198,8 @@ fn less_sequence(b: Builders, number: u8) -> Stepped
 
 // Puts a snippet behind the others, if it was built.
 fn add_snippet(list: &mut [u8], r: BuiltSnippet) -> u8
-    requires { length list.old ≡ roomFor 15 }
-    ensures { StepsSnippets (λ m. withBuilt withSnippet m (built (answerNumber r.answer) r.snippet r.builder))
+    requires { length list.old ≡ room_for 15 }
+    ensures { StepsSnippets (λ m. with_built with_snippet m (built (answer_number r.answer) r.snippet r.builder))
         list.old result list.new }
 {
     let a = r.answer;
@@ -217,8 +217,8 @@ fn add_snippet(list: &mut [u8], r: BuiltSnippet) -> u8
 
 // Puts a sequence behind the others, if it was built.
 fn add_sequence(list: &mut [u8], r: BuiltSequence) -> u8
-    requires { length list.old ≡ roomFor 16 }
-    ensures { StepsSequences (λ m. withBuilt withSequence m (built (answerNumber r.answer) r.sequence r.builder))
+    requires { length list.old ≡ room_for 16 }
+    ensures { StepsSequences (λ m. with_built with_sequence m (built (answer_number r.answer) r.sequence r.builder))
         list.old result list.new }
 {
     let a = r.answer;
@@ -236,8 +236,8 @@ fn add_sequence(list: &mut [u8], r: BuiltSequence) -> u8
 
 // Puts an item behind the others unless it was refused; answers that refusal, or `full` where there is no room.
 fn add(list: &mut [u8], most: usize, full: u8, number: u8, bytes: &[u8]) -> u8
-    requires { (length list.old ≡ roomFor most) × (most ≤ 16) × (length bytes.now < 256) }
-    ensures answer { result ≡ addedNumber most full number list.old }
+    requires { (length list.old ≡ room_for most) × (most ≤ 16) × (length bytes.now < 256) }
+    ensures answer { result ≡ added_number most full number list.old }
     ensures list { PushedUnless (ltb 0 number) most bytes.now list.old list.new }
 {
     if 0 < number {
@@ -261,7 +261,7 @@ fn put(answers: &mut [u8], i: usize, x: u8)
 
 // The first refusal with its place: the one told before, else that of the i-th call, counted from 0.
 fn first(told: u32, number: u8, i: usize) -> u32
-    ensures { result ≡ cond (ltb 0 told) told (cond (ltb 0 number) (withPlace number i) 0) }
+    ensures { result ≡ cond (ltb 0 told) told (cond (ltb 0 number) (with_place number i) 0) }
 {
     if 0 < told {
         return told;
@@ -273,8 +273,8 @@ fn first(told: u32, number: u8, i: usize) -> u32
 }
 
 fn place(i: usize) -> usize
-    ensures value { result ≡ min (i + 1) lastPlace }
-    ensures upper_bound { result ≤ lastPlace }
+    ensures value { result ≡ min (i + 1) last_place }
+    ensures upper_bound { result ≤ last_place }
 {
     if LAST_PLACE <= i {
         return LAST_PLACE;

@@ -4,7 +4,7 @@
 // Proved: `push` puts an item behind the others, `image` tests and lays out what the builder's `build` does.
 ghost use Rattle.std.specs.Prelude.{◌≡◌, ◌+◌, ◌-◌, ◌≤◌, ◌<◌, ltb, length, get_or};
 ghost use Rattle.laws.specs.Copied.{over};
-ghost use Rattle.assemble.specs.Kept.{sumOf, ends, roomFor, Pushed, Fits, imageFrom, KeptBoth, ImageLaid};
+ghost use Rattle.assemble.specs.Kept.{sum_of, ends, room_for, Pushed, Fits, image_from, KeptBoth, ImageLaid};
 
 // Where the bytes begin, behind the number and the lengths of at most 15 snippets or 16 sequences.
 const SNIPPET_BYTES: usize = 16;
@@ -16,7 +16,7 @@ const IMAGE_ROOM: usize = 98;
 
 // Puts an item behind the others, as far as its bytes have room; false where there is no room for its length.
 pub(crate) fn push(list: &mut [u8], most: usize, bytes: &[u8]) -> bool
-    requires { (length list.old ≡ roomFor most) × (most ≤ 16) × (length bytes.now < 256) }
+    requires { (length list.old ≡ room_for most) × (most ≤ 16) × (length bytes.now < 256) }
     ensures value { result ≡ ltb (get_or list.old 0 0) most }
     ensures pushed { Pushed most bytes.now list.old list.new }
 {
@@ -62,7 +62,7 @@ pub(crate) fn image(snippets: &[u8], sequences: &[u8], buffer: &mut [u8]) -> u8
 fn laid(snippet_lens: &[u8], snippets: &[u8], sequence_lens: &[u8], sequences: &[u8]) -> [u8; 100]
     requires { Fits snippet_lens.now snippets.now sequence_lens.now sequences.now }
     ensures { result
-        ≡ imageFrom snippet_lens.now snippets.now sequence_lens.now sequences.now }
+        ≡ image_from snippet_lens.now snippets.now sequence_lens.now sequences.now }
 {
     let s = snippet_lens.len();
     let q = sequence_lens.len();
@@ -80,8 +80,8 @@ fn laid(snippet_lens: &[u8], snippets: &[u8], sequence_lens: &[u8], sequences: &
 
 // Stores the index of each item's last byte, where the byte before the first item stands at `before`, and answers the last index.
 fn pointers(out: &mut [u8], at: usize, lens: &[u8], before: usize) -> usize
-    requires { (length out.old ≡ 100) × (at + length lens.now ≤ 100) × (before + sumOf lens.now < 256) }
-    ensures value { result ≡ before + sumOf lens.now }
+    requires { (length out.old ≡ 100) × (at + length lens.now ≤ 100) × (before + sum_of lens.now < 256) }
+    ensures value { result ≡ before + sum_of lens.now }
     ensures out_after { out.new ≡ over out.old at (ends before lens.now) }
 {
     let mut last = before;
@@ -104,7 +104,7 @@ fn put(out: &mut [u8], at: usize, bytes: &[u8])
 
 fn sum(lens: &[u8]) -> usize
     requires { length lens.now ≤ 16 }
-    ensures value { result ≡ sumOf lens.now }
+    ensures value { result ≡ sum_of lens.now }
     ensures upper_bound { result < 4096 }
 {
     let mut sum = 0usize;

@@ -1,15 +1,15 @@
 -- Builder calls as bytes, and calls on one snippet, one frame and one sequence under construction: document 01, 'The hundred bytes',
 -- second paragraph, "Each call gets what the last handed back".
 use Rattle.std.specs.Prelude.{ℕ, ◌+◌, ◌*◌, cond, List, [], ◌∷◌, ltb, length, get_or}
-use Rattle.errors.specs.Told.{Told, gives, refuses, onTold, toldNumber, Handed, handed, accepted, refused}
+use Rattle.errors.specs.Told.{Told, gives, refuses, on_told, told_number, Handed, handed, accepted, refused}
 use Rattle.snippet.specs.declared.SnippetBuilder.{SnippetBuilder}
-use Rattle.snippet.specs.Snippet.{newSnippet}
+use Rattle.snippet.specs.Snippet.{new_snippet}
 use Rattle.frame.specs.declared.FrameBuilder.{FrameBuilder}
-use Rattle.frame.specs.Frame.{builtFrame}
-use Rattle.frame.specs.Read.{gainAt, timebaseAt}
+use Rattle.frame.specs.Frame.{built_frame}
+use Rattle.frame.specs.Read.{gain_at, timebase_at}
 use Rattle.sequence.specs.declared.SequenceBuilder.{SequenceBuilder}
-use Rattle.sequence.specs.Sequence.{newSequence, withFrame}
-use Rattle.pattern.specs.Calls.{ramp, step, point, snippetStep, FrameCall, gain, timebase, loopCount, frequencyHz, frameStep, new, silence, begunBy}
+use Rattle.sequence.specs.Sequence.{new_sequence, with_frame}
+use Rattle.pattern.specs.Calls.{ramp, step, point, snippet_step, FrameCall, gain, timebase, loop_count, frequency_hz, frame_step, new, silence, begun_by}
 use Rattle.calls.specs.Said.{BuilderCall, Call}
 use Rattle.calls.specs.Said as Call
 use Rattle.calls.specs.declared.FieldCall.{FieldCall}
@@ -23,38 +23,38 @@ use Rattle.calls.specs.declared.Record.{Record}
 
 -- a choice of four by its code; a code above 3 says none
 abbrev pub chosen : FrameCall → ℕ → Call
-chosen k code = cond (ltb 3 code) Call.Unknown (Call.Builder (Call.OnFrame k))
+chosen k code = cond (ltb 3 code) Call.unknown (Call.builder (Call.on_frame k))
 
 -- the calls by their codes, of which 0 says none; a and b are the two bytes that follow the code
-abbrev pub callsByCode : ℕ → ℕ → List Call
-callsByCode a b =
-    Call.Unknown
+abbrev pub calls_by_code : ℕ → ℕ → List Call
+calls_by_code a b =
+    Call.unknown
     -- 1 to 4: the snippet
-    ∷ Call.Builder Call.SnippetNew ∷ Call.Builder (Call.OnSnippet (ramp a b)) ∷ Call.Builder (Call.OnSnippet (step a b)) ∷ Call.Builder (Call.OnSnippet (point a))
+    ∷ Call.builder Call.snippet_new ∷ Call.builder (Call.on_snippet (ramp a b)) ∷ Call.builder (Call.on_snippet (step a b)) ∷ Call.builder (Call.on_snippet (point a))
     -- 5 to 10: the frame
-    ∷ Call.Builder (Call.BeginFrame (new a)) ∷ Call.Builder (Call.BeginFrame silence) ∷ chosen (gain (gainAt a)) a ∷ chosen (timebase (timebaseAt a)) a
-    ∷ Call.Builder (Call.OnFrame (loopCount a)) ∷ Call.Builder (Call.OnFrame (frequencyHz (a + b * 256)))
+    ∷ Call.builder (Call.begin_frame (new a)) ∷ Call.builder (Call.begin_frame silence) ∷ chosen (gain (gain_at a)) a ∷ chosen (timebase (timebase_at a)) a
+    ∷ Call.builder (Call.on_frame (loop_count a)) ∷ Call.builder (Call.on_frame (frequency_hz (a + b * 256)))
     -- 11 and 12: the sequence; 13 and 14: the memory
-    ∷ Call.Builder Call.SequenceNew ∷ Call.Builder Call.AddFrame ∷ Call.AddSnippet ∷ Call.AddSequence ∷ []
+    ∷ Call.builder Call.sequence_new ∷ Call.builder Call.add_frame ∷ Call.add_snippet ∷ Call.add_sequence ∷ []
 
-abbrev pub recordOf : ℕ → ℕ → ℕ → Record
-recordOf code a b = record { code = code; a = a; b = b }
+abbrev pub record_of : ℕ → ℕ → ℕ → Record
+record_of code a b = record { code = code; a = a; b = b }
 
 -- any other code says none
-abbrev pub callOf : Record → Call
-callOf r = get_or (callsByCode r.a r.b) r.code Call.Unknown
+abbrev pub call_of : Record → Call
+call_of r = get_or (calls_by_code r.a r.b) r.code Call.unknown
 
 -- the first record of four bytes, the last of which says nothing; a shorter one counts as one of zeros, which says no call
-abbrev pub firstRecord : List ℕ → Record
-firstRecord l = cond (ltb (length l) 4) (recordOf 0 0 0) (recordOf (get_or l 0 0) (get_or l 1 0) (get_or l 2 0))
+abbrev pub first_record : List ℕ → Record
+first_record l = cond (ltb (length l) 4) (record_of 0 0 0) (record_of (get_or l 0 0) (get_or l 1 0) (get_or l 2 0))
 
 -- a list of calls: records one after the other, a shorter last one among them
-unfoldable pub callsIn : List ℕ → List Call
-callsIn [] = []
-callsIn (code ∷ []) = Call.Unknown ∷ []
-callsIn (code ∷ a ∷ []) = Call.Unknown ∷ []
-callsIn (code ∷ a ∷ b ∷ []) = Call.Unknown ∷ []
-callsIn (code ∷ a ∷ b ∷ last ∷ r) = callOf (recordOf code a b) ∷ callsIn r
+unfoldable pub calls_in : List ℕ → List Call
+calls_in [] = []
+calls_in (code ∷ []) = Call.unknown ∷ []
+calls_in (code ∷ a ∷ []) = Call.unknown ∷ []
+calls_in (code ∷ a ∷ b ∷ []) = Call.unknown ∷ []
+calls_in (code ∷ a ∷ b ∷ last ∷ r) = call_of (record_of code a b) ∷ calls_in r
 
 -- ---- one call on the three builders
 
@@ -63,16 +63,16 @@ builders s f q = record { snippet = s; frame = f; sequence = q }
 
 -- no frame is begun
 abbrev pub started : Builders
-started = builders newSnippet UnderWay.NotBegun newSequence
+started = builders new_snippet UnderWay.NotBegun new_sequence
 
 -- the frame under construction: one that is not begun is refused with 3, as `new` of number 0 is
-abbrev pub frameBegun : UnderWay → Told FrameBuilder
-frameBegun UnderWay.NotBegun = refuses 3
-frameBegun (UnderWay.Begun f) = gives f
+abbrev pub frame_begun : UnderWay → Told FrameBuilder
+frame_begun UnderWay.NotBegun = refuses 3
+frame_begun (UnderWay.Begun f) = gives f
 
 -- what `new` or `silence` leaves under construction: where it is refused, no frame
-abbrev pub underWay : Told FrameBuilder → UnderWay
-underWay t = onTold t UnderWay.Begun (λ n. UnderWay.NotBegun)
+abbrev pub under_way : Told FrameBuilder → UnderWay
+under_way t = on_told t UnderWay.Begun (λ n. UnderWay.NotBegun)
 
 -- a frame that was accepted is used up
 abbrev pub uses : Builders → Handed SequenceBuilder → Handed Builders
@@ -80,28 +80,28 @@ uses b s = handed s.number (builders b.snippet (cond (ltb 0 s.number) b.frame Un
 
 -- the call's number, and the builders after it; a call on one of the three leaves the other two
 abbrev pub called : Builders → BuilderCall → Handed Builders
-called b Call.SnippetNew = accepted (builders newSnippet b.frame b.sequence)
-called b (Call.OnSnippet k) =
-    handed (snippetStep b.snippet k).number (builders (snippetStep b.snippet k).builder b.frame b.sequence)
-called b (Call.BeginFrame k) = handed (toldNumber (begunBy k)) (builders b.snippet (underWay (begunBy k)) b.sequence)
-called b (Call.OnFrame k) =
-    onTold (frameBegun b.frame)
-    (λ f. handed (frameStep f k).number (builders b.snippet (UnderWay.Begun (frameStep f k).builder) b.sequence))
+called b Call.snippet_new = accepted (builders new_snippet b.frame b.sequence)
+called b (Call.on_snippet k) =
+    handed (snippet_step b.snippet k).number (builders (snippet_step b.snippet k).builder b.frame b.sequence)
+called b (Call.begin_frame k) = handed (told_number (begun_by k)) (builders b.snippet (under_way (begun_by k)) b.sequence)
+called b (Call.on_frame k) =
+    on_told (frame_begun b.frame)
+    (λ f. handed (frame_step f k).number (builders b.snippet (UnderWay.Begun (frame_step f k).builder) b.sequence))
     (λ n. refused n b)
-called b Call.SequenceNew = accepted (builders b.snippet b.frame newSequence)
-called b Call.AddFrame = onTold (frameBegun b.frame) (λ f. uses b (withFrame b.sequence (builtFrame f))) (λ n. refused n b)
+called b Call.sequence_new = accepted (builders b.snippet b.frame new_sequence)
+called b Call.add_frame = on_told (frame_begun b.frame) (λ f. uses b (with_frame b.sequence (built_frame f))) (λ n. refused n b)
 
 -- a call on a memory is none for these three; what is none is refused with 14, NotSupported
-abbrev pub calledBy : Builders → Call → Handed Builders
-calledBy b (Call.Builder k) = called b k
-calledBy b Call.AddSnippet = refused 14 b
-calledBy b Call.AddSequence = refused 14 b
-calledBy b Call.Unknown = refused 14 b
+abbrev pub called_by : Builders → Call → Handed Builders
+called_by b (Call.builder k) = called b k
+called_by b Call.add_snippet = refused 14 b
+called_by b Call.add_sequence = refused 14 b
+called_by b Call.unknown = refused 14 b
 
 -- ---- as the private functions take it
 
-abbrev pub fieldOf : FieldCall → FrameCall
-fieldOf (Field.Gain c) = gain (gainAt c)
-fieldOf (Field.Timebase c) = timebase (timebaseAt c)
-fieldOf (Field.LoopCount k) = loopCount k
-fieldOf (Field.FrequencyHz f) = frequencyHz f
+abbrev pub field_of : FieldCall → FrameCall
+field_of (Field.Gain c) = gain (gain_at c)
+field_of (Field.Timebase c) = timebase (timebase_at c)
+field_of (Field.LoopCount k) = loop_count k
+field_of (Field.FrequencyHz f) = frequency_hz f

@@ -3,16 +3,16 @@ use Rattle.pattern.specs.Calls.{SnippetCall, FrameCall, Begin}
 
 -- on the snippet, the frame or the sequence under construction
 pub data BuilderCall : Type 0 where
-  SnippetNew : BuilderCall
-  OnSnippet : SnippetCall → BuilderCall
-  BeginFrame : Begin → BuilderCall
-  OnFrame : FrameCall → BuilderCall
-  SequenceNew : BuilderCall
-  AddFrame : BuilderCall
+  snippet_new : BuilderCall
+  on_snippet : SnippetCall → BuilderCall
+  begin_frame : Begin → BuilderCall
+  on_frame : FrameCall → BuilderCall
+  sequence_new : BuilderCall
+  add_frame : BuilderCall
 
 -- one of these, one that adds to a memory, or none
 pub data Call : Type 0 where
-  Builder : BuilderCall → Call
-  AddSnippet : Call
-  AddSequence : Call
-  Unknown : Call
+  builder : BuilderCall → Call
+  add_snippet : Call
+  add_sequence : Call
+  unknown : Call

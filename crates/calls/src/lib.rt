@@ -6,12 +6,12 @@
 #![tactic(auto)]
 
 ghost use Rattle.std.specs.Prelude.{◌≡◌, ◌+◌, ◌*◌, drop};
-ghost use Rattle.errors.specs.Number.{answerNumber};
-ghost use Rattle.errors.specs.Told.{toldNumber, handed, accepted, refused};
-ghost use Rattle.frame.specs.Builder.{newTold};
-ghost use Rattle.pattern.specs.Calls.{frameStep};
+ghost use Rattle.errors.specs.Number.{answer_number};
+ghost use Rattle.errors.specs.Told.{told_number, handed, accepted, refused};
+ghost use Rattle.frame.specs.Builder.{new_told};
+ghost use Rattle.pattern.specs.Calls.{frame_step};
 ghost use Rattle.calls.specs.Said as Call;
-ghost use Rattle.calls.specs.Calls.{chosen, firstRecord, callOf, called, calledBy, builders, started, underWay, uses, fieldOf};
+ghost use Rattle.calls.specs.Calls.{chosen, first_record, call_of, called, called_by, builders, started, under_way, uses, field_of};
 
 use errors::{Answer, Error};
 use frame::{FrameBuilder, NewFrame, SetFrame};
@@ -68,7 +68,7 @@ pub struct Stepped {
 impl Record {
     // The record that begins at an index; a shorter one has code 0, which says no call.
     pub fn read(calls: &[u8], at: usize) -> Record
-        ensures { result ≡ firstRecord (drop at calls.now) }
+        ensures { result ≡ first_record (drop at calls.now) }
     {
         if calls.len() <= at {
             return Record {
@@ -108,7 +108,7 @@ impl Builders {
 
     // Makes the call that a record says; one on a memory is none here.
     pub fn apply(self, r: Record) -> Stepped
-        ensures { handed result.number result.builders ≡ calledBy self (callOf r) }
+        ensures { handed result.number result.builders ≡ called_by self (call_of r) }
     {
         let s = self.snippet;
         let a = r.a;
@@ -158,7 +158,7 @@ impl Builders {
 
     // A choice of four by its code; a code above the last says no call.
     fn choose(self, call: FieldCall, code: u8) -> Stepped
-        ensures { handed result.number result.builders ≡ calledBy self (chosen (fieldOf call) code) }
+        ensures { handed result.number result.builders ≡ called_by self (chosen (field_of call) code) }
     {
         if LAST_CHOICE < code {
             return self.no_call();
@@ -168,7 +168,7 @@ impl Builders {
 
     fn with_snippet(self, r: AddedPoint) -> Stepped
         ensures { handed result.number result.builders
-            ≡ handed (answerNumber r.answer) (builders r.builder self.frame self.sequence) }
+            ≡ handed (answer_number r.answer) (builders r.builder self.frame self.sequence) }
     {
         let a = r.answer;
         let s = r.builder;
@@ -203,7 +203,7 @@ impl Builders {
 
     fn with_sequence(self, r: AddedFrame) -> Stepped
         ensures { handed result.number result.builders
-            ≡ handed (answerNumber r.answer) (builders self.snippet self.frame r.builder) }
+            ≡ handed (answer_number r.answer) (builders self.snippet self.frame r.builder) }
     {
         let a = r.answer;
         let q = r.builder;
@@ -222,7 +222,7 @@ impl Builders {
 
     fn begin(self, r: NewFrame) -> Stepped
         ensures { handed result.number result.builders
-            ≡ handed (toldNumber (newTold r)) (builders self.snippet (underWay (newTold r)) self.sequence) }
+            ≡ handed (told_number (new_told r)) (builders self.snippet (under_way (new_told r)) self.sequence) }
     {
         match r {
             NewFrame::Builder(f) => self.with_frame(0, UnderWay::Begun(f)),
@@ -241,7 +241,7 @@ impl Builders {
     }
 
     fn set(self, call: FieldCall) -> Stepped
-        ensures { handed result.number result.builders ≡ called self (Call.OnFrame (fieldOf call)) }
+        ensures { handed result.number result.builders ≡ called self (Call.on_frame (field_of call)) }
     {
         let f = self.frame;
         match f {
@@ -257,7 +257,7 @@ impl Builders {
 
     // Adds the frame to the sequence.
     fn add_frame(self) -> Stepped
-        ensures { handed result.number result.builders ≡ called self Call.AddFrame }
+        ensures { handed result.number result.builders ≡ called self Call.add_frame }
     {
         let f = self.frame;
         let q = self.sequence;
@@ -269,7 +269,7 @@ impl Builders {
 
     // A frame that was accepted is used up.
     fn used(self, r: AddedFrame) -> Stepped
-        ensures { handed result.number result.builders ≡ uses self (handed (answerNumber r.answer) r.builder) }
+        ensures { handed result.number result.builders ≡ uses self (handed (answer_number r.answer) r.builder) }
     {
         let a = r.answer;
         let n = a.number();
@@ -291,7 +291,7 @@ impl Builders {
 }
 
 fn with_field(f: FrameBuilder, call: FieldCall) -> SetFrame
-    ensures { handed (answerNumber result.answer) result.builder ≡ frameStep f (fieldOf call) }
+    ensures { handed (answer_number result.answer) result.builder ≡ frame_step f (field_of call) }
 {
     match call {
         FieldCall::Gain(g) => done(f.gain(frame::Gain::from_code(g))),
@@ -302,7 +302,7 @@ fn with_field(f: FrameBuilder, call: FieldCall) -> SetFrame
 }
 
 fn done(f: FrameBuilder) -> SetFrame
-    ensures { handed (answerNumber result.answer) result.builder ≡ accepted f }
+    ensures { handed (answer_number result.answer) result.builder ≡ accepted f }
 {
     SetFrame {
         answer: Answer::Done,

@@ -7,20 +7,20 @@
 #![tactic(auto)]
 
 ghost use Rattle.std.specs.Prelude.{◌≡◌, ltb, min, length};
-ghost use Rattle.errors.specs.Number.{encodedTold};
+ghost use Rattle.errors.specs.Number.{encoded_told};
 ghost use Rattle.errors.specs.Packed.{packed, Room};
-ghost use Rattle.snippet.specs.Point.{point, pointTold, rampIn, timebasesIn, amplitudeIn};
+ghost use Rattle.snippet.specs.Point.{point, point_told, ramp_in, timebases_in, amplitude_in};
 ghost use Rattle.laws.specs.Copied.{copied};
-ghost use Rattle.laws.specs.Whole.{whole, wholeOut, lengthOf};
-ghost use Rattle.calls.specs.Calls.{callsIn};
-ghost use Rattle.assemble.specs.Lists.{answersOf, buildersOf};
-ghost use Rattle.assemble.specs.Items.{snippetItem, frameItem, sequenceItem, imageItem, strictItem, leniently, strictly};
-ghost use Rattle.content.specs.ReadImage.{readImage};
-ghost use Rattle.readings.specs.Readings.{countsAnswer, pointAnswer, frameAnswer};
-ghost use Rattle.readings.specs.Lists.{listsItem, listsAnswer};
-ghost use Rattle.field.specs.Field.{codeOf};
+ghost use Rattle.laws.specs.Whole.{whole, whole_out, length_of};
+ghost use Rattle.calls.specs.Calls.{calls_in};
+ghost use Rattle.assemble.specs.Lists.{answers_of, builders_of};
+ghost use Rattle.assemble.specs.Items.{snippet_item, frame_item, sequence_item, image_item, strict_item, leniently, strictly};
+ghost use Rattle.content.specs.ReadImage.{read_image};
+ghost use Rattle.readings.specs.Readings.{counts_answer, point_answer, frame_answer};
+ghost use Rattle.readings.specs.Lists.{lists_item, lists_answer};
+ghost use Rattle.field.specs.Field.{code_of};
 ghost use Rattle.field.specs.Layout.{readings, replacements};
-ghost use Rattle.registers.specs.Table.{interrupts, actuator, control, trigger, readOnly, addresses};
+ghost use Rattle.registers.specs.Table.{interrupts, actuator, control, trigger, read_only, addresses};
 
 use calls::UnderWay;
 use errors::{Encoded, Error};
@@ -33,7 +33,7 @@ const REFUSED_POINT: u16 = 256;
 
 // A point's answer as one number.
 fn word(made: PointAnswer) -> u16
-    ensures { result ≡ packed 8 (pointTold made) }
+    ensures { result ≡ packed 8 (point_told made) }
 {
     match made {
         PointAnswer::Point(p) => p.as_byte() as u16,
@@ -53,29 +53,29 @@ pub extern "C" fn da728x_point(ramp: u8, timebases: u8, amplitude: u8) -> u16
 
 #[unsafe(no_mangle)]
 pub extern "C" fn da728x_point_is_ramp(byte: u8) -> u8
-    ensures { result ≡ codeOf (rampIn byte) }
+    ensures { result ≡ code_of (ramp_in byte) }
 {
     PwlPoint::from_byte(byte).is_ramp() as u8
 }
 
 #[unsafe(no_mangle)]
 pub extern "C" fn da728x_point_timebases(byte: u8) -> u8
-    ensures { result ≡ timebasesIn byte }
+    ensures { result ≡ timebases_in byte }
 {
     PwlPoint::from_byte(byte).timebases()
 }
 
 #[unsafe(no_mangle)]
 pub extern "C" fn da728x_point_amplitude(byte: u8) -> u8
-    ensures { result ≡ amplitudeIn byte }
+    ensures { result ≡ amplitude_in byte }
 {
     PwlPoint::from_byte(byte).amplitude()
 }
 
 // What encoding an item answers as one number.
 fn length_word(r: Encoded) -> u32
-    requires { Room 16 (encodedTold r) }
-    ensures { result ≡ packed 16 (encodedTold r) }
+    requires { Room 16 (encoded_told r) }
+    ensures { result ≡ packed 16 (encoded_told r) }
 {
     match r {
         Encoded::Whole(n) => n as u32,
@@ -86,8 +86,8 @@ fn length_word(r: Encoded) -> u32
 // Builds the snippet and encodes it into the front of `out`; answers its length, or the refusal, and then `out` stays.
 #[unsafe(no_mangle)]
 pub extern "C" fn da728x_snippet(calls: &[u8], out: &mut [u8]) -> u32
-    ensures answer { result ≡ packed 16 (lengthOf (whole out.old (snippetItem calls.now))) }
-    ensures out { out.new ≡ wholeOut out.old (snippetItem calls.now) }
+    ensures answer { result ≡ packed 16 (length_of (whole out.old (snippet_item calls.now))) }
+    ensures out { out.new ≡ whole_out out.old (snippet_item calls.now) }
 {
     let b = assemble::builders(calls);
     let s = b.snippet;
@@ -104,8 +104,8 @@ pub extern "C" fn da728x_snippet(calls: &[u8], out: &mut [u8]) -> u32
 // Builds the frame and encodes it into the front of `out`; answers its length, or the refusal, and then `out` stays.
 #[unsafe(no_mangle)]
 pub extern "C" fn da728x_frame(calls: &[u8], out: &mut [u8]) -> u32
-    ensures answer { result ≡ packed 16 (lengthOf (whole out.old (frameItem calls.now))) }
-    ensures out { out.new ≡ wholeOut out.old (frameItem calls.now) }
+    ensures answer { result ≡ packed 16 (length_of (whole out.old (frame_item calls.now))) }
+    ensures out { out.new ≡ whole_out out.old (frame_item calls.now) }
 {
     let b = assemble::builders(calls);
     let f = b.frame;
@@ -118,8 +118,8 @@ pub extern "C" fn da728x_frame(calls: &[u8], out: &mut [u8]) -> u32
 // Builds the sequence and encodes it into the front of `out`; answers its length, or the refusal, and then `out` stays.
 #[unsafe(no_mangle)]
 pub extern "C" fn da728x_sequence(calls: &[u8], out: &mut [u8]) -> u32
-    ensures answer { result ≡ packed 16 (lengthOf (whole out.old (sequenceItem calls.now))) }
-    ensures out { out.new ≡ wholeOut out.old (sequenceItem calls.now) }
+    ensures answer { result ≡ packed 16 (length_of (whole out.old (sequence_item calls.now))) }
+    ensures out { out.new ≡ whole_out out.old (sequence_item calls.now) }
 {
     let b = assemble::builders(calls);
     let q = b.sequence;
@@ -136,7 +136,7 @@ pub extern "C" fn da728x_sequence(calls: &[u8], out: &mut [u8]) -> u32
 // How many bytes the sequence under construction has.
 #[unsafe(no_mangle)]
 pub extern "C" fn da728x_current_len(calls: &[u8]) -> usize
-    ensures { result ≡ (buildersOf calls.now).sequence.len }
+    ensures { result ≡ (builders_of calls.now).sequence.len }
 {
     let b = assemble::builders(calls);
     let q = b.sequence;
@@ -146,8 +146,8 @@ pub extern "C" fn da728x_current_len(calls: &[u8]) -> usize
 // Stores the answer to each call, and answers how many calls there are.
 #[unsafe(no_mangle)]
 pub extern "C" fn da728x_answers(calls: &[u8], answers: &mut [u8]) -> usize
-    ensures count { result ≡ length (callsIn calls.now) }
-    ensures answers { answers.new ≡ copied answers.old (answersOf calls.now) }
+    ensures count { result ≡ length (calls_in calls.now) }
+    ensures answers { answers.new ≡ copied answers.old (answers_of calls.now) }
 {
     assemble::answers(calls, answers)
 }
@@ -156,7 +156,7 @@ pub extern "C" fn da728x_answers(calls: &[u8], answers: &mut [u8]) -> usize
 #[unsafe(no_mangle)]
 pub extern "C" fn da728x_assemble(calls: &[u8], image: &mut [u8]) -> u8
     ensures answer { result ≡ leniently image.old calls.now }
-    ensures image { image.new ≡ wholeOut image.old (imageItem calls.now) }
+    ensures image { image.new ≡ whole_out image.old (image_item calls.now) }
 {
     assemble::assemble(calls, image)
 }
@@ -165,7 +165,7 @@ pub extern "C" fn da728x_assemble(calls: &[u8], image: &mut [u8]) -> u8
 #[unsafe(no_mangle)]
 pub extern "C" fn da728x_assemble_strict(calls: &[u8], image: &mut [u8]) -> u32
     ensures answer { result ≡ strictly image.old calls.now }
-    ensures image { image.new ≡ wholeOut image.old (strictItem calls.now) }
+    ensures image { image.new ≡ whole_out image.old (strict_item calls.now) }
 {
     assemble::assemble_strict(calls, image)
 }
@@ -173,7 +173,7 @@ pub extern "C" fn da728x_assemble_strict(calls: &[u8], image: &mut [u8]) -> u32
 // How many snippets and sequences an image has.
 #[unsafe(no_mangle)]
 pub extern "C" fn da728x_read_counts(image: &[u8]) -> u32
-    ensures { result ≡ packed 16 (countsAnswer (readImage image.now)) }
+    ensures { result ≡ packed 16 (counts_answer (read_image image.now)) }
 {
     readings::counts(image)
 }
@@ -181,7 +181,7 @@ pub extern "C" fn da728x_read_counts(image: &[u8]) -> u32
 // The byte of a point of an image.
 #[unsafe(no_mangle)]
 pub extern "C" fn da728x_read_point(image: &[u8], i: usize, j: usize) -> u32
-    ensures { result ≡ packed 16 (pointAnswer (readImage image.now) i j) }
+    ensures { result ≡ packed 16 (point_answer (read_image image.now) i j) }
 {
     readings::point(image, i, j)
 }
@@ -189,7 +189,7 @@ pub extern "C" fn da728x_read_point(image: &[u8], i: usize, j: usize) -> u32
 // The fields of a frame of an image, as one number.
 #[unsafe(no_mangle)]
 pub extern "C" fn da728x_read_frame(image: &[u8], i: usize, j: usize) -> u64
-    ensures { result ≡ packed 56 (frameAnswer (readImage image.now) i j) }
+    ensures { result ≡ packed 56 (frame_answer (read_image image.now) i j) }
 {
     readings::frame(image, i, j)
 }
@@ -197,8 +197,8 @@ pub extern "C" fn da728x_read_frame(image: &[u8], i: usize, j: usize) -> u64
 // All lists of an image.
 #[unsafe(no_mangle)]
 pub extern "C" fn da728x_read_lists(image: &[u8], lists: &mut [u8]) -> u32
-    ensures answer { result ≡ packed 16 (listsAnswer lists.old (readImage image.now)) }
-    ensures lists { lists.new ≡ wholeOut lists.old (listsItem (readImage image.now)) }
+    ensures answer { result ≡ packed 16 (lists_answer lists.old (read_image image.now)) }
+    ensures lists { lists.new ≡ whole_out lists.old (lists_item (read_image image.now)) }
 {
     readings::lists(image, lists)
 }
@@ -224,8 +224,8 @@ pub extern "C" fn da728x_read_interrupts(byte: u8, out: &mut [u8]) -> usize
 #[unsafe(no_mangle)]
 pub extern "C" fn da728x_replace_interrupts(byte: u8, value: u8, out: &mut [u8]) -> usize
     ensures value { result
-        ≡ min (length (replacements readOnly interrupts byte value)) (length out.old) }
-    ensures out_after { out.new ≡ copied out.old (replacements readOnly interrupts byte value) }
+        ≡ min (length (replacements read_only interrupts byte value)) (length out.old) }
+    ensures out_after { out.new ≡ copied out.old (replacements read_only interrupts byte value) }
 {
     let bytes = registers_interrupts::replaced(byte, value);
     laws::copy_into(out, &bytes)
@@ -243,8 +243,8 @@ pub extern "C" fn da728x_read_actuator(byte: u8, out: &mut [u8]) -> usize
 #[unsafe(no_mangle)]
 pub extern "C" fn da728x_replace_actuator(byte: u8, value: u8, out: &mut [u8]) -> usize
     ensures value { result
-        ≡ min (length (replacements readOnly actuator byte value)) (length out.old) }
-    ensures out_after { out.new ≡ copied out.old (replacements readOnly actuator byte value) }
+        ≡ min (length (replacements read_only actuator byte value)) (length out.old) }
+    ensures out_after { out.new ≡ copied out.old (replacements read_only actuator byte value) }
 {
     let bytes = registers_actuator::replaced(byte, value);
     laws::copy_into(out, &bytes)
@@ -262,8 +262,8 @@ pub extern "C" fn da728x_read_control(byte: u8, out: &mut [u8]) -> usize
 #[unsafe(no_mangle)]
 pub extern "C" fn da728x_replace_control(byte: u8, value: u8, out: &mut [u8]) -> usize
     ensures value { result
-        ≡ min (length (replacements readOnly control byte value)) (length out.old) }
-    ensures out_after { out.new ≡ copied out.old (replacements readOnly control byte value) }
+        ≡ min (length (replacements read_only control byte value)) (length out.old) }
+    ensures out_after { out.new ≡ copied out.old (replacements read_only control byte value) }
 {
     let bytes = registers_control::replaced(byte, value);
     laws::copy_into(out, &bytes)
@@ -281,8 +281,8 @@ pub extern "C" fn da728x_read_trigger(byte: u8, out: &mut [u8]) -> usize
 #[unsafe(no_mangle)]
 pub extern "C" fn da728x_replace_trigger(byte: u8, value: u8, out: &mut [u8]) -> usize
     ensures value { result
-        ≡ min (length (replacements readOnly trigger byte value)) (length out.old) }
-    ensures out_after { out.new ≡ copied out.old (replacements readOnly trigger byte value) }
+        ≡ min (length (replacements read_only trigger byte value)) (length out.old) }
+    ensures out_after { out.new ≡ copied out.old (replacements read_only trigger byte value) }
 {
     let bytes = registers_trigger::replaced(byte, value);
     laws::copy_into(out, &bytes)

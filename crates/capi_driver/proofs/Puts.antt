@@ -9,31 +9,31 @@ use borrow.Author.Tests.{eq-eqb}
 use Rattle.laws.specs.Copied.{copied}
 use Rattle.laws.specs.Lists.{at}
 use Rattle.laws.proofs.Copies.{copied_all}
-use Rattle.exchange.proofs.Laid.{drop-replicate}
+use Rattle.exchange.proofs.Laid.{drop_replicate}
 use Rattle.da728x.specs.declared.DA728x.{DA728x}
-use Rattle.da728x.specs.Record.{recordBytes}
-use Rattle.da728x.proofs.Kept.{record-length}
+use Rattle.da728x.specs.Record.{record_bytes}
+use Rattle.da728x.proofs.Kept.{record_length}
 use Rattle.outcome.specs.declared.Change.TheVariants.{To}
-use Rattle.capi_driver.specs.Words.{recordOut}
+use Rattle.capi_driver.specs.Words.{record_out}
 
-pub written : (l now : List ℕ) (r : DA728x) {bytes : List ℕ} → length l ≡ 38 → now ≡ copied l bytes → bytes ≡ recordBytes r → now ≡ recordOut l (To r)
+pub written : (l now : List ℕ) (r : DA728x) {bytes : List ℕ} → length l ≡ 38 → now ≡ copied l bytes → bytes ≡ record_bytes r → now ≡ record_out l (To r)
 written l now r {bytes} e h k =
-    let f : length bytes ≡ length l = ap length k ∙ record-length r ∙ sym e in
-    h ∙ copied_all l bytes f ∙ k ∙ ap (λ (b : Bool). cond b (recordBytes r) l) (sym (eq-eqb (length l) 38 e))
+    let f : length bytes ≡ length l = ap length k ∙ record_length r ∙ sym e in
+    h ∙ copied_all l bytes f ∙ k ∙ ap (λ (b : Bool). cond b (record_bytes r) l) (sym (eq-eqb (length l) 38 e))
 
 -- an image shorter than the memory, over zeros
-pub loaded-image : (image : List ℕ) → length image ≤ 100 → copied (replicate 100 0) image ≡ image ++ replicate (100 - length image) 0
-loaded-image image h =
+pub loaded_image : (image : List ℕ) → length image ≤ 100 → copied (replicate 100 0) image ≡ image ++ replicate (100 - length image) 0
+loaded_image image h =
     ap (λ (x : List ℕ). x ++ drop (length image) (replicate 100 0)) (take_all 100 image h)
-    ∙ ap (λ (x : List ℕ). image ++ x) (drop-replicate (length image) 100)
+    ∙ ap (λ (x : List ℕ). image ++ x) (drop_replicate (length image) 100)
 
 -- its bytes by index, those past its end too
-loaded-at : (image : List ℕ) (k i : ℕ) → at (image ++ replicate k 0) i ≡ at image i
-loaded-at [] zero i = refl
-loaded-at [] (suc k) zero = refl
-loaded-at [] (suc k) (suc i) = loaded-at [] k i
-loaded-at (b ∷ image) k zero = refl
-loaded-at (b ∷ image) k (suc i) = loaded-at image k i
+loaded_at : (image : List ℕ) (k i : ℕ) → at (image ++ replicate k 0) i ≡ at image i
+loaded_at [] zero i = refl
+loaded_at [] (suc k) zero = refl
+loaded_at [] (suc k) (suc i) = loaded_at [] k i
+loaded_at (b ∷ image) k zero = refl
+loaded_at (b ∷ image) k (suc i) = loaded_at image k i
 
-pub image-at : (image «data» : List ℕ) (i : ℕ) → length image ≤ 100 → «data» ≡ copied (replicate 100 0) image → at «data» i ≡ at image i
-image-at image «data» i h e = ap (λ (l : List ℕ). at l i) (e ∙ loaded-image image h) ∙ loaded-at image (100 - length image) i
+pub image_at : (image «data» : List ℕ) (i : ℕ) → length image ≤ 100 → «data» ≡ copied (replicate 100 0) image → at «data» i ≡ at image i
+image_at image «data» i h e = ap (λ (l : List ℕ). at l i) (e ∙ loaded_image image h) ∙ loaded_at image (100 - length image) i

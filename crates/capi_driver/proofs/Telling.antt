@@ -15,28 +15,28 @@ use Rattle.laws.specs.Lists.{at}
 use Rattle.errors.specs.Told.{accepted, refused}
 use Rattle.config.specs.declared.Variant.TheVariants.{DA7280}
 use Rattle.da728x.specs.declared.Settings.TheVariants.{Absent}
-use Rattle.field.specs.Field.{codeOf}
+use Rattle.field.specs.Field.{code_of}
 use Rattle.exchange.specs.declared.Exchange.{Exchange}
 use Rattle.exchange.specs.declared.Step.{Step}
 use Rattle.exchange.specs.declared.Step.TheVariants.{Write, Read, Update, Match, Chunk, Store}
 use Rattle.exchange.specs.declared.Reply.TheVariants.{Done, Byte, Failed}
-use Rattle.exchange.specs.State.{indexed, isBegun, madeIn, countIn, purposeIn, imageIn, left, noneLeft, completed}
-use Rattle.exchange.specs.Turn.{pendingFor, pendingOf, wanted, resized, fitsNext, fitOf, effectOf, stateAfter, reportOf}
-use Rattle.exchange.specs.Session.{AnswerCall, taken, afterCall, sent}
-use Rattle.exchange.proofs.Moves.{left-counts}
+use Rattle.exchange.specs.State.{indexed, is_begun, made_in, count_in, purpose_in, image_in, left, none_left, completed}
+use Rattle.exchange.specs.Turn.{pending_for, pending_of, wanted, resized, fits_next, fit_of, effect_of, state_after, report_of}
+use Rattle.exchange.specs.Session.{AnswerCall, taken, after_call, sent}
+use Rattle.exchange.proofs.Moves.{left_counts}
 use Rattle.exchange.proofs.Session.{session}
 use Rattle.exchange.proofs.Takes.{sends}
-use Rattle.memory.specs.Memory.{memory, noMemory}
+use Rattle.memory.specs.Memory.{memory, no_memory}
 use Rattle.da728x.specs.declared.DA728x.{DA728x}
-use Rattle.da728x.specs.Record.{recordAt}
-use Rattle.da728x.proofs.Kept.{record-kept}
+use Rattle.da728x.specs.Record.{record_at}
+use Rattle.da728x.proofs.Kept.{record_kept}
 use Rattle.outcome.specs.declared.Change.{Change}
 use Rattle.outcome.specs.declared.Change.TheVariants.{Same, To, Sequences}
-use Rattle.outcome.specs.Outcome.{valueIn, outcomeOf, withSequences, recordBy}
-use Rattle.driver.specs.Operations.{uploadWaveformMemory}
-use Rattle.capi_driver.specs.Words.{exchangeWord, replyOf, reportWord, recordOut, resultWord, uploadOf}
+use Rattle.outcome.specs.Outcome.{value_in, outcome_of, with_sequences, record_by}
+use Rattle.driver.specs.Operations.{upload_waveform_memory}
+use Rattle.capi_driver.specs.Words.{exchange_word, reply_of, report_word, record_out, result_word, upload_of}
 use Rattle.capi_driver.specs.Telling.{Telling}
-use Rattle.capi_driver.proofs.Uploads.{upload, upload-refused}
+use Rattle.capi_driver.proofs.Uploads.{upload, upload_refused}
 
 three : (a b c : ℕ) → a < 256 → b < 256 →
     ((a + 256 * b + 65536 * c) % 256 ≡ a) × ((a + 256 * b + 65536 * c) / 256 % 256 ≡ b) × ((a + 256 * b + 65536 * c) / 65536 ≡ c)
@@ -53,19 +53,19 @@ wide : (a b c : ℕ) → a < 16777216 → b < 256 →
 wide a b c h k = (omega arith, omega arith, omega arith)
 
 -- every exchange sends something, and no exchange is 0
-ended : (st : List ℕ) → eqb (exchangeWord (pendingOf st)) 0 ≡ noneLeft (left st)
+ended : (st : List ℕ) → eqb (exchange_word (pending_of st)) 0 ≡ none_left (left st)
 ended st = go (left st)
   where
-    go : (l : List Step) → eqb (exchangeWord (pendingFor st l)) 0 ≡ noneLeft l
+    go : (l : List Step) → eqb (exchange_word (pending_for st l)) 0 ≡ none_left l
     go [] = refl
-    go (x ∷ xs) = ne_eqb (exchangeWord (pendingFor st (x ∷ xs))) 0 (λ e. omega (arith, e, ltb-true 0 (pendingFor st (x ∷ xs)).len (sends st x)))
+    go (x ∷ xs) = ne_eqb (exchange_word (pending_for st (x ∷ xs))) 0 (λ e. omega (arith, e, ltb-true 0 (pending_for st (x ∷ xs)).len (sends st x)))
 
 -- what bytes can say
-byteOf : (l : List ℕ) (i : ℕ) → Bytes l → get_or l i 0 < 256
-byteOf [] zero h = omega arith
-byteOf [] (suc i) h = omega arith
-byteOf (x ∷ xs) zero h = h.0
-byteOf (x ∷ xs) (suc i) h = byteOf xs i h.1
+byte_of : (l : List ℕ) (i : ℕ) → Bytes l → get_or l i 0 < 256
+byte_of [] zero h = omega arith
+byte_of [] (suc i) h = omega arith
+byte_of (x ∷ xs) zero h = h.0
+byte_of (x ∷ xs) (suc i) h = byte_of xs i h.1
 
 pick : (p a b c : ℕ) → a < 16777216 → b < 16777216 → c < 16777216 → get_or (0 ∷ 0 ∷ 0 ∷ a ∷ b ∷ c ∷ []) p 0 < 16777216
 pick zero a b c f g h = omega arith
@@ -76,74 +76,74 @@ pick (suc (suc (suc (suc zero)))) a b c f g h = g
 pick (suc (suc (suc (suc (suc zero))))) a b c f g h = h
 pick (suc (suc (suc (suc (suc (suc n)))))) a b c f g h = omega arith
 
-counted : (st : List ℕ) → Bytes st → countIn st < 256
-counted st h = go (isBegun st)
+counted : (st : List ℕ) → Bytes st → count_in st < 256
+counted st h = go (is_begun st)
   where
-    go : (k : Bool) → cond k (madeIn st) 0 < 256
-    go true = byteOf st 2 h
+    go : (k : Bool) → cond k (made_in st) 0 < 256
+    go true = byte_of st 2 h
     go false = omega arith
 
-bounded : (st : List ℕ) → Bytes st → ((outcomeOf st).value < 16777216) × ((outcomeOf st).made < 256)
-unfolding outcomeOf
+bounded : (st : List ℕ) → Bytes st → ((outcome_of st).value < 16777216) × ((outcome_of st).made < 256)
+unfolding outcome_of
 bounded st h = (value (completed st), counted st h)
   where
-    value : (k : Bool) → cond k (valueIn st) 0 < 16777216
+    value : (k : Bool) → cond k (value_in st) 0 < 16777216
     value false = omega arith
-    value true = pick (purposeIn st) _ _ _ (omega (arith, byteOf st 3 h)) (omega (arith, byteOf st 3 h, byteOf st 4 h, byteOf st 5 h)) (omega arith)
+    value true = pick (purpose_in st) _ _ _ (omega (arith, byte_of st 3 h)) (omega (arith, byte_of st 3 h, byte_of st 4 h, byte_of st 5 h)) (omega arith)
 
 -- an exchange sends at most 33 bytes
-bounded-exchange : (st : List ℕ) → Bytes st → ((pendingOf st).len < 256) × ((pendingOf st).address < 256)
-bounded-exchange st h = go (left st)
+bounded_exchange : (st : List ℕ) → Bytes st → ((pending_of st).len < 256) × ((pending_of st).address < 256)
+bounded_exchange st h = go (left st)
   where
-    go : (l : List Step) → ((pendingFor st l).len < 256) × ((pendingFor st l).address < 256)
+    go : (l : List Step) → ((pending_for st l).len < 256) × ((pending_for st l).address < 256)
     go [] = (omega arith, omega arith)
-    go (Write r v ∷ xs) = (omega arith, byteOf st 0 h)
-    go (Read r ∷ xs) = (omega arith, byteOf st 0 h)
-    go (Update r s w v ∷ xs) = (omega arith, byteOf st 0 h)
-    go (Match r v ∷ xs) = (omega arith, byteOf st 0 h)
-    go (Chunk i n ∷ xs) = (omega (arith, length-take (min n 32) (drop i (imageIn st))), byteOf st 0 h)
-    go (Store i ∷ xs) = (omega arith, byteOf st 0 h)
+    go (Write r v ∷ xs) = (omega arith, byte_of st 0 h)
+    go (Read r ∷ xs) = (omega arith, byte_of st 0 h)
+    go (Update r s w v ∷ xs) = (omega arith, byte_of st 0 h)
+    go (Match r v ∷ xs) = (omega arith, byte_of st 0 h)
+    go (Chunk i n ∷ xs) = (omega (arith, length-take (min n 32) (drop i (image_in st))), byte_of st 0 h)
+    go (Store i ∷ xs) = (omega arith, byte_of st 0 h)
 
 -- what is told of an answer, by how it fits
 module _ (st : List ℕ) (kind byte n : ℕ) (h : Bytes st) (b : byte < 256) where
-  told : ((reportOf st (replyOf kind byte) n).number < 256) × ((reportOf st (replyOf kind byte) n).code < 256)
-  unfolding reportOf fitOf
+  told : ((report_of st (reply_of kind byte) n).number < 256) × ((report_of st (reply_of kind byte) n).code < 256)
+  unfolding report_of fit_of
   told = go (resized st n) (left st) kind
     where
       go : (k : Bool) (l : List Step) (m : ℕ) →
-          ((effectOf (cond k (fitsNext [] Done) (fitsNext l (replyOf m byte)))).number < 256) × ((effectOf (cond k (fitsNext [] Done) (fitsNext l (replyOf m byte)))).code < 256)
+          ((effect_of (cond k (fits_next [] Done) (fits_next l (reply_of m byte)))).number < 256) × ((effect_of (cond k (fits_next [] Done) (fits_next l (reply_of m byte)))).code < 256)
       go true l m = (omega arith, omega arith)
       go false [] m = (omega arith, omega arith)
-      go false (x ∷ xs) zero = choice (λ f. ((effectOf f).number < 256) × ((effectOf f).code < 256)) (eqb (wanted x) 0) _ _ (omega arith, omega arith) (omega arith, omega arith)
+      go false (x ∷ xs) zero = choice (λ f. ((effect_of f).number < 256) × ((effect_of f).code < 256)) (eqb (wanted x) 0) _ _ (omega arith, omega arith) (omega arith, omega arith)
       go false (Write r v ∷ xs) (suc zero) = (omega arith, omega arith)
       go false (Read r ∷ xs) (suc zero) = (omega arith, omega arith)
       go false (Update r s w v ∷ xs) (suc zero) = (omega arith, omega arith)
-      go false (Match r v ∷ xs) (suc zero) = choice (λ f. ((effectOf f).number < 256) × ((effectOf f).code < 256)) (eqb byte v) _ _ (omega arith, omega arith) (omega arith, omega arith)
+      go false (Match r v ∷ xs) (suc zero) = choice (λ f. ((effect_of f).number < 256) × ((effect_of f).code < 256)) (eqb byte v) _ _ (omega arith, omega arith) (omega arith, omega arith)
       go false (Chunk i m ∷ xs) (suc zero) = (omega arith, omega arith)
       go false (Store i ∷ xs) (suc zero) = (omega arith, omega arith)
       go false (x ∷ xs) (suc (suc m)) = (omega arith, b)
 
   -- the call, with some buffer of this length
   abbrev call : AnswerCall
-  call = record { reply = replyOf kind byte; buffer = replicate n 0 }
+  call = record { reply = reply_of kind byte; buffer = replicate n 0 }
 
-  one-sent : length (sent st (call ∷ [])) ≤ 1
-  one-sent = choice (λ (es : List Exchange). length (es ++ []) ≤ 1) (taken st call.reply (length call.buffer)) (pendingOf st ∷ []) [] (omega arith) (omega arith)
+  one_sent : length (sent st (call ∷ [])) ≤ 1
+  one_sent = choice (λ (es : List Exchange). length (es ++ []) ≤ 1) (taken st call.reply (length call.buffer)) (pending_of st ∷ []) [] (omega arith) (omega arith)
 
   -- one more is counted where a step is left
-  more : countIn (afterCall st call) < 256
+  more : count_in (after_call st call) < 256
   more = go (left st) refl
     where
-      go : (l : List Step) → left st ≡ l → countIn (afterCall st call) < 256
+      go : (l : List Step) → left st ≡ l → count_in (after_call st call) < 256
       go [] e = omega (arith, session.count st (call ∷ []), session.within st (call ∷ []), ap length e, counted st h)
-      go (x ∷ xs) e = omega (arith, session.count st (call ∷ []), one-sent, choice (λ (m : ℕ). m < 125) (isBegun st) (madeIn st) 0 (left-counts st x xs e).1 (omega arith))
+      go (x ∷ xs) e = omega (arith, session.count st (call ∷ []), one_sent, choice (λ (m : ℕ). m < 125) (is_begun st) (made_in st) 0 (left_counts st x xs e).1 (omega arith))
 
-  made : (reportOf st (replyOf kind byte) n).made < 256
-  unfolding reportOf afterCall
-  made = let k = ap (λ (m : ℕ). countIn (stateAfter st (replyOf kind byte) m)) (length-replicate {A = ℕ} n 0) in omega (arith, k, more)
+  made : (report_of st (reply_of kind byte) n).made < 256
+  unfolding report_of after_call
+  made = let k = ap (λ (m : ℕ). count_in (state_after st (reply_of kind byte) m)) (length-replicate {A = ℕ} n 0) in omega (arith, k, more)
 
-  bounded-report : ((reportOf st (replyOf kind byte) n).number < 256) × ((reportOf st (replyOf kind byte) n).code < 256) × ((reportOf st (replyOf kind byte) n).made < 256)
-  bounded-report = (told.0, told.1, made)
+  bounded_report : ((report_of st (reply_of kind byte) n).number < 256) × ((report_of st (reply_of kind byte) n).code < 256) × ((report_of st (reply_of kind byte) n).made < 256)
+  bounded_report = (told.0, told.1, made)
 
 -- ---- the record
 
@@ -152,68 +152,68 @@ shifted : (f : ℕ → ℕ) (i n : ℕ) → indexed f (suc i) n ≡ indexed (λ 
 shifted f i zero = refl
 shifted f i (suc n) = ap (λ (l : List ℕ). f (suc i) ∷ l) (shifted f (suc i) n)
 
-each-byte : (k : ℕ) (l : List ℕ) → length l ≡ k → l ≡ indexed (at l) 0 k
-each-byte zero [] h = refl
-each-byte zero (x ∷ xs) h = absurd (omega (arith, h))
-each-byte (suc k) [] h = absurd (omega (arith, h))
-each-byte (suc k) (x ∷ xs) h = ap (λ (l : List ℕ). x ∷ l) (each-byte k xs (omega (arith, h)) ∙ sym (shifted (at (x ∷ xs)) 0 k))
+each_byte : (k : ℕ) (l : List ℕ) → length l ≡ k → l ≡ indexed (at l) 0 k
+each_byte zero [] h = refl
+each_byte zero (x ∷ xs) h = absurd (omega (arith, h))
+each_byte (suc k) [] h = absurd (omega (arith, h))
+each_byte (suc k) (x ∷ xs) h = ap (λ (l : List ℕ). x ∷ l) (each_byte k xs (omega (arith, h)) ∙ sym (shifted (at (x ∷ xs)) 0 k))
 
-records : (l : List ℕ) (c : Change) → length l ≡ 38 → recordAt (recordOut l c) ≡ recordBy (recordAt l) c
-unfolding recordAt
+records : (l : List ℕ) (c : Change) → length l ≡ 38 → record_at (record_out l c) ≡ record_by (record_at l) c
+unfolding record_at
 records l Same h = refl
-records l (To r) h = rw (eq-eqb _ _ h) (record-kept r)
-records l (Sequences n) h = subst (λ (m : List ℕ). recordAt (recordOut m (Sequences n)) ≡ withSequences (recordAt m) n) (sym (each-byte 38 l h)) refl
+records l (To r) h = rw (eq-eqb _ _ h) (record_kept r)
+records l (Sequences n) h = subst (λ (m : List ℕ). record_at (record_out m (Sequences n)) ≡ with_sequences (record_at m) n) (sym (each_byte 38 l h)) refl
 
-counted-out : (l : List ℕ) (n : ℕ) → length l ≡ 38 → recordOut l (Sequences n) ≡ take 37 l ++ (n ∷ [])
-counted-out l n h = subst (λ (m : List ℕ). recordOut m (Sequences n) ≡ take 37 m ++ (n ∷ [])) (sym (each-byte 38 l h)) refl
+counted_out : (l : List ℕ) (n : ℕ) → length l ≡ 38 → record_out l (Sequences n) ≡ take 37 l ++ (n ∷ [])
+counted_out l n h = subst (λ (m : List ℕ). record_out m (Sequences n) ≡ take 37 m ++ (n ∷ [])) (sym (each_byte 38 l h)) refl
 
-none : (l : List ℕ) → ¬ (length l ≡ 38) → recordAt l ≡ record { address = 0; variant = DA7280; settings = Absent; sequences = 0 }
-unfolding recordAt
+none : (l : List ℕ) → ¬ (length l ≡ 38) → record_at l ≡ record { address = 0; variant = DA7280; settings = Absent; sequences = 0 }
+unfolding record_at
 none l h = rw (ne_eqb _ _ h)
 
-spared : (l : List ℕ) (c : Change) → (¬ (length l ≡ 38)) ⊎ (c ≡ Same) → recordOut l c ≡ l
+spared : (l : List ℕ) (c : Change) → (¬ (length l ≡ 38)) ⊎ (c ≡ Same) → record_out l c ≡ l
 spared l c (inl h) = go c
   where
-    go : (c : Change) → recordOut l c ≡ l
+    go : (c : Change) → record_out l c ≡ l
     go Same = refl
     go (To r) = rw (ne_eqb _ _ h)
     go (Sequences n) = rw (ne_eqb _ _ h)
-spared l c (inr e) = ap (recordOut l) e
+spared l c (inr e) = ap (record_out l) e
 
 -- ---- answers of the bus, and uploads
 
-replies : (kind byte : ℕ) → (replyOf 0 byte ≡ Done) × (replyOf 1 byte ≡ Byte byte) × (2 ≤ kind → replyOf kind byte ≡ Failed byte)
+replies : (kind byte : ℕ) → (reply_of 0 byte ≡ Done) × (reply_of 1 byte ≡ Byte byte) × (2 ≤ kind → reply_of kind byte ≡ Failed byte)
 replies kind byte = (refl, refl, failed kind)
   where
-    failed : (kind : ℕ) → 2 ≤ kind → replyOf kind byte ≡ Failed byte
+    failed : (kind : ℕ) → 2 ≤ kind → reply_of kind byte ≡ Failed byte
     failed zero h = absurd (omega arith)
     failed (suc zero) h = absurd (omega arith)
     failed (suc (suc n)) h = refl
 
-uploads : (r : DA728x) (image : List ℕ) (lockAfter : Bool) → length image ≤ 100 → let m = memory (image ++ replicate (100 - length image) 0) (length image) (at image 0) (at image 1) in
-    (uploadOf r image lockAfter ≡ (uploadWaveformMemory r m lockAfter).start) × (take m.len m.«data» ≡ image) × (length m.«data» ≡ 100) × (m.num_sequences ≡ at image 1)
-unfolding uploadOf
-uploads r image lockAfter h = (
-  ap (λ (b : Bool). upload r lockAfter (cond b (refused 8 noMemory) (accepted (memory (image ++ replicate (100 - length image) 0) (length image) (at image 0) (at image 1))))) (le-ltb 100 (length image) h),
+uploads : (r : DA728x) (image : List ℕ) (lock_after : Bool) → length image ≤ 100 → let m = memory (image ++ replicate (100 - length image) 0) (length image) (at image 0) (at image 1) in
+    (upload_of r image lock_after ≡ (upload_waveform_memory r m lock_after).start) × (take m.len m.«data» ≡ image) × (length m.«data» ≡ 100) × (m.num_sequences ≡ at image 1)
+unfolding upload_of
+uploads r image lock_after h = (
+  ap (λ (b : Bool). upload r lock_after (cond b (refused 8 no_memory) (accepted (memory (image ++ replicate (100 - length image) 0) (length image) (at image 0) (at image 1))))) (le-ltb 100 (length image) h),
   take_at image (replicate (100 - length image) 0) (length image) refl,
   length-append image (replicate (100 - length image) 0) ∙ ap (λ (n : ℕ). length image + n) (length-replicate {A = ℕ} (100 - length image) 0) ∙ omega arith,
   refl,
 )
 
 pub telling : Telling
-unfolding reportWord resultWord
+unfolding report_word result_word
 telling = record {
-  exchanges = λ st h. let k = bounded-exchange st h in three (pendingOf st).len (pendingOf st).address (pendingOf st).wanted k.0 k.1;
+  exchanges = λ st h. let k = bounded_exchange st h in three (pending_of st).len (pending_of st).address (pending_of st).wanted k.0 k.1;
   ended = ended;
   reports = λ st kind byte n h b.
-      let t = reportOf st (replyOf kind byte) n in
-      let k = bounded-report st kind byte n h b in four t.number t.code t.made (codeOf t.ended) k.0 k.1 k.2;
+      let t = report_of st (reply_of kind byte) n in
+      let k = bounded_report st kind byte n h b in four t.number t.code t.made (code_of t.ended) k.0 k.1 k.2;
   records = records;
   spared = spared;
-  counted = counted-out;
+  counted = counted_out;
   none = none;
-  results = λ st h. let k = bounded st h in wide (outcomeOf st).value (outcomeOf st).made (codeOf (outcomeOf st).completed) k.0 k.1;
+  results = λ st h. let k = bounded st h in wide (outcome_of st).value (outcome_of st).made (code_of (outcome_of st).completed) k.0 k.1;
   replies = replies;
-  full = upload-refused;
+  full = upload_refused;
   uploads = uploads;
 }

@@ -5,41 +5,41 @@ use Rattle.laws.specs.Bytes.{Bytes}
 use Rattle.laws.specs.Lists.{at}
 use Rattle.config.specs.declared.Variant.TheVariants.{DA7280}
 use Rattle.da728x.specs.declared.Settings.TheVariants.{Absent}
-use Rattle.field.specs.Field.{codeOf}
+use Rattle.field.specs.Field.{code_of}
 use Rattle.memory.specs.Memory.{memory}
 use Rattle.exchange.specs.declared.Reply.TheVariants.{Done, Byte, Failed}
-use Rattle.exchange.specs.State.{left, noneLeft}
-use Rattle.exchange.specs.Turn.{pendingOf, reportOf}
+use Rattle.exchange.specs.State.{left, none_left}
+use Rattle.exchange.specs.Turn.{pending_of, report_of}
 use Rattle.da728x.specs.declared.DA728x.{DA728x}
-use Rattle.da728x.specs.Record.{recordAt}
+use Rattle.da728x.specs.Record.{record_at}
 use Rattle.outcome.specs.declared.Change.{Change}
 use Rattle.outcome.specs.declared.Change.TheVariants.{Same, Sequences}
-use Rattle.outcome.specs.Outcome.{outcomeOf, recordBy}
-use Rattle.driver.specs.Operations.{declines, uploadWaveformMemory}
-use Rattle.capi_driver.specs.Words.{exchangeWord, replyOf, reportWord, recordOut, resultWord, uploadOf}
+use Rattle.outcome.specs.Outcome.{outcome_of, record_by}
+use Rattle.driver.specs.Operations.{declines, upload_waveform_memory}
+use Rattle.capi_driver.specs.Words.{exchange_word, reply_of, report_word, record_out, result_word, upload_of}
 
 pub record Telling : Type 0 where
   -- da728x_pending; its word is 0 exactly where no step is left
-  pub exchanges : (st : List ℕ) → Bytes st → let e = pendingOf st in let word = exchangeWord e in
+  pub exchanges : (st : List ℕ) → Bytes st → let e = pending_of st in let word = exchange_word e in
       (word % 256 ≡ e.len) × (word / 256 % 256 ≡ e.address) × (word / 65536 ≡ e.wanted)
-  pub ended : (st : List ℕ) → eqb (exchangeWord (pendingOf st)) 0 ≡ noneLeft (left st)
+  pub ended : (st : List ℕ) → eqb (exchange_word (pending_of st)) 0 ≡ none_left (left st)
   -- da728x_answer
-  pub reports : (st : List ℕ) (kind byte n : ℕ) → Bytes st → byte < 256 → let t = reportOf st (replyOf kind byte) n in let word = reportWord t in
-      (word % 256 ≡ t.number) × (word / 256 % 256 ≡ t.code) × (word / 65536 % 256 ≡ t.made) × (word / 2 ^ 24 ≡ codeOf t.ended)
+  pub reports : (st : List ℕ) (kind byte n : ℕ) → Bytes st → byte < 256 → let t = report_of st (reply_of kind byte) n in let word = report_word t in
+      (word % 256 ≡ t.number) × (word / 256 % 256 ≡ t.code) × (word / 65536 % 256 ≡ t.made) × (word / 2 ^ 24 ≡ code_of t.ended)
   -- what the bus answered: 0 done, 1 a byte, any other kind a failure with its code
-  pub replies : (kind byte : ℕ) → (replyOf 0 byte ≡ Done) × (replyOf 1 byte ≡ Byte byte) × (2 ≤ kind → replyOf kind byte ≡ Failed byte)
+  pub replies : (kind byte : ℕ) → (reply_of 0 byte ≡ Done) × (reply_of 1 byte ≡ Byte byte) × (2 ≤ kind → reply_of kind byte ≡ Failed byte)
   -- the record that it writes, as a start does: 38 bytes then hold what the change makes of the record in them; other lengths stay, and one that is left
   -- keeps its bytes; another count of sequences is in the last byte, and the other 37 stay, whatever they are
-  pub records : (l : List ℕ) (c : Change) → length l ≡ 38 → recordAt (recordOut l c) ≡ recordBy (recordAt l) c
-  pub spared : (l : List ℕ) (c : Change) → (¬ (length l ≡ 38)) ⊎ (c ≡ Same) → recordOut l c ≡ l
-  pub counted : (l : List ℕ) (n : ℕ) → length l ≡ 38 → recordOut l (Sequences n) ≡ take 37 l ++ (n ∷ [])
+  pub records : (l : List ℕ) (c : Change) → length l ≡ 38 → record_at (record_out l c) ≡ record_by (record_at l) c
+  pub spared : (l : List ℕ) (c : Change) → (¬ (length l ≡ 38)) ⊎ (c ≡ Same) → record_out l c ≡ l
+  pub counted : (l : List ℕ) (n : ℕ) → length l ≡ 38 → record_out l (Sequences n) ≡ take 37 l ++ (n ∷ [])
   -- bytes of another length are no record: no sequences, whatever they are
-  pub none : (l : List ℕ) → ¬ (length l ≡ 38) → recordAt l ≡ record { address = 0; variant = DA7280; settings = Absent; sequences = 0 }
+  pub none : (l : List ℕ) → ¬ (length l ≡ 38) → record_at l ≡ record { address = 0; variant = DA7280; settings = Absent; sequences = 0 }
   -- da728x_result
-  pub results : (st : List ℕ) → Bytes st → let o = outcomeOf st in let word = resultWord o in
-      (word % 2 ^ 24 ≡ o.value) × (word / 2 ^ 24 % 256 ≡ o.made) × (word / 2 ^ 32 ≡ codeOf o.completed)
+  pub results : (st : List ℕ) → Bytes st → let o = outcome_of st in let word = result_word o in
+      (word % 2 ^ 24 ≡ o.value) × (word / 2 ^ 24 % 256 ≡ o.made) × (word / 2 ^ 32 ≡ code_of o.completed)
   -- da728x_upload_waveform_memory: 8 for more than a hundred bytes; else the driver's upload of a memory that shows just these, with as many sequences as
   -- byte 1 says, 0 where there is none
-  pub full : (r : DA728x) (image : List ℕ) (lockAfter : Bool) → 100 < length image → uploadOf r image lockAfter ≡ declines 8
-  pub uploads : (r : DA728x) (image : List ℕ) (lockAfter : Bool) → length image ≤ 100 → let m = memory (image ++ replicate (100 - length image) 0) (length image) (at image 0) (at image 1) in
-      (uploadOf r image lockAfter ≡ (uploadWaveformMemory r m lockAfter).start) × (take m.len m.«data» ≡ image) × (length m.«data» ≡ 100) × (m.num_sequences ≡ at image 1)
+  pub full : (r : DA728x) (image : List ℕ) (lock_after : Bool) → 100 < length image → upload_of r image lock_after ≡ declines 8
+  pub uploads : (r : DA728x) (image : List ℕ) (lock_after : Bool) → length image ≤ 100 → let m = memory (image ++ replicate (100 - length image) 0) (length image) (at image 0) (at image 1) in
+      (upload_of r image lock_after ≡ (upload_waveform_memory r m lock_after).start) × (take m.len m.«data» ≡ image) × (length m.«data» ≡ 100) × (m.num_sequences ≡ at image 1)

@@ -3,10 +3,10 @@
 -- document 02, CR 10.
 use Rattle.std.specs.Prelude.{ℕ, ◌+◌, ◌-◌, ◌*◌, Bool, cond, ◌&&◌, List, [], ◌∷◌, ◌++◌, eqb, length, set, get_or, replicate}
 use Rattle.laws.specs.Lists.{at}
-use Rattle.field.specs.Field.{codeOf}
+use Rattle.field.specs.Field.{code_of}
 use Rattle.memory.specs.Memory.{loaded}
 use Rattle.da728x.specs.declared.DA728x.{DA728x}
-use Rattle.da728x.specs.Record.{recordBytes}
+use Rattle.da728x.specs.Record.{record_bytes}
 use Rattle.exchange.specs.declared.Exchange.{Exchange}
 use Rattle.exchange.specs.declared.Reply.{Reply}
 use Rattle.exchange.specs.declared.Reply.TheVariants.{Done, Byte, Failed}
@@ -14,39 +14,39 @@ use Rattle.exchange.specs.Turn.{Report}
 use Rattle.outcome.specs.declared.Change.{Change}
 use Rattle.outcome.specs.declared.Change.TheVariants.{Same, To, Sequences}
 use Rattle.outcome.specs.declared.Outcome.{Outcome}
-use Rattle.driver.specs.Operations.{Start, unless, uploadWaveformMemory}
+use Rattle.driver.specs.Operations.{Start, unless, upload_waveform_memory}
 
 -- the exchange to be made: how many bytes are sent, the chip's address, how many are wanted
-abbrev pub exchangeWord : Exchange → ℕ
-exchangeWord e = e.len + 256 * e.address + 65536 * e.wanted
+abbrev pub exchange_word : Exchange → ℕ
+exchange_word e = e.len + 256 * e.address + 65536 * e.wanted
 
 -- what the bus answered: 0 done, 1 a byte, any other a failure with its code
-abbrev pub replyOf : ℕ → ℕ → Reply
-replyOf kind byte = get_or (Done ∷ Byte byte ∷ []) kind (Failed byte)
+abbrev pub reply_of : ℕ → ℕ → Reply
+reply_of kind byte = get_or (Done ∷ Byte byte ∷ []) kind (Failed byte)
 
 -- the number of the refusal, the bus's own code, the count, and whether the session has ended
-unfoldable pub reportWord : Report → ℕ
-reportWord t = t.number + 256 * t.code + 65536 * t.made + 16777216 * codeOf t.ended
+unfoldable pub report_word : Report → ℕ
+report_word t = t.number + 256 * t.code + 65536 * t.made + 16777216 * code_of t.ended
 
 -- the caller's record afterwards: bytes of another length stay as they are, and another count of sequences moves no other byte
-abbrev pub recordOut : List ℕ → Change → List ℕ
-recordOut l Same = l
-recordOut l (To r) = cond (eqb (length l) 38) (recordBytes r) l
-recordOut l (Sequences n) = cond (eqb (length l) 38) (set l 37 n) l
+abbrev pub record_out : List ℕ → Change → List ℕ
+record_out l Same = l
+record_out l (To r) = cond (eqb (length l) 38) (record_bytes r) l
+record_out l (Sequences n) = cond (eqb (length l) 38) (set l 37 n) l
 
 -- the same of an answer to an upload, by the bytes of its session: the address is at 117, the image's count at 154. Of a private contract alone, and equal to
 -- the rule above (proofs/Counts.antt)
-abbrev pub countOut : List ℕ → List ℕ → Bool → ℕ → List ℕ
-countOut l st ended number =
+abbrev pub count_out : List ℕ → List ℕ → Bool → ℕ → List ℕ
+count_out l st ended number =
     cond (eqb (length l) 38 && eqb (at st 117) (at l 0)) (cond (ended && eqb number 0) (set l 37 (at st 154)) (cond (eqb number 19) l (set l 37 0))) l
 
 -- what the operation answers, the count, and whether every exchange was made
-unfoldable pub resultWord : Outcome → ℕ
-resultWord o = o.value + 16777216 * o.made + 4294967296 * codeOf o.completed
+unfoldable pub result_word : Outcome → ℕ
+result_word o = o.value + 16777216 * o.made + 4294967296 * code_of o.completed
 
 -- an upload of bytes: refused as `from_bytes` refuses them, with 8 for more than a hundred; the numbers of snippets and of sequences are the image's
 -- first two bytes, 0 where it has none
-unfoldable pub uploadOf : DA728x → List ℕ → Bool → Start
-uploadOf r image lockAfter =
+unfoldable pub upload_of : DA728x → List ℕ → Bool → Start
+upload_of r image lock_after =
     let m = loaded (image ++ replicate (100 - length image) 0) (length image) (at image 0) (at image 1) in
-    unless m.number (uploadWaveformMemory r m.builder lockAfter).start
+    unless m.number (upload_waveform_memory r m.builder lock_after).start

@@ -10,16 +10,16 @@
 
 ghost use Rattle.std.specs.Prelude.{◌≡◌, ltb, length, take};
 ghost use Rattle.laws.specs.Copied.{copied};
-ghost use Rattle.field.specs.Field.{codeOf};
-ghost use Rattle.config.specs.Codes.{variantAt};
-ghost use Rattle.memory.specs.Timebase.{memoryTimebaseAt};
-ghost use Rattle.da728x.specs.Record.{recordAt, actuatorConfigAt, deviceConfigAt};
-ghost use Rattle.exchange.specs.Turn.{pendingOf, reportOf, turnReport, stateAfter, bufferAfter};
+ghost use Rattle.field.specs.Field.{code_of};
+ghost use Rattle.config.specs.Codes.{variant_at};
+ghost use Rattle.memory.specs.Timebase.{memory_timebase_at};
+ghost use Rattle.da728x.specs.Record.{record_at, actuator_config_at, device_config_at};
+ghost use Rattle.exchange.specs.Turn.{pending_of, report_of, turn_report, state_after, buffer_after};
 ghost use Rattle.outcome.specs.declared.Change.TheVariants.{To, Sequences};
-ghost use Rattle.outcome.specs.Outcome.{zeroing, changeBy, outcomeOf};
+ghost use Rattle.outcome.specs.Outcome.{zeroing, change_by, outcome_of};
 ghost use Rattle.driver.specs.Operations as spec;
-ghost use Rattle.errors.specs.Number.{answerNumber};
-ghost use Rattle.capi_driver.specs.Words.{countOut, exchangeWord, replyOf, reportWord, recordOut, resultWord, uploadOf};
+ghost use Rattle.errors.specs.Number.{answer_number};
+ghost use Rattle.capi_driver.specs.Words.{count_out, exchange_word, reply_of, report_word, record_out, result_word, upload_of};
 
 use config::Variant;
 use da728x::DA728x;
@@ -37,8 +37,8 @@ const OUT_OF_TURN: u8 = 19;
 
 #[unsafe(no_mangle)]
 pub extern "C" fn da728x_new(address: u8, variant: u8, session: &mut [u8]) -> u8
-    ensures value { result ≡ spec.startNumber (spec.new address (variantAt variant)).start }
-    ensures session_after { session.new ≡ spec.startedIn session.old (spec.new address (variantAt variant)).start }
+    ensures value { result ≡ spec.start_number (spec.new address (variant_at variant)).start }
+    ensures session_after { session.new ≡ spec.started_in session.old (spec.new address (variant_at variant)).start }
 {
     driver::new(address, Variant::from_code(variant), session).number()
 }
@@ -46,11 +46,11 @@ pub extern "C" fn da728x_new(address: u8, variant: u8, session: &mut [u8]) -> u8
 #[unsafe(no_mangle)]
 pub extern "C" fn da728x_configure(record: &[u8], settings: &[u8], session: &mut [u8]) -> u8
     ensures value { result
-        ≡ spec.startNumber (spec.configure (recordAt «record».now) (actuatorConfigAt settings.now 0)
-        (deviceConfigAt settings.now 18)).start }
+        ≡ spec.start_number (spec.configure (record_at «record».now) (actuator_config_at settings.now 0)
+        (device_config_at settings.now 18)).start }
     ensures session_after { session.new
-        ≡ spec.startedIn session.old (spec.configure (recordAt «record».now) (actuatorConfigAt settings.now 0)
-        (deviceConfigAt settings.now 18)).start }
+        ≡ spec.started_in session.old (spec.configure (record_at «record».now) (actuator_config_at settings.now 0)
+        (device_config_at settings.now 18)).start }
 {
     // in this order less is copied
     let d = da728x::device_config(settings);
@@ -60,48 +60,48 @@ pub extern "C" fn da728x_configure(record: &[u8], settings: &[u8], session: &mut
 
 #[unsafe(no_mangle)]
 pub extern "C" fn da728x_get_chip_rev(record: &[u8], session: &mut [u8]) -> u8
-    ensures value { result ≡ spec.startNumber (spec.getChipRev (recordAt «record».now)).start }
-    ensures session_after { session.new ≡ spec.startedIn session.old (spec.getChipRev (recordAt «record».now)).start }
+    ensures value { result ≡ spec.start_number (spec.get_chip_rev (record_at «record».now)).start }
+    ensures session_after { session.new ≡ spec.started_in session.old (spec.get_chip_rev (record_at «record».now)).start }
 {
     driver::get_chip_rev(DA728x::from_bytes(record), session).number()
 }
 
 #[unsafe(no_mangle)]
 pub extern "C" fn da728x_get_events(record: &[u8], session: &mut [u8]) -> u8
-    ensures value { result ≡ spec.startNumber (spec.getEvents (recordAt «record».now)).start }
-    ensures session_after { session.new ≡ spec.startedIn session.old (spec.getEvents (recordAt «record».now)).start }
+    ensures value { result ≡ spec.start_number (spec.get_events (record_at «record».now)).start }
+    ensures session_after { session.new ≡ spec.started_in session.old (spec.get_events (record_at «record».now)).start }
 {
     driver::get_events(DA728x::from_bytes(record), session).number()
 }
 
 #[unsafe(no_mangle)]
 pub extern "C" fn da728x_get_status(record: &[u8], session: &mut [u8]) -> u8
-    ensures value { result ≡ spec.startNumber (spec.getStatus (recordAt «record».now)).start }
-    ensures session_after { session.new ≡ spec.startedIn session.old (spec.getStatus (recordAt «record».now)).start }
+    ensures value { result ≡ spec.start_number (spec.get_status (record_at «record».now)).start }
+    ensures session_after { session.new ≡ spec.started_in session.old (spec.get_status (record_at «record».now)).start }
 {
     driver::get_status(DA728x::from_bytes(record), session).number()
 }
 
 #[unsafe(no_mangle)]
 pub extern "C" fn da728x_set_frequency(record: &[u8], frequency_hz: u16, session: &mut [u8]) -> u8
-    ensures value { result ≡ spec.startNumber (spec.setFrequency (recordAt «record».now) frequency_hz).start }
-    ensures session_after { session.new ≡ spec.startedIn session.old (spec.setFrequency (recordAt «record».now) frequency_hz).start }
+    ensures value { result ≡ spec.start_number (spec.set_frequency (record_at «record».now) frequency_hz).start }
+    ensures session_after { session.new ≡ spec.started_in session.old (spec.set_frequency (record_at «record».now) frequency_hz).start }
 {
     driver::set_frequency(DA728x::from_bytes(record), frequency_hz, session).number()
 }
 
 #[unsafe(no_mangle)]
 pub extern "C" fn da728x_set_override_value(record: &[u8], value: i8, session: &mut [u8]) -> u8
-    ensures value { result ≡ spec.startNumber (spec.setOverrideValue (recordAt «record».now) value).start }
-    ensures session_after { session.new ≡ spec.startedIn session.old (spec.setOverrideValue (recordAt «record».now) value).start }
+    ensures value { result ≡ spec.start_number (spec.set_override_value (record_at «record».now) value).start }
+    ensures session_after { session.new ≡ spec.started_in session.old (spec.set_override_value (record_at «record».now) value).start }
 {
     driver::set_override_value(DA728x::from_bytes(record), value, session).number()
 }
 
 #[unsafe(no_mangle)]
 pub extern "C" fn da728x_set_timebase(record: &[u8], timebase: u8, session: &mut [u8]) -> u8
-    ensures value { result ≡ spec.startNumber (spec.setTimebase (recordAt «record».now) (memoryTimebaseAt timebase)).start }
-    ensures session_after { session.new ≡ spec.startedIn session.old (spec.setTimebase (recordAt «record».now) (memoryTimebaseAt timebase)).start }
+    ensures value { result ≡ spec.start_number (spec.set_timebase (record_at «record».now) (memory_timebase_at timebase)).start }
+    ensures session_after { session.new ≡ spec.started_in session.old (spec.set_timebase (record_at «record».now) (memory_timebase_at timebase)).start }
 {
     driver::set_timebase(
         DA728x::from_bytes(record),
@@ -113,16 +113,16 @@ pub extern "C" fn da728x_set_timebase(record: &[u8], timebase: u8, session: &mut
 
 #[unsafe(no_mangle)]
 pub extern "C" fn da728x_enable(record: &[u8], session: &mut [u8]) -> u8
-    ensures value { result ≡ spec.startNumber (spec.enable (recordAt «record».now)).start }
-    ensures session_after { session.new ≡ spec.startedIn session.old (spec.enable (recordAt «record».now)).start }
+    ensures value { result ≡ spec.start_number (spec.enable (record_at «record».now)).start }
+    ensures session_after { session.new ≡ spec.started_in session.old (spec.enable (record_at «record».now)).start }
 {
     driver::enable(DA728x::from_bytes(record), session).number()
 }
 
 #[unsafe(no_mangle)]
 pub extern "C" fn da728x_disable(record: &[u8], session: &mut [u8]) -> u8
-    ensures value { result ≡ spec.startNumber (spec.disable (recordAt «record».now)).start }
-    ensures session_after { session.new ≡ spec.startedIn session.old (spec.disable (recordAt «record».now)).start }
+    ensures value { result ≡ spec.start_number (spec.disable (record_at «record».now)).start }
+    ensures session_after { session.new ≡ spec.started_in session.old (spec.disable (record_at «record».now)).start }
 {
     driver::disable(DA728x::from_bytes(record), session).number()
 }
@@ -135,8 +135,8 @@ pub extern "C" fn da728x_set_custom_drive_waveform(
     c: u8,
     session: &mut [u8],
 ) -> u8
-    ensures value { result ≡ spec.startNumber (spec.setCustomDriveWaveform (recordAt «record».now) a b c).start }
-    ensures session_after { session.new ≡ spec.startedIn session.old (spec.setCustomDriveWaveform (recordAt «record».now) a b c).start }
+    ensures value { result ≡ spec.start_number (spec.set_custom_drive_waveform (record_at «record».now) a b c).start }
+    ensures session_after { session.new ≡ spec.started_in session.old (spec.set_custom_drive_waveform (record_at «record».now) a b c).start }
 {
     let points = [a, b, c];
     driver::set_custom_drive_waveform(DA728x::from_bytes(record), points, session).number()
@@ -144,16 +144,16 @@ pub extern "C" fn da728x_set_custom_drive_waveform(
 
 #[unsafe(no_mangle)]
 pub extern "C" fn da728x_unlock_waveform_memory(record: &[u8], session: &mut [u8]) -> u8
-    ensures value { result ≡ spec.startNumber (spec.unlockWaveformMemory (recordAt «record».now)).start }
-    ensures session_after { session.new ≡ spec.startedIn session.old (spec.unlockWaveformMemory (recordAt «record».now)).start }
+    ensures value { result ≡ spec.start_number (spec.unlock_waveform_memory (record_at «record».now)).start }
+    ensures session_after { session.new ≡ spec.started_in session.old (spec.unlock_waveform_memory (record_at «record».now)).start }
 {
     driver::unlock_waveform_memory(DA728x::from_bytes(record), session).number()
 }
 
 #[unsafe(no_mangle)]
 pub extern "C" fn da728x_lock_waveform_memory(record: &[u8], session: &mut [u8]) -> u8
-    ensures value { result ≡ spec.startNumber (spec.lockWaveformMemory (recordAt «record».now)).start }
-    ensures session_after { session.new ≡ spec.startedIn session.old (spec.lockWaveformMemory (recordAt «record».now)).start }
+    ensures value { result ≡ spec.start_number (spec.lock_waveform_memory (record_at «record».now)).start }
+    ensures session_after { session.new ≡ spec.started_in session.old (spec.lock_waveform_memory (record_at «record».now)).start }
 {
     driver::lock_waveform_memory(DA728x::from_bytes(record), session).number()
 }
@@ -165,12 +165,12 @@ pub extern "C" fn da728x_upload_waveform_memory(
     lock_after: u8,
     session: &mut [u8],
 ) -> u8
-    ensures value { result ≡ spec.startNumber (uploadOf (recordAt «record».old) image.now (ltb 0 lock_after)) }
+    ensures value { result ≡ spec.start_number (upload_of (record_at «record».old) image.now (ltb 0 lock_after)) }
     ensures record_after { «record».new
-        ≡ recordOut «record».old
-        (spec.changeFrom session.old (uploadOf (recordAt «record».old) image.now (ltb 0 lock_after))) }
+        ≡ record_out «record».old
+        (spec.change_from session.old (upload_of (record_at «record».old) image.now (ltb 0 lock_after))) }
     ensures session_after { session.new
-        ≡ spec.startedIn session.old (uploadOf (recordAt «record».old) image.now (ltb 0 lock_after)) }
+        ≡ spec.started_in session.old (upload_of (record_at «record».old) image.now (ltb 0 lock_after)) }
 {
     if 100 < image.len() {
         return Answer::Refused(Error::WaveformMemoryFull).number();
@@ -193,8 +193,8 @@ pub extern "C" fn da728x_read_waveform_memory(
     buffer_len: usize,
     session: &mut [u8],
 ) -> u8
-    ensures value { result ≡ spec.startNumber (spec.readWaveformMemory (recordAt «record».now) len buffer_len).start }
-    ensures session_after { session.new ≡ spec.startedIn session.old (spec.readWaveformMemory (recordAt «record».now) len buffer_len).start }
+    ensures value { result ≡ spec.start_number (spec.read_waveform_memory (record_at «record».now) len buffer_len).start }
+    ensures session_after { session.new ≡ spec.started_in session.old (spec.read_waveform_memory (record_at «record».now) len buffer_len).start }
 {
     driver::read_waveform_memory(DA728x::from_bytes(record), len, buffer_len, session).number()
 }
@@ -206,16 +206,16 @@ pub extern "C" fn da728x_select_sequence(
     loops: u8,
     session: &mut [u8],
 ) -> u8
-    ensures value { result ≡ spec.startNumber (spec.selectSequence (recordAt «record».now) sequence_id loops).start }
-    ensures session_after { session.new ≡ spec.startedIn session.old (spec.selectSequence (recordAt «record».now) sequence_id loops).start }
+    ensures value { result ≡ spec.start_number (spec.select_sequence (record_at «record».now) sequence_id loops).start }
+    ensures session_after { session.new ≡ spec.started_in session.old (spec.select_sequence (record_at «record».now) sequence_id loops).start }
 {
     driver::select_sequence(DA728x::from_bytes(record), sequence_id, loops, session).number()
 }
 
 #[unsafe(no_mangle)]
 pub extern "C" fn da728x_start_sequence(record: &[u8], session: &mut [u8]) -> u8
-    ensures value { result ≡ spec.startNumber (spec.startSequence (recordAt «record».now)).start }
-    ensures session_after { session.new ≡ spec.startedIn session.old (spec.startSequence (recordAt «record».now)).start }
+    ensures value { result ≡ spec.start_number (spec.start_sequence (record_at «record».now)).start }
+    ensures session_after { session.new ≡ spec.started_in session.old (spec.start_sequence (record_at «record».now)).start }
 {
     driver::start_sequence(DA728x::from_bytes(record), session).number()
 }
@@ -227,17 +227,17 @@ pub extern "C" fn da728x_play_sequence(
     loops: u8,
     session: &mut [u8],
 ) -> u8
-    ensures value { result ≡ spec.startNumber (spec.playSequence (recordAt «record».now) sequence_id loops).start }
-    ensures session_after { session.new ≡ spec.startedIn session.old (spec.playSequence (recordAt «record».now) sequence_id loops).start }
+    ensures value { result ≡ spec.start_number (spec.play_sequence (record_at «record».now) sequence_id loops).start }
+    ensures session_after { session.new ≡ spec.started_in session.old (spec.play_sequence (record_at «record».now) sequence_id loops).start }
 {
     driver::play_sequence(DA728x::from_bytes(record), sequence_id, loops, session).number()
 }
 
 #[unsafe(no_mangle)]
 pub extern "C" fn da728x_pending(session: &[u8], bytes: &mut [u8]) -> u32
-    ensures value { result ≡ exchangeWord (pendingOf session.now) }
+    ensures value { result ≡ exchange_word (pending_of session.now) }
     ensures bytes_after { bytes.new
-        ≡ copied bytes.old (take (pendingOf session.now).len (pendingOf session.now).bytes) }
+        ≡ copied bytes.old (take (pending_of session.now).len (pending_of session.now).bytes) }
 {
     let e = exchange::pending(session);
     send(e, bytes);
@@ -245,7 +245,7 @@ pub extern "C" fn da728x_pending(session: &[u8], bytes: &mut [u8]) -> u32
 }
 
 fn exchange_word(e: Exchange) -> u32
-    ensures { result ≡ exchangeWord e }
+    ensures { result ≡ exchange_word e }
 {
     e.len as u32 + 256 * (e.address as u32) + 65536 * (e.wanted as u32)
 }
@@ -267,7 +267,7 @@ fn sent_len(e: Exchange) -> usize
     33
 }
 
-#[tactic(auto, unfolding(driver::specs::Operations::changeAfter))]
+#[tactic(auto, unfolding(driver::specs::Operations::change_after))]
 #[unsafe(no_mangle)]
 pub extern "C" fn da728x_answer(
     record: &mut [u8],
@@ -276,12 +276,12 @@ pub extern "C" fn da728x_answer(
     byte: u8,
     buffer: &mut [u8],
 ) -> u32
-    ensures value { result ≡ reportWord (reportOf session.old (replyOf kind byte) (length buffer.old)) }
+    ensures value { result ≡ report_word (report_of session.old (reply_of kind byte) (length buffer.old)) }
     ensures record_after { «record».new
-        ≡ recordOut «record».old
-        (spec.changeAfter session.old (replyOf kind byte) (length buffer.old) (recordAt «record».old)) }
-    ensures session_after { session.new ≡ stateAfter session.old (replyOf kind byte) (length buffer.old) }
-    ensures buffer_after { buffer.new ≡ bufferAfter session.old (replyOf kind byte) buffer.old }
+        ≡ record_out «record».old
+        (spec.change_after session.old (reply_of kind byte) (length buffer.old) (record_at «record».old)) }
+    ensures session_after { session.new ≡ state_after session.old (reply_of kind byte) (length buffer.old) }
+    ensures buffer_after { buffer.new ≡ buffer_after session.old (reply_of kind byte) buffer.old }
 {
     let turn = exchange::answer(session, reply(kind, byte), buffer);
     let told = word(turn);
@@ -290,10 +290,10 @@ pub extern "C" fn da728x_answer(
 }
 
 // The record after an answer that gave this turn; it is looked at only where it may change, and an upload's count goes to its place.
-#[tactic(auto, unfolding(outcome::specs::Outcome::changeBy))]
+#[tactic(auto, unfolding(outcome::specs::Outcome::change_by))]
 fn store(record: &mut [u8], session: &[u8], turn: Turn)
     ensures { «record».new
-        ≡ recordOut «record».old (changeBy session.now (turnReport turn) (recordAt «record».old)) }
+        ≡ record_out «record».old (change_by session.now (turn_report turn) (record_at «record».old)) }
 {
     if outcome::is_upload(session) {
         store_count(record, session, turn);
@@ -307,7 +307,7 @@ fn store(record: &mut [u8], session: &[u8], turn: Turn)
 
 fn store_count(record: &mut [u8], session: &[u8], turn: Turn)
     requires { length session.now ≡ 280 }
-    ensures { «record».new ≡ countOut «record».old session.now turn.ended (answerNumber turn.answer) }
+    ensures { «record».new ≡ count_out «record».old session.now turn.ended (answer_number turn.answer) }
 {
     let answer = turn.answer;
     let number = answer.number();
@@ -328,7 +328,7 @@ fn store_count(record: &mut [u8], session: &[u8], turn: Turn)
 }
 
 fn put(change: Change, out: &mut [u8])
-    ensures { out.new ≡ recordOut out.old change }
+    ensures { out.new ≡ record_out out.old change }
 {
     match change {
         Change::Same => {}
@@ -339,7 +339,7 @@ fn put(change: Change, out: &mut [u8])
 
 // What the start of an upload does to the record, in a session of these bytes.
 fn zero(record: &mut [u8], session: &[u8])
-    ensures { «record».new ≡ recordOut «record».old (zeroing session.now) }
+    ensures { «record».new ≡ record_out «record».old (zeroing session.now) }
 {
     if session.len() == exchange::SESSION_SIZE {
         count(0, record);
@@ -348,7 +348,7 @@ fn zero(record: &mut [u8], session: &[u8])
 
 // A count of sequences is the last byte of a record.
 fn count(n: u8, out: &mut [u8])
-    ensures { out.new ≡ recordOut out.old (Sequences n) }
+    ensures { out.new ≡ record_out out.old (Sequences n) }
 {
     let size = out.len();
     if size == da728x::RECORD_SIZE {
@@ -358,7 +358,7 @@ fn count(n: u8, out: &mut [u8])
 
 // A record goes to 38 bytes only.
 fn write(next: DA728x, out: &mut [u8])
-    ensures { out.new ≡ recordOut out.old (To next) }
+    ensures { out.new ≡ record_out out.old (To next) }
 {
     if out.len() == da728x::RECORD_SIZE {
         let bytes = next.to_bytes();
@@ -367,7 +367,7 @@ fn write(next: DA728x, out: &mut [u8])
 }
 
 fn reply(kind: u8, byte: u8) -> Reply
-    ensures { result ≡ replyOf kind byte }
+    ensures { result ≡ reply_of kind byte }
 {
     match kind {
         DONE => Reply::Done,
@@ -376,9 +376,9 @@ fn reply(kind: u8, byte: u8) -> Reply
     }
 }
 
-#[tactic(auto, unfolding(crate::specs::Words::reportWord))]
+#[tactic(auto, unfolding(crate::specs::Words::report_word))]
 fn word(t: Turn) -> u32
-    ensures { result ≡ reportWord (turnReport t) }
+    ensures { result ≡ report_word (turn_report t) }
 {
     let answer = t.answer;
     let number = answer.number() as u32;
@@ -388,21 +388,21 @@ fn word(t: Turn) -> u32
 }
 
 fn flag(on: bool) -> u8
-    ensures { result ≡ codeOf on }
+    ensures { result ≡ code_of on }
 {
     on as u8
 }
 
 #[unsafe(no_mangle)]
 pub extern "C" fn da728x_result(session: &[u8]) -> u64
-    ensures { result ≡ resultWord (outcomeOf session.now) }
+    ensures { result ≡ result_word (outcome_of session.now) }
 {
     result_word(outcome::result(session))
 }
 
-#[tactic(auto, unfolding(crate::specs::Words::resultWord))]
+#[tactic(auto, unfolding(crate::specs::Words::result_word))]
 fn result_word(o: Outcome) -> u64
-    ensures { result ≡ resultWord o }
+    ensures { result ≡ result_word o }
 {
     o.value as u64 + 16777216 * (o.made as u64) + 4294967296 * (flag(o.completed) as u64)
 }

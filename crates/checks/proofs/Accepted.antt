@@ -10,10 +10,10 @@ use borrow.Author.Tests.{ltb-true, ltb-false, le-ltb, not-true}
 use Rattle.config.specs.declared.ActuatorConfig.{ActuatorConfig}
 use Rattle.config.specs.declared.DeviceConfig.{DeviceConfig}
 use Rattle.config.specs.declared.Variant.{Variant}
-use Rattle.checks.specs.Checks.{tracking, etwm, triggersGiven, sequenceAbove15, triggersAbove15, Check, configureChecks, firstFailing, configureNumber}
+use Rattle.checks.specs.Checks.{tracking, etwm, triggers_given, sequence_above15, triggers_above15, Check, configure_checks, first_failing, configure_number}
 use Rattle.checks.specs.InRange.{SequenceTo15, InRange}
-use Rattle.checks.proofs.First.{failsAt}
-use Rattle.checks.proofs.Tests.{and-off, and-on, neither, both-off, between, either, tracks, untracks, is-etwm, isDA7281, is-DA7281, to15, some, lone}
+use Rattle.checks.proofs.First.{fails_at}
+use Rattle.checks.proofs.Tests.{and_off, and_on, neither, both_off, between, either, tracks, untracks, is_etwm, is_da7281, is_DA7281_lem, to15, some, lone}
 
 -- ---- the list
 
@@ -22,31 +22,31 @@ abbrev numbered : List Check → Bool
 numbered [] = true
 numbered (c ∷ cs) = ltb 0 c.1 && numbered cs
 
-head-passes : (b : Bool) (n m : ℕ) → So (ltb 0 n) → cond b n m ≡ 0 → (b ≡ false) × (m ≡ 0)
-head-passes true n m h e = let k = ltb-true 0 n h in absurd (omega arith)
-head-passes false n m h e = (refl, e)
+head_passes : (b : Bool) (n m : ℕ) → So (ltb 0 n) → cond b n m ≡ 0 → (b ≡ false) × (m ≡ 0)
+head_passes true n m h e = let k = ltb-true 0 n h in absurd (omega arith)
+head_passes false n m h e = (refl, e)
 
 -- where no number is told, check k passes
-passes : (k : ℕ) (l : List Check) → So (numbered l) → firstFailing l ≡ 0 → failsAt k l ≡ false
+passes : (k : ℕ) (l : List Check) → So (numbered l) → first_failing l ≡ 0 → fails_at k l ≡ false
 passes k [] s e = refl
-passes zero (c ∷ cs) s e = (head-passes c.0 c.1 (firstFailing cs) ((and-eq-true_iff (ltb 0 c.1) (numbered cs)).0 s).0 e).0
+passes zero (c ∷ cs) s e = (head_passes c.0 c.1 (first_failing cs) ((and-eq-true_iff (ltb 0 c.1) (numbered cs)).0 s).0 e).0
 passes (suc k) (c ∷ cs) s e =
     let both = (and-eq-true_iff (ltb 0 c.1) (numbered cs)).0 s in
-    passes k cs both.1 (head-passes c.0 c.1 (firstFailing cs) both.0 e).1
+    passes k cs both.1 (head_passes c.0 c.1 (first_failing cs) both.0 e).1
 
 abbrev AllPass : List Check → Type 0
 AllPass [] = Unit
 AllPass (c ∷ cs) = (c.0 ≡ false) × AllPass cs
 
 -- where each passes, no number is told
-none_told : (l : List Check) → AllPass l → firstFailing l ≡ 0
+none_told : (l : List Check) → AllPass l → first_failing l ≡ 0
 none_told [] p = refl
-none_told (c ∷ cs) p = ap (λ (b : Bool). cond b c.1 (firstFailing cs)) p.0 ∙ none_told cs p.1
+none_told (c ∷ cs) p = ap (λ (b : Bool). cond b c.1 (first_failing cs)) p.0 ∙ none_told cs p.1
 
 -- ---- both ways
 
-from-checks : (v : Variant) (a : ActuatorConfig) (d : DeviceConfig) → configureNumber v a d ≡ 0 → InRange v a d
-from-checks v a d e =
+from_checks : (v : Variant) (a : ActuatorConfig) (d : DeviceConfig) → configure_number v a d ≡ 0 → InRange v a d
+from_checks v a d e =
     let mode = d.driving_mode in
     let operation = d.operation_mode in
     let hz = a.frequency_Hz in
@@ -60,30 +60,30 @@ from-checks v a d e =
       untracked = λ n.
           let f = (untracks mode).1 n in
           let wide = (between 25 1024 hz).0 (band.1 f) in
-          (wide.0, wide.1, (neither d.acceleration d.rapid_stop (and-on (not (tracking mode)) _ (pass 0) (ap not f))).0);
-      rapid-stop = pass 12;
-      triggers = λ p. (some _ _ _).0 (and-on (etwm operation) _ (pass 1) (ap etwm p));
-      single = λ p q. (lone _ _ _).0 (ltb-false 1 (triggersGiven d) (and-on (isDA7281 v) _ (and-on (etwm operation) _ (pass 2) (ap etwm p)) (ap isDA7281 q)));
+          (wide.0, wide.1, (neither d.acceleration d.rapid_stop (and_on (not (tracking mode)) _ (pass 0) (ap not f))).0);
+      rapid_stop = pass 12;
+      triggers = λ p. (some _ _ _).0 (and_on (etwm operation) _ (pass 1) (ap etwm p));
+      single = λ p q. (lone _ _ _).0 (ltb-false 1 (triggers_given d) (and_on (is_da7281 v) _ (and_on (etwm operation) _ (pass 2) (ap etwm p)) (ap is_da7281 q)));
       sequences = λ p.
-          let first = neither (sequenceAbove15 d.gpi_trigger_0) _ (and-on (etwm operation) _ (pass 11) (ap etwm p)) in
-          let others = neither (sequenceAbove15 d.gpi_trigger_1) _ first.1 in
+          let first = neither (sequence_above15 d.gpi_trigger_0) _ (and_on (etwm operation) _ (pass 11) (ap etwm p)) in
+          let others = neither (sequence_above15 d.gpi_trigger_1) _ first.1 in
           ((to15 d.gpi_trigger_0).0 first.0, (to15 d.gpi_trigger_1).0 others.0, (to15 d.gpi_trigger_2).0 others.1);
     }
   where
-    pass : (k : ℕ) → failsAt k (configureChecks v a d) ≡ false
-    pass k = passes k (configureChecks v a d) refl e
+    pass : (k : ℕ) → fails_at k (configure_checks v a d) ≡ false
+    pass k = passes k (configure_checks v a d) refl e
 
-to-checks : (v : Variant) (a : ActuatorConfig) (d : DeviceConfig) → InRange v a d → configureNumber v a d ≡ 0
-to-checks v a d r =
+to_checks : (v : Variant) (a : ActuatorConfig) (d : DeviceConfig) → InRange v a d → configure_number v a d ≡ 0
+to_checks v a d r =
     let mode = d.driving_mode in
     let operation = d.operation_mode in
     let hz = a.frequency_Hz in
-    none_told (configureChecks v a d) (
-      and-off (not (tracking mode)) _ (λ u. both-off d.acceleration d.rapid_stop (wide (not-true (tracking mode) u)).2 r.rapid-stop),
+    none_told (configure_checks v a d) (
+      and_off (not (tracking mode)) _ (λ u. both_off d.acceleration d.rapid_stop (wide (not-true (tracking mode) u)).2 r.rapid_stop),
       (
-        and-off (etwm operation) _ (λ t. (some _ _ _).1 (r.triggers (is-etwm operation t))),
+        and_off (etwm operation) _ (λ t. (some _ _ _).1 (r.triggers (is_etwm operation t))),
         (
-          and-off (etwm operation) _ (λ t. and-off (isDA7281 v) _ (λ s. le-ltb 1 (triggersGiven d) ((lone _ _ _).1 (r.single (is-etwm operation t) (is-DA7281 v s))))),
+          and_off (etwm operation) _ (λ t. and_off (is_da7281 v) _ (λ s. le-ltb 1 (triggers_given d) ((lone _ _ _).1 (r.single (is_etwm operation t) (is_DA7281_lem v s))))),
           (
             le-ltb _ a.nominal_max_mV (omega (arith, r.nominal)),
             (
@@ -101,8 +101,8 @@ to-checks v a d r =
                         (
                           le-ltb a.max_current_mA 29 r.current.0,
                           (
-                            and-off (etwm operation) _ (λ t. none_above (r.sequences (is-etwm operation t))),
-                            (r.rapid-stop, tt),
+                            and_off (etwm operation) _ (λ t. none_above (r.sequences (is_etwm operation t))),
+                            (r.rapid_stop, tt),
                           ),
                         ),
                       ),
@@ -119,15 +119,15 @@ to-checks v a d r =
     wide : tracking d.driving_mode ≡ false → (25 ≤ a.frequency_Hz) × (a.frequency_Hz ≤ 1024) × (d.acceleration ≡ false)
     wide f = r.untracked ((untracks d.driving_mode).0 f)
 
-    none_above : SequenceTo15 d.gpi_trigger_0 × SequenceTo15 d.gpi_trigger_1 × SequenceTo15 d.gpi_trigger_2 → triggersAbove15 d ≡ false
+    none_above : SequenceTo15 d.gpi_trigger_0 × SequenceTo15 d.gpi_trigger_1 × SequenceTo15 d.gpi_trigger_2 → triggers_above15 d ≡ false
     none_above h = λ i. (to15 d.gpi_trigger_0).1 h.0 i || ((to15 d.gpi_trigger_1).1 h.1 i || (to15 d.gpi_trigger_2).1 h.2 i)
 
-pub exact : (v : Variant) (a : ActuatorConfig) (d : DeviceConfig) → (configureNumber v a d ≡ 0) ↔ InRange v a d
-exact v a d = (from-checks v a d, to-checks v a d)
+pub exact : (v : Variant) (a : ActuatorConfig) (d : DeviceConfig) → (configure_number v a d ≡ 0) ↔ InRange v a d
+exact v a d = (from_checks v a d, to_checks v a d)
 
 -- the least frequency of either band
-pub at-least-25 : (v : Variant) (a : ActuatorConfig) (d : DeviceConfig) → InRange v a d → 25 ≤ a.frequency_Hz
-at-least-25 v a d r =
+pub at_least_25 : (v : Variant) (a : ActuatorConfig) (d : DeviceConfig) → InRange v a d → 25 ≤ a.frequency_Hz
+at_least_25 v a d r =
     go (tracking d.driving_mode) (λ t. (r.tracking (tracks _ t)).0) (λ f. (r.untracked ((untracks _).0 f)).0)
   where
     go : (b : Bool) → (b ≡ true → 50 ≤ a.frequency_Hz) → (b ≡ false → 25 ≤ a.frequency_Hz) → 25 ≤ a.frequency_Hz

@@ -13,10 +13,10 @@ use Rattle.config.specs.declared.OperationMode.{OperationMode}
 use Rattle.config.specs.declared.OperationMode.TheVariants.{ETWM_MODE}
 use Rattle.config.specs.declared.Trigger.{Trigger}
 use Rattle.config.specs.declared.Trigger.TheVariants.{Absent, Given}
-use Rattle.checks.specs.Checks.{tracking, etwm, oneIfGiven, sequenceAbove15, outsideBand, Check, configureChecks, firstFailing}
+use Rattle.checks.specs.Checks.{tracking, etwm, one_if_given, sequence_above15, outside_band, Check, configure_checks, first_failing}
 use Rattle.checks.specs.InRange.{OneAbsent}
 use Rattle.checks.specs.Blames.{Outside, OutOfBand, NumberAbove15, Fault, faults, OfFirst, among, Blames}
-use Rattle.checks.proofs.Tests.{on, tracks, untracks, is-etwm, isDA7281, is-DA7281, absent, lone}
+use Rattle.checks.proofs.Tests.{on, tracks, untracks, is_etwm, is_da7281, is_DA7281_lem, absent, lone}
 
 -- ---- the list
 
@@ -27,26 +27,26 @@ Agree [] (f ∷ fs) = ⊥
 Agree (c ∷ cs) [] = ⊥
 Agree (c ∷ cs) (f ∷ fs) = (c.1 ≡ f.0) × ((c.0 ≡ true) ↔ f.1) × Agree cs fs
 
-pub of-first : (l : List Check) (fs : List Fault) → Agree l fs → OfFirst (firstFailing l) fs
-of-first [] [] t = refl
-of-first [] (f ∷ fs) t = absurd t
-of-first (c ∷ cs) [] t = absurd t
-of-first (c ∷ cs) (f ∷ fs) t = go c.0 t.1 (of-first cs fs t.2)
+pub of_first : (l : List Check) (fs : List Fault) → Agree l fs → OfFirst (first_failing l) fs
+of_first [] [] t = refl
+of_first [] (f ∷ fs) t = absurd t
+of_first (c ∷ cs) [] t = absurd t
+of_first (c ∷ cs) (f ∷ fs) t = go c.0 t.1 (of_first cs fs t.2)
   where
-    go : (b : Bool) → (b ≡ true) ↔ f.1 → OfFirst (firstFailing cs) fs → OfFirst (cond b c.1 (firstFailing cs)) (f ∷ fs)
+    go : (b : Bool) → (b ≡ true) ↔ f.1 → OfFirst (first_failing cs) fs → OfFirst (cond b c.1 (first_failing cs)) (f ∷ fs)
     go true p h = inl (p.0 refl, t.0)
     go false p h = inr (λ x. false≢true (p.1 x), h)
 
 -- each of these numbers is in the list
-abbrev allAmong : List ℕ → List Check → Bool
-allAmong ns [] = true
-allAmong ns (c ∷ cs) = among ns c.1 && allAmong ns cs
+abbrev all_among : List ℕ → List Check → Bool
+all_among ns [] = true
+all_among ns (c ∷ cs) = among ns c.1 && all_among ns cs
 
-pub told-among : (ns : List ℕ) (l : List Check) → So (among ns 0) → So (allAmong ns l) → among ns (firstFailing l) ≡ true
-told-among ns [] z s = z
-told-among ns (c ∷ cs) z s = let both = (and-eq-true_iff (among ns c.1) (allAmong ns cs)).0 s in go c.0 both.0 (told-among ns cs z both.1)
+pub told_among : (ns : List ℕ) (l : List Check) → So (among ns 0) → So (all_among ns l) → among ns (first_failing l) ≡ true
+told_among ns [] z s = z
+told_among ns (c ∷ cs) z s = let both = (and-eq-true_iff (among ns c.1) (all_among ns cs)).0 s in go c.0 both.0 (told_among ns cs z both.1)
   where
-    go : (b : Bool) → among ns c.1 ≡ true → among ns (firstFailing cs) ≡ true → among ns (cond b c.1 (firstFailing cs)) ≡ true
+    go : (b : Bool) → among ns c.1 ≡ true → among ns (first_failing cs) ≡ true → among ns (cond b c.1 (first_failing cs)) ≡ true
     go true p q = p
     go false p q = q
 
@@ -55,13 +55,13 @@ told-among ns (c ∷ cs) z s = let both = (and-eq-true_iff (among ns c.1) (allAm
 pub flag : (b : Bool) → (b ≡ true) ↔ (b ≡ true)
 flag b = (λ e. e, λ e. e)
 
-pub and-says : (x y : Bool) (P Q : Type 0) → (x ≡ true) ↔ P → (y ≡ true) ↔ Q → ((x && y) ≡ true) ↔ (P × Q)
-and-says x y P Q p q =
+pub and_says : (x y : Bool) (P Q : Type 0) → (x ≡ true) ↔ P → (y ≡ true) ↔ Q → ((x && y) ≡ true) ↔ (P × Q)
+and_says x y P Q p q =
     let iff = and-eq-true_iff x y in
     (λ e. let h = iff.0 e in (p.0 h.0, q.0 h.1), λ f. iff.1 (p.1 f.0, q.1 f.1))
 
-or-says : (x y : Bool) (P Q : Type 0) → (x ≡ true) ↔ P → (y ≡ true) ↔ Q → ((x || y) ≡ true) ↔ (P ⊎ Q)
-or-says x y P Q p q = (to x p, from)
+or_says : (x y : Bool) (P Q : Type 0) → (x ≡ true) ↔ P → (y ≡ true) ↔ Q → ((x || y) ≡ true) ↔ (P ⊎ Q)
+or_says x y P Q p q = (to x p, from)
   where
     to : (b : Bool) → (b ≡ true) ↔ P → (b || y) ≡ true → P ⊎ Q
     to true k e = inl (k.0 refl)
@@ -75,55 +75,55 @@ pub above : (limit n : ℕ) → (ltb limit n ≡ true) ↔ (limit < n)
 above limit n = (ltb-true limit n, lt-ltb limit n)
 
 outside : (low high n : ℕ) → ((ltb n low || ltb high n) ≡ true) ↔ Outside low high n
-outside low high n = or-says (ltb n low) (ltb high n) (n < low) (high < n) (above n low) (above high n)
+outside low high n = or_says (ltb n low) (ltb high n) (n < low) (high < n) (above n low) (above high n)
 
 untracked : (m : DrivingMode) → (not (tracking m) ≡ true) ↔ ¬ (m ≡ FREQUENCY_TRACK)
 untracked m = (λ e. (untracks m).0 (not-true (tracking m) e), λ n. ap not ((untracks m).1 n))
 
-pub out-of-band : (m : DrivingMode) (hz : ℕ) → (outsideBand m hz ≡ true) ↔ OutOfBand m hz
-out-of-band m hz = (λ e. (λ p. (outside 50 300 hz).0 (there true (ap tracking p) e), λ n. (outside 25 1024 hz).0 (there false ((untracks m).1 n) e)), λ o. back o (tracking m) refl)
+pub out_of_band : (m : DrivingMode) (hz : ℕ) → (outside_band m hz ≡ true) ↔ OutOfBand m hz
+out_of_band m hz = (λ e. (λ p. (outside 50 300 hz).0 (there true (ap tracking p) e), λ n. (outside 25 1024 hz).0 (there false ((untracks m).1 n) e)), λ o. back o (tracking m) refl)
   where
-    there : (b : Bool) → tracking m ≡ b → outsideBand m hz ≡ true → cond b (ltb hz 50 || ltb 300 hz) (ltb hz 25 || ltb 1024 hz) ≡ true
+    there : (b : Bool) → tracking m ≡ b → outside_band m hz ≡ true → cond b (ltb hz 50 || ltb 300 hz) (ltb hz 25 || ltb 1024 hz) ≡ true
     there b p e = sym (ap (λ (t : Bool). cond t (ltb hz 50 || ltb 300 hz) (ltb hz 25 || ltb 1024 hz)) p) ∙ e
 
     back : OutOfBand m hz → (b : Bool) → tracking m ≡ b → cond b (ltb hz 50 || ltb 300 hz) (ltb hz 25 || ltb 1024 hz) ≡ true
     back o true t = (outside 50 300 hz).1 (o.0 (tracks m t))
     back o false f = (outside 25 1024 hz).1 (o.1 ((untracks m).0 f))
 
-in-etwm : (m : OperationMode) → (etwm m ≡ true) ↔ (m ≡ ETWM_MODE)
-in-etwm m = (is-etwm m, λ p. ap etwm p)
+in_etwm_lem : (m : OperationMode) → (etwm m ≡ true) ↔ (m ≡ ETWM_MODE)
+in_etwm_lem m = (is_etwm m, λ p. ap etwm p)
 
-no-trigger : (r s t : Trigger) → (eqb (oneIfGiven r + oneIfGiven s + oneIfGiven t) 0 ≡ true) ↔ ((r ≡ Absent) × (s ≡ Absent) × (t ≡ Absent))
-no-trigger r s t = (
-  λ e. let none = eqb-true (oneIfGiven r + oneIfGiven s + oneIfGiven t) 0 e in (absent r (omega (arith, none)), absent s (omega (arith, none)), absent t (omega (arith, none))),
-  λ p. eq-eqb (oneIfGiven r + oneIfGiven s + oneIfGiven t) 0 (λ i. oneIfGiven (p.0 i) + oneIfGiven (p.1 i) + oneIfGiven (p.2 i)),
+no_trigger : (r s t : Trigger) → (eqb (one_if_given r + one_if_given s + one_if_given t) 0 ≡ true) ↔ ((r ≡ Absent) × (s ≡ Absent) × (t ≡ Absent))
+no_trigger r s t = (
+  λ e. let none = eqb-true (one_if_given r + one_if_given s + one_if_given t) 0 e in (absent r (omega (arith, none)), absent s (omega (arith, none)), absent t (omega (arith, none))),
+  λ p. eq-eqb (one_if_given r + one_if_given s + one_if_given t) 0 (λ i. one_if_given (p.0 i) + one_if_given (p.1 i) + one_if_given (p.2 i)),
 )
 
-several : (r s t : Trigger) → (ltb 1 (oneIfGiven r + oneIfGiven s + oneIfGiven t) ≡ true) ↔ ¬ (OneAbsent r s × OneAbsent r t × OneAbsent s t)
+several : (r s t : Trigger) → (ltb 1 (one_if_given r + one_if_given s + one_if_given t) ≡ true) ↔ ¬ (OneAbsent r s × OneAbsent r t × OneAbsent s t)
 several r s t = (
-  λ e p. omega (arith, ltb-true 1 (oneIfGiven r + oneIfGiven s + oneIfGiven t) e, (lone r s t).1 p),
-  λ n. on (ltb 1 (oneIfGiven r + oneIfGiven s + oneIfGiven t)) (λ f. n ((lone r s t).0 (ltb-false 1 (oneIfGiven r + oneIfGiven s + oneIfGiven t) f))),
+  λ e p. omega (arith, ltb-true 1 (one_if_given r + one_if_given s + one_if_given t) e, (lone r s t).1 p),
+  λ n. on (ltb 1 (one_if_given r + one_if_given s + one_if_given t)) (λ f. n ((lone r s t).0 (ltb-false 1 (one_if_given r + one_if_given s + one_if_given t) f))),
 )
 
-number-above : (s : Trigger) → (sequenceAbove15 s ≡ true) ↔ NumberAbove15 s
-number-above Absent = (λ e. false≢true e, λ f. absurd f)
-number-above (Given t) = above 15 t.sequence_id
+number_above : (s : Trigger) → (sequence_above15 s ≡ true) ↔ NumberAbove15 s
+number_above Absent = (λ e. false≢true e, λ f. absurd f)
+number_above (Given t) = above 15 t.sequence_id
 
 -- ---- the claim
 
 pub blames : Blames
 blames = record {
   first = λ v a d.
-      let operation = in-etwm d.operation_mode in
-      of-first (configureChecks v a d) (faults v a d) (
+      let operation = in_etwm_lem d.operation_mode in
+      of_first (configure_checks v a d) (faults v a d) (
         refl,
-        and-says _ _ _ _ (untracked d.driving_mode) (or-says _ _ _ _ (flag d.acceleration) (flag d.rapid_stop)),
+        and_says _ _ _ _ (untracked d.driving_mode) (or_says _ _ _ _ (flag d.acceleration) (flag d.rapid_stop)),
         (
           refl,
-          and-says _ _ _ _ operation (no-trigger d.gpi_trigger_0 d.gpi_trigger_1 d.gpi_trigger_2),
+          and_says _ _ _ _ operation (no_trigger d.gpi_trigger_0 d.gpi_trigger_1 d.gpi_trigger_2),
           (
             refl,
-            and-says _ _ _ _ operation (and-says _ _ _ _ (is-DA7281 v, λ p. ap isDA7281 p) (several d.gpi_trigger_0 d.gpi_trigger_1 d.gpi_trigger_2)),
+            and_says _ _ _ _ operation (and_says _ _ _ _ (is_DA7281_lem v, λ p. ap is_da7281 p) (several d.gpi_trigger_0 d.gpi_trigger_1 d.gpi_trigger_2)),
             (
               refl,
               above 6000 a.nominal_max_mV,
@@ -138,7 +138,7 @@ blames = record {
                     outside 4000 49999 a.impedance_mOhm,
                     (
                       refl,
-                      out-of-band d.driving_mode a.frequency_Hz,
+                      out_of_band d.driving_mode a.frequency_Hz,
                       (
                         refl,
                         above 5990 a.nominal_max_mV,
@@ -150,8 +150,8 @@ blames = record {
                             above a.max_current_mA 29,
                             (
                               refl,
-                              and-says _ _ _ _ operation (or-says _ _ _ _ (number-above d.gpi_trigger_0)
-                                  (or-says _ _ _ _ (number-above d.gpi_trigger_1) (number-above d.gpi_trigger_2))),
+                              and_says _ _ _ _ operation (or_says _ _ _ _ (number_above d.gpi_trigger_0)
+                                  (or_says _ _ _ _ (number_above d.gpi_trigger_1) (number_above d.gpi_trigger_2))),
                               (refl, flag d.rapid_stop, tt),
                             ),
                           ),
@@ -165,5 +165,5 @@ blames = record {
           ),
         ),
       );
-  listed = λ v a d. told-among (0 ∷ 11 ∷ 12 ∷ 13 ∷ 14 ∷ 21 ∷ 22 ∷ 23 ∷ []) (configureChecks v a d) refl refl;
+  listed = λ v a d. told_among (0 ∷ 11 ∷ 12 ∷ 13 ∷ 14 ∷ 21 ∷ 22 ∷ 23 ∷ []) (configure_checks v a d) refl refl;
 }

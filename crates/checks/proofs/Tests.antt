@@ -14,8 +14,8 @@ use Rattle.config.specs.declared.Trigger.{Trigger}
 use Rattle.config.specs.declared.Trigger.TheVariants.{Absent, Given}
 use Rattle.config.specs.declared.Variant.{Variant}
 use Rattle.config.specs.declared.Variant.TheVariants.{DA7280, DA7281, DA7282}
-use Rattle.config.specs.Codes.{variantCode}
-use Rattle.checks.specs.Checks.{tracking, etwm, oneIfGiven, sequenceAbove15}
+use Rattle.config.specs.Codes.{variant_code}
+use Rattle.checks.specs.Checks.{tracking, etwm, one_if_given, sequence_above15}
 use Rattle.checks.specs.InRange.{SequenceTo15, OneAbsent}
 
 pub on : (b : Bool) → ¬ (b ≡ false) → b ≡ true
@@ -27,25 +27,25 @@ off true h = absurd (h refl)
 off false h = refl
 
 -- a test is of no account where the mode is another
-pub and-off : (b x : Bool) → (b ≡ true → x ≡ false) → (b && x) ≡ false
-and-off true x h = h refl
-and-off false x h = refl
+pub and_off : (b x : Bool) → (b ≡ true → x ≡ false) → (b && x) ≡ false
+and_off true x h = h refl
+and_off false x h = refl
 
-pub and-on : (b x : Bool) → (b && x) ≡ false → b ≡ true → x ≡ false
-and-on b x e t = sym (ap (λ (c : Bool). c && x) t) ∙ e
+pub and_on : (b x : Bool) → (b && x) ≡ false → b ≡ true → x ≡ false
+and_on b x e t = sym (ap (λ (c : Bool). c && x) t) ∙ e
 
 pub neither : (x y : Bool) → (x || y) ≡ false → (x ≡ false) × (y ≡ false)
 neither true y e = absurd (true≢false e)
 neither false y e = (refl, e)
 
-pub both-off : (x y : Bool) → x ≡ false → y ≡ false → (x || y) ≡ false
-both-off x y p q = λ i. p i || q i
+pub both_off : (x y : Bool) → x ≡ false → y ≡ false → (x || y) ≡ false
+both_off x y p q = λ i. p i || q i
 
 -- a number that is neither below `low` nor above `high`
 pub between : (low high n : ℕ) → ((ltb n low || ltb high n) ≡ false) ↔ ((low ≤ n) × (n ≤ high))
 between low high n = (
   λ e. let both = neither (ltb n low) (ltb high n) e in (ltb-false n low both.0, ltb-false high n both.1),
-  λ p. both-off (ltb n low) (ltb high n) (le-ltb n low p.0) (le-ltb high n p.1),
+  λ p. both_off (ltb n low) (ltb high n) (le-ltb n low p.0) (le-ltb high n p.1),
 )
 
 -- one of two, as a test says
@@ -63,53 +63,53 @@ tracks CUSTOM_WAVEFORM e = absurd (false≢true e)
 pub untracks : (m : DrivingMode) → (tracking m ≡ false) ↔ ¬ (m ≡ FREQUENCY_TRACK)
 untracks m = (λ e p. true≢false (sym (ap tracking p) ∙ e), λ n. off (tracking m) (λ e. n (tracks m e)))
 
-pub is-etwm : (m : OperationMode) → etwm m ≡ true → m ≡ ETWM_MODE
-is-etwm INACTIVE e = absurd (false≢true e)
-is-etwm DRO_MODE e = absurd (false≢true e)
-is-etwm PWM_MODE e = absurd (false≢true e)
-is-etwm RTWM_MODE e = absurd (false≢true e)
-is-etwm ETWM_MODE e = refl
+pub is_etwm : (m : OperationMode) → etwm m ≡ true → m ≡ ETWM_MODE
+is_etwm INACTIVE e = absurd (false≢true e)
+is_etwm DRO_MODE e = absurd (false≢true e)
+is_etwm PWM_MODE e = absurd (false≢true e)
+is_etwm RTWM_MODE e = absurd (false≢true e)
+is_etwm ETWM_MODE e = refl
 
-abbrev pub isDA7281 : Variant → Bool
-isDA7281 v = eqb (variantCode v) (variantCode DA7281)
+abbrev pub is_da7281 : Variant → Bool
+is_da7281 v = eqb (variant_code v) (variant_code DA7281)
 
-pub is-DA7281 : (v : Variant) → isDA7281 v ≡ true → v ≡ DA7281
-is-DA7281 DA7280 e = absurd (false≢true e)
-is-DA7281 DA7281 e = refl
-is-DA7281 DA7282 e = absurd (false≢true e)
+pub is_DA7281_lem : (v : Variant) → is_da7281 v ≡ true → v ≡ DA7281
+is_DA7281_lem DA7280 e = absurd (false≢true e)
+is_DA7281_lem DA7281 e = refl
+is_DA7281_lem DA7282 e = absurd (false≢true e)
 
-pub to15 : (s : Trigger) → (sequenceAbove15 s ≡ false) ↔ SequenceTo15 s
-to15 s = (λ e t p. ltb-false 15 t.sequence_id (sym (ap sequenceAbove15 p) ∙ e), back s)
+pub to15 : (s : Trigger) → (sequence_above15 s ≡ false) ↔ SequenceTo15 s
+to15 s = (λ e t p. ltb-false 15 t.sequence_id (sym (ap sequence_above15 p) ∙ e), back s)
   where
-    back : (r : Trigger) → SequenceTo15 r → sequenceAbove15 r ≡ false
+    back : (r : Trigger) → SequenceTo15 r → sequence_above15 r ≡ false
     back Absent h = refl
     back (Given t) h = le-ltb 15 t.sequence_id (h t refl)
 
 -- ---- how many triggers are given
 
-pub absent : (s : Trigger) → oneIfGiven s ≡ 0 → s ≡ Absent
+pub absent : (s : Trigger) → one_if_given s ≡ 0 → s ≡ Absent
 absent Absent e = refl
 absent (Given t) e = absurd (omega (arith, e))
 
 -- not 0 where not all are absent
-pub some : (r s t : Trigger) → (eqb (oneIfGiven r + oneIfGiven s + oneIfGiven t) 0 ≡ false) ↔ ¬ ((r ≡ Absent) × (s ≡ Absent) × (t ≡ Absent))
+pub some : (r s t : Trigger) → (eqb (one_if_given r + one_if_given s + one_if_given t) 0 ≡ false) ↔ ¬ ((r ≡ Absent) × (s ≡ Absent) × (t ≡ Absent))
 some r s t = (
-  λ e p. true≢false ((λ i. eqb (oneIfGiven (sym p.0 i) + oneIfGiven (sym p.1 i) + oneIfGiven (sym p.2 i)) 0) ∙ e),
-  λ n. ne_eqb (oneIfGiven r + oneIfGiven s + oneIfGiven t) 0 (λ e. n (absent r (omega (arith, e)), absent s (omega (arith, e)), absent t (omega (arith, e)))),
+  λ e p. true≢false ((λ i. eqb (one_if_given (sym p.0 i) + one_if_given (sym p.1 i) + one_if_given (sym p.2 i)) 0) ∙ e),
+  λ n. ne_eqb (one_if_given r + one_if_given s + one_if_given t) 0 (λ e. n (absent r (omega (arith, e)), absent s (omega (arith, e)), absent t (omega (arith, e)))),
 )
 
-pair : (s t : Trigger) → (oneIfGiven s + oneIfGiven t ≤ 1) ↔ OneAbsent s t
+pair : (s t : Trigger) → (one_if_given s + one_if_given t ≤ 1) ↔ OneAbsent s t
 pair Absent Absent = (λ h. inl refl, λ p. omega arith)
 pair Absent (Given t) = (λ h. inl refl, λ p. omega arith)
 pair (Given s) Absent = (λ h. inr refl, λ p. omega arith)
 pair (Given s) (Given t) = (λ h. absurd (omega (arith, h)), go)
   where
-    go : OneAbsent (Given s) (Given t) → oneIfGiven (Given s) + oneIfGiven (Given t) ≤ 1
-    go (inl e) = omega (arith, ap oneIfGiven e)
-    go (inr e) = omega (arith, ap oneIfGiven e)
+    go : OneAbsent (Given s) (Given t) → one_if_given (Given s) + one_if_given (Given t) ≤ 1
+    go (inl e) = omega (arith, ap one_if_given e)
+    go (inr e) = omega (arith, ap one_if_given e)
 
 -- at most 1 where no two are given
-pub lone : (r s t : Trigger) → (oneIfGiven r + oneIfGiven s + oneIfGiven t ≤ 1) ↔ (OneAbsent r s × OneAbsent r t × OneAbsent s t)
+pub lone : (r s t : Trigger) → (one_if_given r + one_if_given s + one_if_given t ≤ 1) ↔ (OneAbsent r s × OneAbsent r t × OneAbsent s t)
 lone r s t = (
   λ h. ((pair r s).0 (omega (arith, h)), (pair r t).0 (omega (arith, h)), (pair s t).0 (omega (arith, h))),
   λ p. omega (arith, (pair r s).1 p.0, (pair r t).1 p.1, (pair s t).1 p.2),

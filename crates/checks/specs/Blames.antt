@@ -11,7 +11,7 @@ use Rattle.config.specs.declared.Trigger.{Trigger}
 use Rattle.config.specs.declared.Trigger.TheVariants.{Absent, Given}
 use Rattle.config.specs.declared.Variant.{Variant}
 use Rattle.config.specs.declared.Variant.TheVariants.{DA7281}
-use Rattle.checks.specs.Checks.{configureNumber}
+use Rattle.checks.specs.Checks.{configure_number}
 use Rattle.checks.specs.InRange.{OneAbsent}
 
 -- ---- faults
@@ -62,6 +62,6 @@ among [] n = false
 among (m ∷ ms) n = eqb n m || among ms n
 
 pub record Blames : Type 0 where
-  pub first : (v : Variant) (a : ActuatorConfig) (d : DeviceConfig) → OfFirst (configureNumber v a d) (faults v a d)
+  pub first : (v : Variant) (a : ActuatorConfig) (d : DeviceConfig) → OfFirst (configure_number v a d) (faults v a d)
   -- follows from `first`
-  pub listed : (v : Variant) (a : ActuatorConfig) (d : DeviceConfig) → among (0 ∷ 11 ∷ 12 ∷ 13 ∷ 14 ∷ 21 ∷ 22 ∷ 23 ∷ []) (configureNumber v a d) ≡ true
+  pub listed : (v : Variant) (a : ActuatorConfig) (d : DeviceConfig) → among (0 ∷ 11 ∷ 12 ∷ 13 ∷ 14 ∷ 21 ∷ 22 ∷ 23 ∷ []) (configure_number v a d) ≡ true

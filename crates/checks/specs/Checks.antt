@@ -11,34 +11,34 @@ use Rattle.config.specs.declared.Trigger.{Trigger}
 use Rattle.config.specs.declared.Trigger.TheVariants.{Absent, Given}
 use Rattle.config.specs.declared.Variant.{Variant}
 use Rattle.config.specs.declared.Variant.TheVariants.{DA7281}
-use Rattle.config.specs.Codes.{operationCode, drivingCode, variantCode}
+use Rattle.config.specs.Codes.{operation_code, driving_code, variant_code}
 
 -- ---- what the checks ask
 
 abbrev pub tracking : DrivingMode → Bool
-tracking mode = eqb (drivingCode mode) (drivingCode FREQUENCY_TRACK)
+tracking mode = eqb (driving_code mode) (driving_code FREQUENCY_TRACK)
 
 abbrev pub etwm : OperationMode → Bool
-etwm mode = eqb (operationCode mode) (operationCode ETWM_MODE)
+etwm mode = eqb (operation_code mode) (operation_code ETWM_MODE)
 
-abbrev pub oneIfGiven : Trigger → ℕ
-oneIfGiven Absent = 0
-oneIfGiven (Given t) = 1
+abbrev pub one_if_given : Trigger → ℕ
+one_if_given Absent = 0
+one_if_given (Given t) = 1
 
-abbrev pub triggersGiven : DeviceConfig → ℕ
-triggersGiven d = oneIfGiven d.gpi_trigger_0 + oneIfGiven d.gpi_trigger_1 + oneIfGiven d.gpi_trigger_2
+abbrev pub triggers_given : DeviceConfig → ℕ
+triggers_given d = one_if_given d.gpi_trigger_0 + one_if_given d.gpi_trigger_1 + one_if_given d.gpi_trigger_2
 
 -- "a given trigger's sequence number above 15"
-abbrev pub sequenceAbove15 : Trigger → Bool
-sequenceAbove15 Absent = false
-sequenceAbove15 (Given t) = ltb 15 t.sequence_id
+abbrev pub sequence_above15 : Trigger → Bool
+sequence_above15 Absent = false
+sequence_above15 (Given t) = ltb 15 t.sequence_id
 
-abbrev pub triggersAbove15 : DeviceConfig → Bool
-triggersAbove15 d = sequenceAbove15 d.gpi_trigger_0 || (sequenceAbove15 d.gpi_trigger_1 || sequenceAbove15 d.gpi_trigger_2)
+abbrev pub triggers_above15 : DeviceConfig → Bool
+triggers_above15 d = sequence_above15 d.gpi_trigger_0 || (sequence_above15 d.gpi_trigger_1 || sequence_above15 d.gpi_trigger_2)
 
 -- "frequency outside 50..300 Hz when tracking, else 25..1024"
-abbrev pub outsideBand : DrivingMode → ℕ → Bool
-outsideBand m hz = cond (tracking m) (ltb hz 50 || ltb 300 hz) (ltb hz 25 || ltb 1024 hz)
+abbrev pub outside_band : DrivingMode → ℕ → Bool
+outside_band m hz = cond (tracking m) (ltb hz 50 || ltb 300 hz) (ltb hz 25 || ltb 1024 hz)
 
 -- ---- the checks
 
@@ -48,24 +48,24 @@ Check = Bool × ℕ
 
 -- "in the Rust's order", then the added ones; 21, 22 and 23 are document 02's: "Each check keeps its place in 01's order", "A voltage gives 21, a
 -- current or impedance 22, and a frequency .. 23"
-abbrev pub configureChecks : Variant → ActuatorConfig → DeviceConfig → List Check
-configureChecks v a d =
+abbrev pub configure_checks : Variant → ActuatorConfig → DeviceConfig → List Check
+configure_checks v a d =
     (not (tracking d.driving_mode) && (d.acceleration || d.rapid_stop), 12)
-    ∷ (etwm d.operation_mode && eqb (triggersGiven d) 0, 13)
-    ∷ (etwm d.operation_mode && (eqb (variantCode v) (variantCode DA7281) && ltb 1 (triggersGiven d)), 14)
+    ∷ (etwm d.operation_mode && eqb (triggers_given d) 0, 13)
+    ∷ (etwm d.operation_mode && (eqb (variant_code v) (variant_code DA7281) && ltb 1 (triggers_given d)), 14)
     ∷ (ltb 6000 a.nominal_max_mV, 21) ∷ (ltb 6000 a.absolute_max_mV, 21)
     ∷ (ltb 252 a.max_current_mA, 22)
     ∷ (ltb a.impedance_mOhm 4000 || ltb 49999 a.impedance_mOhm, 22)
-    ∷ (outsideBand d.driving_mode a.frequency_Hz, 23)
+    ∷ (outside_band d.driving_mode a.frequency_Hz, 23)
     ∷ (ltb 5990 a.nominal_max_mV, 21) ∷ (ltb 5990 a.absolute_max_mV, 21)
     ∷ (ltb a.max_current_mA 29, 22)
-    ∷ (etwm d.operation_mode && triggersAbove15 d, 11)
+    ∷ (etwm d.operation_mode && triggers_above15 d, 11)
     ∷ (d.rapid_stop, 14) ∷ []
 
 -- the number of the first that fails, 0 if none does
-abbrev pub firstFailing : List Check → ℕ
-firstFailing [] = 0
-firstFailing (c ∷ cs) = cond c.0 c.1 (firstFailing cs)
+abbrev pub first_failing : List Check → ℕ
+first_failing [] = 0
+first_failing (c ∷ cs) = cond c.0 c.1 (first_failing cs)
 
-abbrev pub configureNumber : Variant → ActuatorConfig → DeviceConfig → ℕ
-configureNumber v a d = firstFailing (configureChecks v a d)
+abbrev pub configure_number : Variant → ActuatorConfig → DeviceConfig → ℕ
+configure_number v a d = first_failing (configure_checks v a d)

@@ -26,7 +26,7 @@ pub record InRange (v : Variant) (a : ActuatorConfig) (d : DeviceConfig) : Type 
   pub impedance : (4000 ≤ a.impedance_mOhm) × (a.impedance_mOhm ≤ 49999)
   pub tracking : d.driving_mode ≡ FREQUENCY_TRACK → (50 ≤ a.frequency_Hz) × (a.frequency_Hz ≤ 300)
   pub untracked : ¬ (d.driving_mode ≡ FREQUENCY_TRACK) → (25 ≤ a.frequency_Hz) × (a.frequency_Hz ≤ 1024) × (d.acceleration ≡ false)
-  pub rapid-stop : d.rapid_stop ≡ false
+  pub rapid_stop : d.rapid_stop ≡ false
   -- in ETWM mode: not all three triggers absent, on the DA7281 no two given, every one's number in four bits
   pub triggers : d.operation_mode ≡ ETWM_MODE → ¬ ((d.gpi_trigger_0 ≡ Absent) × (d.gpi_trigger_1 ≡ Absent) × (d.gpi_trigger_2 ≡ Absent))
   pub single : d.operation_mode ≡ ETWM_MODE → v ≡ DA7281 →

@@ -6,8 +6,8 @@
 #![tactic(auto)]
 
 ghost use Rattle.std.specs.Prelude.{◌≡◌, cond, not, ◌&&◌, ◌||◌, ltb, eqb};
-ghost use Rattle.errors.specs.Number.{answerNumber};
-ghost use Rattle.config.specs.Codes.{variantCode};
+ghost use Rattle.errors.specs.Number.{answer_number};
+ghost use Rattle.config.specs.Codes.{variant_code};
 ghost use Rattle.config.specs.declared.Variant.TheVariants.{DA7281};
 ghost use Rattle.checks.specs.Checks as spec;
 
@@ -15,7 +15,7 @@ use config::{ActuatorConfig, DeviceConfig, DrivingMode, OperationMode, Trigger, 
 use errors::{Answer, Error};
 
 pub fn configure_checks(variant: Variant, actuator: ActuatorConfig, device: DeviceConfig) -> Answer
-    ensures { answerNumber result ≡ spec.configureNumber variant actuator device }
+    ensures { answer_number result ≡ spec.configure_number variant actuator device }
 {
     let mode = device.driving_mode;
     if needs_tracking(device) {
@@ -60,7 +60,7 @@ pub fn configure_checks(variant: Variant, actuator: ActuatorConfig, device: Devi
 
 // Whether a frequency lies outside the band of the driving mode.
 pub fn outside_band(mode: DrivingMode, hz: u16) -> bool
-    ensures { result ≡ spec.outsideBand mode hz }
+    ensures { result ≡ spec.outside_band mode hz }
 {
     if is_tracking(mode) {
         if hz < 50 {
@@ -104,7 +104,7 @@ fn needs_tracking(device: DeviceConfig) -> bool
 
 // In ETWM mode, no trigger.
 fn lacks_trigger(device: DeviceConfig) -> bool
-    ensures { result ≡ (spec.etwm device.operation_mode && eqb (spec.triggersGiven device) 0) }
+    ensures { result ≡ (spec.etwm device.operation_mode && eqb (spec.triggers_given device) 0) }
 {
     let mode = device.operation_mode;
     if is_etwm(mode) {
@@ -115,7 +115,7 @@ fn lacks_trigger(device: DeviceConfig) -> bool
 
 // In ETWM mode, more than one trigger on the DA7281.
 fn has_too_many_triggers(variant: Variant, device: DeviceConfig) -> bool
-    ensures { result ≡ (spec.etwm device.operation_mode && (eqb (variantCode variant) (variantCode DA7281) && ltb 1 (spec.triggersGiven device))) }
+    ensures { result ≡ (spec.etwm device.operation_mode && (eqb (variant_code variant) (variant_code DA7281) && ltb 1 (spec.triggers_given device))) }
 {
     let mode = device.operation_mode;
     if is_etwm(mode) {
@@ -128,7 +128,7 @@ fn has_too_many_triggers(variant: Variant, device: DeviceConfig) -> bool
 }
 
 fn is_DA7281(variant: Variant) -> bool
-    ensures { result ≡ eqb (variantCode variant) (variantCode DA7281) }
+    ensures { result ≡ eqb (variant_code variant) (variant_code DA7281) }
 {
     let other = Variant::DA7281;
     variant.code() == other.code()
@@ -154,7 +154,7 @@ fn outside_impedance(mOhm: u16) -> bool
 }
 
 fn triggers_given(device: DeviceConfig) -> u8
-    ensures { result ≡ spec.triggersGiven device }
+    ensures { result ≡ spec.triggers_given device }
 {
     let t0 = device.gpi_trigger_0;
     let t1 = device.gpi_trigger_1;
@@ -163,7 +163,7 @@ fn triggers_given(device: DeviceConfig) -> u8
 }
 
 fn one_if_given(trigger: Trigger) -> u8
-    ensures { result ≡ spec.oneIfGiven trigger }
+    ensures { result ≡ spec.one_if_given trigger }
 {
     match trigger {
         Trigger::Absent => 0,
@@ -173,7 +173,7 @@ fn one_if_given(trigger: Trigger) -> u8
 
 // In ETWM mode, a given trigger's sequence number above 15.
 fn triggers_above_15(device: DeviceConfig) -> bool
-    ensures { result ≡ (spec.etwm device.operation_mode && spec.triggersAbove15 device) }
+    ensures { result ≡ (spec.etwm device.operation_mode && spec.triggers_above15 device) }
 {
     let mode = device.operation_mode;
     if is_etwm(mode) {
@@ -192,7 +192,7 @@ fn triggers_above_15(device: DeviceConfig) -> bool
 }
 
 fn sequence_above_15(trigger: Trigger) -> bool
-    ensures { result ≡ spec.sequenceAbove15 trigger }
+    ensures { result ≡ spec.sequence_above15 trigger }
 {
     match trigger {
         Trigger::Absent => false,

@@ -14,50 +14,50 @@ use Rattle.config.specs.declared.DrivingMode.TheVariants.{FREQUENCY_TRACK, WIDEB
 use Rattle.config.specs.declared.Variant.{Variant}
 use Rattle.config.specs.declared.Variant.TheVariants.{DA7280, DA7281, DA7282}
 
-abbrev pub actuatorCode : ActuatorType → ℕ
-actuatorCode LRA = 0
-actuatorCode ERM = 1
+abbrev pub actuator_code : ActuatorType → ℕ
+actuator_code LRA = 0
+actuator_code ERM = 1
 
-abbrev pub actuatorAt : ℕ → ActuatorType
-actuatorAt code = get_or (LRA ∷ []) code ERM
+abbrev pub actuator_at : ℕ → ActuatorType
+actuator_at code = get_or (LRA ∷ []) code ERM
 
-abbrev pub triggerModeCode : TriggerMode → ℕ
-triggerModeCode SingleSequence = 0
-triggerModeCode MultiSequence = 1
+abbrev pub trigger_mode_code : TriggerMode → ℕ
+trigger_mode_code SingleSequence = 0
+trigger_mode_code MultiSequence = 1
 
-abbrev pub triggerModeAt : ℕ → TriggerMode
-triggerModeAt code = get_or (SingleSequence ∷ []) code MultiSequence
+abbrev pub trigger_mode_at : ℕ → TriggerMode
+trigger_mode_at code = get_or (SingleSequence ∷ []) code MultiSequence
 
-abbrev pub polarityCode : TriggerPolarity → ℕ
-polarityCode Rising = 0
-polarityCode Falling = 1
-polarityCode Both = 2
+abbrev pub polarity_code : TriggerPolarity → ℕ
+polarity_code Rising = 0
+polarity_code Falling = 1
+polarity_code Both = 2
 
-abbrev pub polarityAt : ℕ → TriggerPolarity
-polarityAt code = get_or (Rising ∷ Falling ∷ []) code Both
+abbrev pub polarity_at : ℕ → TriggerPolarity
+polarity_at code = get_or (Rising ∷ Falling ∷ []) code Both
 
-abbrev pub operationCode : OperationMode → ℕ
-operationCode INACTIVE = 0
-operationCode DRO_MODE = 1
-operationCode PWM_MODE = 2
-operationCode RTWM_MODE = 3
-operationCode ETWM_MODE = 4
+abbrev pub operation_code : OperationMode → ℕ
+operation_code INACTIVE = 0
+operation_code DRO_MODE = 1
+operation_code PWM_MODE = 2
+operation_code RTWM_MODE = 3
+operation_code ETWM_MODE = 4
 
-abbrev pub operationAt : ℕ → OperationMode
-operationAt code = get_or (INACTIVE ∷ DRO_MODE ∷ PWM_MODE ∷ RTWM_MODE ∷ []) code ETWM_MODE
+abbrev pub operation_at : ℕ → OperationMode
+operation_at code = get_or (INACTIVE ∷ DRO_MODE ∷ PWM_MODE ∷ RTWM_MODE ∷ []) code ETWM_MODE
 
-abbrev pub drivingCode : DrivingMode → ℕ
-drivingCode FREQUENCY_TRACK = 0
-drivingCode WIDEBAND = 1
-drivingCode CUSTOM_WAVEFORM = 2
+abbrev pub driving_code : DrivingMode → ℕ
+driving_code FREQUENCY_TRACK = 0
+driving_code WIDEBAND = 1
+driving_code CUSTOM_WAVEFORM = 2
 
-abbrev pub drivingAt : ℕ → DrivingMode
-drivingAt code = get_or (FREQUENCY_TRACK ∷ WIDEBAND ∷ []) code CUSTOM_WAVEFORM
+abbrev pub driving_at : ℕ → DrivingMode
+driving_at code = get_or (FREQUENCY_TRACK ∷ WIDEBAND ∷ []) code CUSTOM_WAVEFORM
 
-abbrev pub variantCode : Variant → ℕ
-variantCode DA7280 = 0
-variantCode DA7281 = 1
-variantCode DA7282 = 2
+abbrev pub variant_code : Variant → ℕ
+variant_code DA7280 = 0
+variant_code DA7281 = 1
+variant_code DA7282 = 2
 
-abbrev pub variantAt : ℕ → Variant
-variantAt code = get_or (DA7280 ∷ DA7281 ∷ []) code DA7282
+abbrev pub variant_at : ℕ → Variant
+variant_at code = get_or (DA7280 ∷ DA7281 ∷ []) code DA7282

@@ -5,7 +5,7 @@
 #![tactic(auto)]
 
 ghost use Rattle.std.specs.Prelude.{◌≡◌};
-ghost use Rattle.config.specs.Codes.{actuatorCode, triggerModeCode, polarityCode, operationCode, drivingCode, variantCode, actuatorAt, triggerModeAt, polarityAt, operationAt, drivingAt, variantAt};
+ghost use Rattle.config.specs.Codes.{actuator_code, trigger_mode_code, polarity_code, operation_code, driving_code, variant_code, actuator_at, trigger_mode_at, polarity_at, operation_at, driving_at, variant_at};
 
 #[derive(Clone, Copy)]
 pub struct ActuatorConfig {
@@ -94,7 +94,7 @@ pub enum Variant {
 
 impl ActuatorType {
     pub fn code(self) -> u8
-        ensures { result ≡ actuatorCode self }
+        ensures { result ≡ actuator_code self }
     {
         match self {
             ActuatorType::LRA => 0,
@@ -103,7 +103,7 @@ impl ActuatorType {
     }
 
     pub fn from_code(code: u8) -> ActuatorType
-        ensures { result ≡ actuatorAt code }
+        ensures { result ≡ actuator_at code }
     {
         match code {
             0 => ActuatorType::LRA,
@@ -114,7 +114,7 @@ impl ActuatorType {
 
 impl TriggerMode {
     pub fn code(self) -> u8
-        ensures { result ≡ triggerModeCode self }
+        ensures { result ≡ trigger_mode_code self }
     {
         match self {
             TriggerMode::SingleSequence => 0,
@@ -123,7 +123,7 @@ impl TriggerMode {
     }
 
     pub fn from_code(code: u8) -> TriggerMode
-        ensures { result ≡ triggerModeAt code }
+        ensures { result ≡ trigger_mode_at code }
     {
         match code {
             0 => TriggerMode::SingleSequence,
@@ -134,7 +134,7 @@ impl TriggerMode {
 
 impl TriggerPolarity {
     pub fn code(self) -> u8
-        ensures { result ≡ polarityCode self }
+        ensures { result ≡ polarity_code self }
     {
         match self {
             TriggerPolarity::Rising => 0,
@@ -144,7 +144,7 @@ impl TriggerPolarity {
     }
 
     pub fn from_code(code: u8) -> TriggerPolarity
-        ensures { result ≡ polarityAt code }
+        ensures { result ≡ polarity_at code }
     {
         match code {
             0 => TriggerPolarity::Rising,
@@ -156,7 +156,7 @@ impl TriggerPolarity {
 
 impl OperationMode {
     pub fn code(self) -> u8
-        ensures { result ≡ operationCode self }
+        ensures { result ≡ operation_code self }
     {
         match self {
             OperationMode::INACTIVE => 0,
@@ -168,7 +168,7 @@ impl OperationMode {
     }
 
     pub fn from_code(code: u8) -> OperationMode
-        ensures { result ≡ operationAt code }
+        ensures { result ≡ operation_at code }
     {
         match code {
             0 => OperationMode::INACTIVE,
@@ -182,7 +182,7 @@ impl OperationMode {
 
 impl DrivingMode {
     pub fn code(self) -> u8
-        ensures { result ≡ drivingCode self }
+        ensures { result ≡ driving_code self }
     {
         match self {
             DrivingMode::FREQUENCY_TRACK => 0,
@@ -192,7 +192,7 @@ impl DrivingMode {
     }
 
     pub fn from_code(code: u8) -> DrivingMode
-        ensures { result ≡ drivingAt code }
+        ensures { result ≡ driving_at code }
     {
         match code {
             0 => DrivingMode::FREQUENCY_TRACK,
@@ -204,7 +204,7 @@ impl DrivingMode {
 
 impl Variant {
     pub fn code(self) -> u8
-        ensures { result ≡ variantCode self }
+        ensures { result ≡ variant_code self }
     {
         match self {
             Variant::DA7280 => 0,
@@ -214,7 +214,7 @@ impl Variant {
     }
 
     pub fn from_code(code: u8) -> Variant
-        ensures { result ≡ variantAt code }
+        ensures { result ≡ variant_at code }
     {
         match code {
             0 => Variant::DA7280,

@@ -5,7 +5,7 @@ use Rattle.snippet.specs.Point.{PointAdmitted}
 use Rattle.frame.specs.declared.FrameBuilder.{FrameBuilder}
 use Rattle.frame.specs.Agreement.{FrameAdmitted}
 use Rattle.content.specs.Content.{Point, Within}
-use Rattle.content.specs.ReadImage.{pointIn}
+use Rattle.content.specs.ReadImage.{point_in}
 
 abbrev pub SnippetAdmitted : List Point → Type 0
 SnippetAdmitted ps = Within 16 (λ (p : Point). PointAdmitted p.timebases p.amplitude) ps
@@ -13,5 +13,5 @@ SnippetAdmitted ps = Within 16 (λ (p : Point). PointAdmitted p.timebases p.ampl
 abbrev pub SequenceAdmitted : List FrameBuilder → Type 0
 SequenceAdmitted fs = Within 32 FrameAdmitted fs
 
-abbrev pub pointsIn : List ℕ → List Point
-pointsIn bs = map pointIn bs
+abbrev pub points_in : List ℕ → List Point
+points_in bs = map point_in bs

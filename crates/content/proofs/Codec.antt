@@ -9,28 +9,28 @@ use Prim.Native.Nat.{ℕ, zero, suc, ◌≤◌}
 use native.Mathlib.Omega.{arith}
 use lib.ListN.{length}
 use Rattle.laws.specs.Bytes.{All}
-use Rattle.content.specs.ReadImage.{andThen, every}
+use Rattle.content.specs.ReadImage.{and_then, every}
 
 module _ {A : Type 0} where
-  pub none-some : {X : Type 0} (a : A) → none ≡ some a → X
-  none-some a e = absurd (none-ne-some a e)
+  pub none_some : {X : Type 0} (a : A) → none ≡ some a → X
+  none_some a e = absurd (none-ne-some a e)
 
   pub some_inj : {a b : A} → some a ≡ some b → a ≡ b
   some_inj e = cc
 
-  pub cond-some : (t : Bool) (m : Option A) {a : A} → cond t m none ≡ some a → (t ≡ true) × (m ≡ some a)
-  cond-some true m e = (refl, e)
-  cond-some false m {a} e = none-some a e
+  pub cond_some : (t : Bool) (m : Option A) {a : A} → cond t m none ≡ some a → (t ≡ true) × (m ≡ some a)
+  cond_some true m e = (refl, e)
+  cond_some false m {a} e = none_some a e
 
-  pub cond-on : (t : Bool) (m : Option A) → t ≡ true → cond t m none ≡ m
-  cond-on t m e = simp e
+  pub cond_on : (t : Bool) (m : Option A) → t ≡ true → cond t m none ≡ m
+  cond_on t m e = simp e
 
-  pub cons-eq : {a b : A} {l m : List A} → a ≡ b → l ≡ m → a ∷ l ≡ b ∷ m
-  cons-eq p q = λ i. p i ∷ q i
+  pub cons_eq : {a b : A} {l m : List A} → a ≡ b → l ≡ m → a ∷ l ≡ b ∷ m
+  cons_eq p q = λ i. p i ∷ q i
 
 module _ {A B : Type 0} where
-  pub then_some : (m : Option A) (f : A → Option B) {b : B} → andThen m f ≡ some b → (a : A) × (m ≡ some a) × (f a ≡ some b)
-  then_some none f {b} e = none-some b e
+  pub then_some : (m : Option A) (f : A → Option B) {b : B} → and_then m f ≡ some b → (a : A) × (m ≡ some a) × (f a ≡ some b)
+  then_some none f {b} e = none_some b e
   then_some (some a) f e = (a, refl, e)
 
   -- reading bytes that fit, writing what is good; `canon` is what comes back
@@ -41,44 +41,44 @@ module _ {A B : Type 0} where
 
   module _ (Fit : A → Type 0) (read : A → Option B) (write : B → A) (Good : B → Type 0) (canon : B → B) (k : Codec Fit read write Good canon) where
     pub refuses : (a : A) → Fit a → (read a ≡ none) ↔ ¬ ((b : B) × (Good b × (write b ≡ a)))
-    refuses a h = (λ e w. none-some (canon w.0) (cc (k.complete w.0 w.1.0, w.1.1, e)), λ f. go f (read a) refl)
+    refuses a h = (λ e w. none_some (canon w.0) (cc (k.complete w.0 w.1.0, w.1.1, e)), λ f. go f (read a) refl)
       where
         go : ¬ ((b : B) × (Good b × (write b ≡ a))) → (m : Option B) → read a ≡ m → read a ≡ none
         go f none e = e
         go f (some b) e = absurd (f (b, k.sound a b h e))
 
-    pub write-canon : (b : B) → Good b → write (canon b) ≡ write b
-    write-canon b g = (k.sound (write b) (canon b) (k.fit b g) (k.complete b g)).1
+    pub write_canon : (b : B) → Good b → write (canon b) ≡ write b
+    write_canon b g = (k.sound (write b) (canon b) (k.fit b g) (k.complete b g)).1
 
-    pub good-canon : (b : B) → Good b → Good (canon b)
-    good-canon b g = (k.sound (write b) (canon b) (k.fit b g) (k.complete b g)).0
+    pub good_canon : (b : B) → Good b → Good (canon b)
+    good_canon b g = (k.sound (write b) (canon b) (k.fit b g) (k.complete b g)).0
 
     pub same : (b d : B) → Good b → Good d → (write b ≡ write d) ↔ (canon b ≡ canon d)
-    same b d g h = (λ e. cc (k.complete b g, k.complete d h), λ e. cc (write-canon b g, write-canon d h))
+    same b d g h = (λ e. cc (k.complete b g, k.complete d h), λ e. cc (write_canon b g, write_canon d h))
 
 module _ {A B : Type 0} (Fit : A → Type 0) (read : A → Option B) (write : B → A) (Good : B → Type 0) (canon : B → B) (k : Codec Fit read write Good canon) where
-  every-sound : (xs : List A) (ys : List B) → All Fit xs → every read xs ≡ some ys → All Good ys × (map write ys ≡ xs)
-  every-sound [] [] h e = (tt, refl)
-  every-sound [] (y ∷ ys) h e = let z : ◌≡◌ {A = ℕ} 0 1 = cc in absurd (omega arith)
-  every-sound (x ∷ xs) ys h e =
-      let (y, p, e₁) = then_some (read x) (λ y. andThen (every read xs) (λ ys. some (y ∷ ys))) e in
+  every_sound : (xs : List A) (ys : List B) → All Fit xs → every read xs ≡ some ys → All Good ys × (map write ys ≡ xs)
+  every_sound [] [] h e = (tt, refl)
+  every_sound [] (y ∷ ys) h e = let z : ◌≡◌ {A = ℕ} 0 1 = cc in absurd (omega arith)
+  every_sound (x ∷ xs) ys h e =
+      let (y, p, e₁) = then_some (read x) (λ y. and_then (every read xs) (λ ys. some (y ∷ ys))) e in
       let (zs, q, e₂) = then_some (every read xs) (λ ys. some (y ∷ ys)) e₁ in
       let r : y ∷ zs ≡ ys = cc in
       let s = k.sound x y h.0 p in
-      let t = every-sound xs zs h.1 q in
-      subst (λ (l : List B). All Good l × (map write l ≡ x ∷ xs)) r ((s.0, t.0), cons-eq s.1 t.1)
+      let t = every_sound xs zs h.1 q in
+      subst (λ (l : List B). All Good l × (map write l ≡ x ∷ xs)) r ((s.0, t.0), cons_eq s.1 t.1)
 
-  every-complete : (ys : List B) → All Good ys → every read (map write ys) ≡ some (map canon ys)
-  every-complete [] g = refl
-  every-complete (y ∷ ys) g = rw (k.complete y g.0, every-complete ys g.1)
+  every_complete : (ys : List B) → All Good ys → every read (map write ys) ≡ some (map canon ys)
+  every_complete [] g = refl
+  every_complete (y ∷ ys) g = rw (k.complete y g.0, every_complete ys g.1)
 
-  every-fit : (ys : List B) → All Good ys → All Fit (map write ys)
-  every-fit [] g = tt
-  every-fit (y ∷ ys) g = (k.fit y g.0, every-fit ys g.1)
+  every_fit : (ys : List B) → All Good ys → All Fit (map write ys)
+  every_fit [] g = tt
+  every_fit (y ∷ ys) g = (k.fit y g.0, every_fit ys g.1)
 
-  pub every-codec : Codec (All Fit) (every read) (map write) (All Good) (map canon)
-  every-codec = record { sound = every-sound; complete = every-complete; fit = every-fit }
+  pub every_codec : Codec (All Fit) (every read) (map write) (All Good) (map canon)
+  every_codec = record { sound = every_sound; complete = every_complete; fit = every_fit }
 
-pub map-id : {A : Type 0} (l : List A) → map (λ x. x) l ≡ l
-map-id [] = refl
-map-id (x ∷ l) = ap (λ r. x ∷ r) (map-id l)
+pub map_id : {A : Type 0} (l : List A) → map (λ x. x) l ≡ l
+map_id [] = refl
+map_id (x ∷ l) = ap (λ r. x ∷ r) (map_id l)

@@ -10,68 +10,68 @@ use borrow.Author.Tests.{le-leb, leb-true}
 use lib.Dec.{leb}
 use lib.ListN.{length, length-map}
 use Rattle.laws.specs.Bytes.{All, Bytes}
-use Rattle.snippet.specs.Point.{pointByte, PointAdmitted}
-use Rattle.snippet.proofs.Points.{ramp-back, timebases-back, amplitude-back, byte-back, byte-admitted}
-use Rattle.content.specs.Content.{Point, byteOf, pointBytes}
-use Rattle.content.specs.ReadImage.{pointIn, readSnippet}
-use Rattle.content.proofs.Admits.{SnippetAdmitted, pointsIn}
-use Rattle.content.proofs.Codec.{Codec, cond-some, cond-on, some_inj, cons-eq}
+use Rattle.snippet.specs.Point.{point_byte, PointAdmitted}
+use Rattle.snippet.proofs.Points.{ramp_back, timebases_back, amplitude_back, byte_back, byte_admitted}
+use Rattle.content.specs.Content.{Point, byte_of, point_bytes}
+use Rattle.content.specs.ReadImage.{point_in, read_snippet}
+use Rattle.content.proofs.Admits.{SnippetAdmitted, points_in}
+use Rattle.content.proofs.Codec.{Codec, cond_some, cond_on, some_inj, cons_eq}
 
 -- a point that the builders admit
 abbrev pub Good : Point → Type 0
 Good p = PointAdmitted p.timebases p.amplitude
 
-points-length : (bs : List ℕ) → length (pointsIn bs) ≡ length bs
-points-length [] = refl
-points-length (b ∷ bs) = ap suc (points-length bs)
+points_length : (bs : List ℕ) → length (points_in bs) ≡ length bs
+points_length [] = refl
+points_length (b ∷ bs) = ap suc (points_length bs)
 
-points-good : (bs : List ℕ) → All Good (pointsIn bs)
-points-good [] = tt
-points-good (b ∷ bs) = (byte-admitted b, points-good bs)
+points_good : (bs : List ℕ) → All Good (points_in bs)
+points_good [] = tt
+points_good (b ∷ bs) = (byte_admitted b, points_good bs)
 
-pub points-there : (bs : List ℕ) → Bytes bs → pointBytes (pointsIn bs) ≡ bs
-points-there [] h = refl
-points-there (b ∷ bs) h = cons-eq (byte-back b h.0) (points-there bs h.1)
+pub points_there : (bs : List ℕ) → Bytes bs → point_bytes (points_in bs) ≡ bs
+points_there [] h = refl
+points_there (b ∷ bs) h = cons_eq (byte_back b h.0) (points_there bs h.1)
 
-point-back : (p : Point) → Good p → pointIn (byteOf p) ≡ p
-point-back p g =
-    let r = ramp-back p.timebases p.amplitude g p.ramp in
-    let t = timebases-back p.timebases p.amplitude g p.ramp in
-    let a = amplitude-back p.timebases p.amplitude g p.ramp in
+point_back : (p : Point) → Good p → point_in (byte_of p) ≡ p
+point_back p g =
+    let r = ramp_back p.timebases p.amplitude g p.ramp in
+    let t = timebases_back p.timebases p.amplitude g p.ramp in
+    let a = amplitude_back p.timebases p.amplitude g p.ramp in
     λ i. record { ramp = r i; timebases = t i; amplitude = a i }
 
-points-back : (ps : List Point) → All Good ps → pointsIn (pointBytes ps) ≡ ps
-points-back [] g = refl
-points-back (p ∷ ps) g = cons-eq (point-back p g.0) (points-back ps g.1)
+points_back : (ps : List Point) → All Good ps → points_in (point_bytes ps) ≡ ps
+points_back [] g = refl
+points_back (p ∷ ps) g = cons_eq (point_back p g.0) (points_back ps g.1)
 
-byte_small : (r : Bool) (t a : ℕ) → PointAdmitted t a → pointByte r t a < 256
+byte_small : (r : Bool) (t a : ℕ) → PointAdmitted t a → point_byte r t a < 256
 byte_small true t a g = omega (arith, g.longest, g.strongest)
 byte_small false t a g = omega (arith, g.longest, g.strongest)
 
-points-bytes : (ps : List Point) → All Good ps → Bytes (pointBytes ps)
-points-bytes [] g = tt
-points-bytes (p ∷ ps) g = (byte_small p.ramp p.timebases p.amplitude g.0, points-bytes ps g.1)
+points_bytes : (ps : List Point) → All Good ps → Bytes (point_bytes ps)
+points_bytes [] g = tt
+points_bytes (p ∷ ps) g = (byte_small p.ramp p.timebases p.amplitude g.0, points_bytes ps g.1)
 
-snippet-sound : (bs : List ℕ) (ps : List Point) → Bytes bs → readSnippet bs ≡ some ps → SnippetAdmitted ps × (pointBytes ps ≡ bs)
-unfolding readSnippet
-snippet-sound bs ps h e =
-    let (t, e₁) = cond-some (leb 1 (length bs) && leb (length bs) 16) _ e in
+snippet_sound : (bs : List ℕ) (ps : List Point) → Bytes bs → read_snippet bs ≡ some ps → SnippetAdmitted ps × (point_bytes ps ≡ bs)
+unfolding read_snippet
+snippet_sound bs ps h e =
+    let (t, e₁) = cond_some (leb 1 (length bs) && leb (length bs) 16) _ e in
     let (u, v) = (and-eq-true_iff (leb 1 (length bs)) (leb (length bs) 16)).0 t in
-    let n = points-length bs in
-    subst (λ (l : List Point). SnippetAdmitted l × (pointBytes l ≡ bs)) (some_inj e₁) (
-      record { nonempty = omega (arith, leb-true 1 (length bs) u); few = omega (arith, leb-true (length bs) 16 v); each = points-good bs },
-      points-there bs h,
+    let n = points_length bs in
+    subst (λ (l : List Point). SnippetAdmitted l × (point_bytes l ≡ bs)) (some_inj e₁) (
+      record { nonempty = omega (arith, leb-true 1 (length bs) u); few = omega (arith, leb-true (length bs) 16 v); each = points_good bs },
+      points_there bs h,
     )
 
-snippet-complete : (ps : List Point) → SnippetAdmitted ps → readSnippet (pointBytes ps) ≡ some ps
-unfolding readSnippet
-snippet-complete ps g =
-    let n = length-map ps byteOf in
-    cond-on _ _ ((and-eq-true_iff _ _).1 (le-leb 1 (length (pointBytes ps)) (omega (arith, g.nonempty)), le-leb (length (pointBytes ps)) 16 (omega (arith, g.few))))
-    ∙ ap some (points-back ps g.each)
+snippet_complete : (ps : List Point) → SnippetAdmitted ps → read_snippet (point_bytes ps) ≡ some ps
+unfolding read_snippet
+snippet_complete ps g =
+    let n = length-map ps byte_of in
+    cond_on _ _ ((and-eq-true_iff _ _).1 (le-leb 1 (length (point_bytes ps)) (omega (arith, g.nonempty)), le-leb (length (point_bytes ps)) 16 (omega (arith, g.few))))
+    ∙ ap some (points_back ps g.each)
 
-pub snippet-codec : Codec Bytes readSnippet pointBytes SnippetAdmitted (λ ps. ps)
-snippet-codec = record { sound = snippet-sound; complete = snippet-complete; fit = λ ps g. points-bytes ps g.each }
+pub snippet_codec : Codec Bytes read_snippet point_bytes SnippetAdmitted (λ ps. ps)
+snippet_codec = record { sound = snippet_sound; complete = snippet_complete; fit = λ ps g. points_bytes ps g.each }
 
-pub snippet-long : (ps : List Point) → SnippetAdmitted ps → 1 ≤ length (pointBytes ps)
-snippet-long ps g = omega (arith, length-map ps byteOf, g.nonempty)
+pub snippet_long : (ps : List Point) → SnippetAdmitted ps → 1 ≤ length (point_bytes ps)
+snippet_long ps g = omega (arith, length-map ps byte_of, g.nonempty)

@@ -3,11 +3,11 @@
 use Rattle.std.specs.Prelude.{ℕ, ◌≤◌, ◌≡◌, Bool, List, [], ◌∷◌, map, length}
 use Rattle.laws.specs.Bytes.{All}
 use Rattle.laws.specs.Lists.{joined}
-use Rattle.snippet.specs.Point.{pointByte, PointAdmitted}
+use Rattle.snippet.specs.Point.{point_byte, PointAdmitted}
 use Rattle.frame.specs.declared.FrameBuilder.{FrameBuilder}
-use Rattle.frame.specs.Frame.{bytesOf}
+use Rattle.frame.specs.Frame.{bytes_of}
 use Rattle.frame.specs.Agreement.{Agree, FrameAdmitted}
-use Rattle.memory.specs.Image.{imageSize, imageBytes}
+use Rattle.memory.specs.Image.{image_size, image_bytes}
 
 -- "Points are the same when kind, length and amplitude are"
 pub record Point : Type 0 where
@@ -22,20 +22,20 @@ pub record Content : Type 0 where
 
 -- ---- the image
 
-abbrev pub byteOf : Point → ℕ
-byteOf p = pointByte p.ramp p.timebases p.amplitude
+abbrev pub byte_of : Point → ℕ
+byte_of p = point_byte p.ramp p.timebases p.amplitude
 
-abbrev pub pointBytes : List Point → List ℕ
-pointBytes ps = map byteOf ps
+abbrev pub point_bytes : List Point → List ℕ
+point_bytes ps = map byte_of ps
 
-abbrev pub framesBytes : List FrameBuilder → List ℕ
-framesBytes fs = joined (map bytesOf fs)
+abbrev pub frames_bytes : List FrameBuilder → List ℕ
+frames_bytes fs = joined (map bytes_of fs)
 
-abbrev pub sizeOf : Content → ℕ
-sizeOf c = imageSize (map pointBytes c.snippets) (map framesBytes c.sequences)
+abbrev pub size_of : Content → ℕ
+size_of c = image_size (map point_bytes c.snippets) (map frames_bytes c.sequences)
 
-unfoldable pub imageOf : Content → List ℕ
-imageOf c = imageBytes (map pointBytes c.snippets) (map framesBytes c.sequences)
+unfoldable pub image_of : Content → List ℕ
+image_of c = image_bytes (map point_bytes c.snippets) (map frames_bytes c.sequences)
 
 -- ---- what the builders admit
 
@@ -50,7 +50,7 @@ pub record Within {A : Type 0} (most : ℕ) (Good : A → Type 0) (xs : List A) 
 pub record Admitted (c : Content) : Type 0 where
   pub snippets : Within 15 (Within 16 (λ (p : Point). PointAdmitted p.timebases p.amplitude)) c.snippets
   pub sequences : Within 16 (Within 32 FrameAdmitted) c.sequences
-  pub fits : sizeOf c ≤ 100
+  pub fits : size_of c ≤ 100
 
 -- ---- the same
 

@@ -8,18 +8,18 @@ use mathlib.Core.List.{List, [], ◌∷◌}
 use lib.Dec.{leb, ltb}
 use lib.ListN.{get_or}
 use borrow.Author.Tests.{ltb-true, le-ltb}
-use Rattle.convert.specs.Convert.{voltageByte, imaxCode, v2iWord, periodWord, highPart}
-use Rattle.convert.specs.Trim.{TrimRow, upTo, trimRows, rowAt, capCode, column, resistanceCode}
-use Rattle.convert.proofs.Sizes.{scaled, period-bits}
+use Rattle.convert.specs.Convert.{voltage_byte, imax_code, v2i_word, period_word, high_part}
+use Rattle.convert.specs.Trim.{TrimRow, up_to, trim_rows, row_at, cap_code, column, resistance_code}
+use Rattle.convert.proofs.Sizes.{scaled, period_bits}
 
-pub period-is : (hz : ℕ) → 25 ≤ hz → periodWord hz ≡ 100000000000 / (133332 * hz)
-period-is hz h = simp (le-ltb hz 25 h)
+pub period_is : (hz : ℕ) → 25 ≤ hz → period_word hz ≡ 100000000000 / (133332 * hz)
+period_is hz h = simp (le-ltb hz 25 h)
 
-pub word-bits : (hz : ℕ) → 25 ≤ hz → periodWord hz < 32768
-word-bits hz h = subst⁻¹ (λ (n : ℕ). n < 32768) (period-is hz h) (period-bits hz h)
+pub word_bits : (hz : ℕ) → 25 ≤ hz → period_word hz < 32768
+word_bits hz h = subst⁻¹ (λ (n : ℕ). n < 32768) (period_is hz h) (period_bits hz h)
 
 -- of fifteen bits the high part takes all but seven
-pub high_is : (w : ℕ) → w < 32768 → highPart w ≡ w / 128
+pub high_is : (w : ℕ) → w < 32768 → high_part w ≡ w / 128
 high_is w h = omega arith
 
 cond_below : (b : Bool) (x y : ℕ) → x < 4 → y < 4 → cond b x y < 4
@@ -31,42 +31,42 @@ abbrev low : List ℕ → Bool
 low [] = true
 low (x ∷ xs) = ltb x 4 && low xs
 
-abbrev lowRows : List TrimRow → Bool
-lowRows [] = low (rowAt 0 [])
-lowRows (upTo n codes ∷ rs) = low codes && lowRows rs
+abbrev low_rows : List TrimRow → Bool
+low_rows [] = low (row_at 0 [])
+low_rows (up_to n codes ∷ rs) = low codes && low_rows rs
 
 code_below : (xs : List ℕ) (i : ℕ) → So (low xs) → get_or xs i 0 < 4
 code_below [] i t = omega arith
 code_below (x ∷ xs) zero t = ltb-true x 4 ((and-eq-true_iff (ltb x 4) (low xs)).0 t).0
 code_below (x ∷ xs) (suc i) t = code_below xs i ((and-eq-true_iff (ltb x 4) (low xs)).0 t).1
 
-row_low : (rs : List TrimRow) (ohms : ℕ) → So (lowRows rs) → So (low (rowAt ohms rs))
+row_low : (rs : List TrimRow) (ohms : ℕ) → So (low_rows rs) → So (low (row_at ohms rs))
 row_low [] ohms t = t
-row_low (upTo n codes ∷ rs) ohms t =
-    let both = (and-eq-true_iff (low codes) (lowRows rs)).0 t in
+row_low (up_to n codes ∷ rs) ohms t =
+    let both = (and-eq-true_iff (low codes) (low_rows rs)).0 t in
     go (leb ohms n) both.0 (row_low rs ohms both.1)
   where
-    go : (b : Bool) → So (low codes) → So (low (rowAt ohms rs)) → So (low (cond b codes (rowAt ohms rs)))
+    go : (b : Bool) → So (low codes) → So (low (row_at ohms rs)) → So (low (cond b codes (row_at ohms rs)))
     go true h k = h
     go false h k = k
 
-pub voltage : (mV : ℕ) → mV ≤ 5990 → voltageByte mV ≡ 1000 * mV / 23400
+pub voltage : (mV : ℕ) → mV ≤ 5990 → voltage_byte mV ≡ 1000 * mV / 23400
 voltage mV h = omega arith
 
-pub current : (mA : ℕ) → mA ≤ 252 → imaxCode mA ≡ (1000 * mA - 28600) / 7200
+pub current : (mA : ℕ) → mA ≤ 252 → imax_code mA ≡ (1000 * mA - 28600) / 7200
 current mA h = omega arith
 
 -- IMAX has five bits
-pub current-bits : (mA : ℕ) → mA ≤ 252 → imaxCode mA < 32
-current-bits mA h = omega arith
+pub current_bits : (mA : ℕ) → mA ≤ 252 → imax_code mA < 32
+current_bits mA h = omega arith
 
-pub v2i-bits : (mOhm imax : ℕ) → mOhm ≤ 49999 → imax < 32 → v2iWord mOhm imax < 65536
-v2i-bits mOhm imax h k = omega (arith, scaled mOhm imax (omega arith) (omega arith))
+pub v2i_bits : (mOhm imax : ℕ) → mOhm ≤ 49999 → imax < 32 → v2i_word mOhm imax < 65536
+v2i_bits mOhm imax h k = omega (arith, scaled mOhm imax (omega arith) (omega arith))
 
 -- both fields of TRIM4 have two bits
-pub cap-bits : (uH : ℕ) → capCode uH < 4
-cap-bits uH =
+pub cap_bits : (uH : ℕ) → cap_code uH < 4
+cap_bits uH =
     cond_below (leb uH 17) _ _ (omega arith) (cond_below (leb uH 27) _ _ (omega arith) (cond_below (leb uH 40) _ _ (omega arith) (omega arith)))
 
-pub resistance-bits : (mOhm uH : ℕ) → resistanceCode mOhm uH < 4
-resistance-bits mOhm uH = code_below (rowAt (mOhm / 1000) trimRows) (column uH) (row_low trimRows (mOhm / 1000) refl)
+pub resistance_bits : (mOhm uH : ℕ) → resistance_code mOhm uH < 4
+resistance_bits mOhm uH = code_below (row_at (mOhm / 1000) trim_rows) (column uH) (row_low trim_rows (mOhm / 1000) refl)

@@ -5,21 +5,21 @@
 #![tactic(auto)]
 
 ghost use Rattle.std.specs.Prelude.{◌≡◌};
-ghost use Rattle.convert.specs.Convert.{voltageByte, imaxCode, v2iWord, periodWord, highPart, lowPart, overrideByte};
+ghost use Rattle.convert.specs.Convert.{voltage_byte, imax_code, v2i_word, period_word, high_part, low_part, override_byte};
 ghost use Rattle.convert.specs.Trim as trim;
 
 use registers_trigger::TRIM4;
 
 // ACTUATOR1 and ACTUATOR2, from millivolts.
 pub fn voltage(mV: u16) -> u8
-    ensures { result ≡ voltageByte mV }
+    ensures { result ≡ voltage_byte mV }
 {
     (1000 * mV as u32 / 23400 % 256) as u8
 }
 
 // IMAX of ACTUATOR3, from milliamperes.
 pub fn imax(mA: u16) -> u8
-    ensures { result ≡ imaxCode mA }
+    ensures { result ≡ imax_code mA }
 {
     if mA < 29 {
         return 0;
@@ -29,7 +29,7 @@ pub fn imax(mA: u16) -> u8
 
 // CALIB_V2I_H and CALIB_V2I_L, from milliohms and IMAX.
 pub fn v2i(mOhm: u16, imax: u8) -> u16
-    ensures { result ≡ v2iWord mOhm imax }
+    ensures { result ≡ v2i_word mOhm imax }
 {
     let wide = 1000 * mOhm as u64;
     let scale = imax as u64 + 4;
@@ -38,7 +38,7 @@ pub fn v2i(mOhm: u16, imax: u8) -> u16
 
 // The period word of FRQ_LRA_PER_H and FRQ_LRA_PER_L, from hertz; 0 below 25 Hz, which no mode takes.
 pub fn period(hz: u16) -> u16
-    ensures { result ≡ periodWord hz }
+    ensures { result ≡ period_word hz }
 {
     if hz < 25 {
         return 0;
@@ -49,21 +49,21 @@ pub fn period(hz: u16) -> u16
 
 // The eight bits above the lowest seven: the high registers of a period or PID word.
 pub fn high_part(w: u16) -> u8
-    ensures { result ≡ highPart w }
+    ensures { result ≡ high_part w }
 {
     ((w >> 7) & 0xFF) as u8
 }
 
 // The lowest seven bits.
 pub fn low_part(w: u16) -> u8
-    ensures { result ≡ lowPart w }
+    ensures { result ≡ low_part w }
 {
     (w & 0x7F) as u8
 }
 
 // An override value in two's complement.
 pub fn override_byte(value: i8) -> u8
-    ensures { result ≡ overrideByte value }
+    ensures { result ≡ override_byte value }
 {
     if value < 0 {
         return (value as i16 + 256) as u8;
@@ -73,7 +73,7 @@ pub fn override_byte(value: i8) -> u8
 
 // LOOP_FILT_CAP_TRIM, from microhenries.
 pub fn cap_trim(uH: u16) -> u8
-    ensures { result ≡ trim.capCode uH }
+    ensures { result ≡ trim.cap_code uH }
 {
     match uH {
         0..=17 => 3,
@@ -136,7 +136,7 @@ const FROM_46: [u8; 10] = [0, 1, 2, 2, 2, 3, 3, 3, 3, 3];
 
 // LOOP_FILT_RES_TRIM, from milliohms and microhenries.
 pub fn res_trim(mOhm: u16, uH: u16) -> u8
-    ensures { result ≡ trim.resistanceCode mOhm uH }
+    ensures { result ≡ trim.resistance_code mOhm uH }
 {
     let c = column(uH);
     let ohms = mOhm / 1000;
@@ -164,7 +164,7 @@ pub fn res_trim(mOhm: u16, uH: u16) -> u8
 
 // TRIM4, from milliohms and microhenries.
 pub fn trim4(mOhm: u16, uH: u16) -> TRIM4
-    ensures { result.0 ≡ trim.trim4Byte mOhm uH }
+    ensures { result.0 ≡ trim.trim4_byte mOhm uH }
 {
     TRIM4::new()
         .with_LOOP_FILT_CAP_TRIM(cap_trim(uH))

@@ -9,7 +9,7 @@
 --   a trigger: given, sequence number, polarity, mode
 use Rattle.std.specs.Prelude.{ℕ, ◌+◌, ◌*◌, ◌/◌, ◌%◌, cond, List, [], ◌∷◌, ◌++◌, ltb, eqb, length, replicate}
 use Rattle.laws.specs.Lists.{at}
-use Rattle.field.specs.Field.{codeOf}
+use Rattle.field.specs.Field.{code_of}
 use Rattle.config.specs.declared.ActuatorConfig.{ActuatorConfig}
 use Rattle.config.specs.declared.DeviceConfig.{DeviceConfig}
 use Rattle.config.specs.declared.TriggerConfig.{TriggerConfig}
@@ -18,7 +18,7 @@ use Rattle.config.specs.declared.Pid.TheVariants as pid
 use Rattle.config.specs.declared.Trigger.{Trigger}
 use Rattle.config.specs.declared.Trigger.TheVariants as trigger
 use Rattle.config.specs.declared.Variant.TheVariants.{DA7280}
-use Rattle.config.specs.Codes.{actuatorCode, actuatorAt, operationCode, operationAt, drivingCode, drivingAt, polarityCode, polarityAt, triggerModeCode, triggerModeAt, variantCode, variantAt}
+use Rattle.config.specs.Codes.{actuator_code, actuator_at, operation_code, operation_at, driving_code, driving_at, polarity_code, polarity_at, trigger_mode_code, trigger_mode_at, variant_code, variant_at}
 use Rattle.da728x.specs.declared.DA728x.{DA728x}
 use Rattle.da728x.specs.declared.Settings.{Settings}
 use Rattle.da728x.specs.declared.Settings.TheVariants.{Absent, Given}
@@ -28,78 +28,78 @@ use Rattle.da728x.specs.declared.Settings.TheVariants.{Absent, Given}
 abbrev pub two : ℕ → List ℕ
 two n = n % 256 ∷ n / 256 ∷ []
 
-abbrev pub pidBytes : Pid → List ℕ
-pidBytes pid.Absent = replicate 5 0
-pidBytes (pid.Given kp ki) = 1 ∷ (two kp ++ two ki)
+abbrev pub pid_bytes : Pid → List ℕ
+pid_bytes pid.Absent = replicate 5 0
+pid_bytes (pid.Given kp ki) = 1 ∷ (two kp ++ two ki)
 
-abbrev pub triggerBytes : Trigger → List ℕ
-triggerBytes trigger.Absent = replicate 4 0
-triggerBytes (trigger.Given t) = 1 ∷ t.sequence_id ∷ polarityCode t.polarity ∷ triggerModeCode t.mode ∷ []
+abbrev pub trigger_bytes : Trigger → List ℕ
+trigger_bytes trigger.Absent = replicate 4 0
+trigger_bytes (trigger.Given t) = 1 ∷ t.sequence_id ∷ polarity_code t.polarity ∷ trigger_mode_code t.mode ∷ []
 
-abbrev pub actuatorBytes : ActuatorConfig → List ℕ
-actuatorBytes a =
-    actuatorCode a.actuator_type ∷ (two a.nominal_max_mV ++ (two a.absolute_max_mV ++ (two a.max_current_mA ++ (two a.impedance_mOhm
-    ++ (two a.inductance_uH ++ (two a.frequency_Hz ++ pidBytes a.pid_Kp_Ki))))))
+abbrev pub actuator_bytes : ActuatorConfig → List ℕ
+actuator_bytes a =
+    actuator_code a.actuator_type ∷ (two a.nominal_max_mV ++ (two a.absolute_max_mV ++ (two a.max_current_mA ++ (two a.impedance_mOhm
+    ++ (two a.inductance_uH ++ (two a.frequency_Hz ++ pid_bytes a.pid_Kp_Ki))))))
 
-abbrev pub deviceBytes : DeviceConfig → List ℕ
-deviceBytes d =
-    operationCode d.operation_mode ∷ drivingCode d.driving_mode ∷ (triggerBytes d.gpi_trigger_0
-    ++ (triggerBytes d.gpi_trigger_1 ++ (triggerBytes d.gpi_trigger_2 ++ (codeOf d.acceleration ∷ codeOf d.rapid_stop ∷ []))))
+abbrev pub device_bytes : DeviceConfig → List ℕ
+device_bytes d =
+    operation_code d.operation_mode ∷ driving_code d.driving_mode ∷ (trigger_bytes d.gpi_trigger_0
+    ++ (trigger_bytes d.gpi_trigger_1 ++ (trigger_bytes d.gpi_trigger_2 ++ (code_of d.acceleration ∷ code_of d.rapid_stop ∷ []))))
 
-abbrev pub settingsBytes : Settings → List ℕ
-settingsBytes Absent = 1 ∷ replicate 34 0
-settingsBytes (Given a d) = 2 ∷ (actuatorBytes a ++ deviceBytes d)
+abbrev pub settings_bytes : Settings → List ℕ
+settings_bytes Absent = 1 ∷ replicate 34 0
+settings_bytes (Given a d) = 2 ∷ (actuator_bytes a ++ device_bytes d)
 
-unfoldable pub recordBytes : DA728x → List ℕ
-recordBytes r = r.address ∷ variantCode r.variant ∷ (settingsBytes r.settings ++ (r.sequences ∷ []))
+unfoldable pub record_bytes : DA728x → List ℕ
+record_bytes r = r.address ∷ variant_code r.variant ∷ (settings_bytes r.settings ++ (r.sequences ∷ []))
 
 -- ---- from bytes to a record
 
-abbrev pub twoAt : List ℕ → ℕ → ℕ
-twoAt l i = at l i + 256 * at l (i + 1)
+abbrev pub two_at : List ℕ → ℕ → ℕ
+two_at l i = at l i + 256 * at l (i + 1)
 
-abbrev pub pidAt : List ℕ → ℕ → Pid
-pidAt l i = cond (ltb 0 (at l i)) (pid.Given (twoAt l (i + 1)) (twoAt l (i + 3))) pid.Absent
+abbrev pub pid_at : List ℕ → ℕ → Pid
+pid_at l i = cond (ltb 0 (at l i)) (pid.Given (two_at l (i + 1)) (two_at l (i + 3))) pid.Absent
 
-abbrev pub triggerConfigAt : List ℕ → ℕ → TriggerConfig
-triggerConfigAt l i = record { sequence_id = at l (i + 1); polarity = polarityAt (at l (i + 2)); mode = triggerModeAt (at l (i + 3)) }
+abbrev pub trigger_config_at : List ℕ → ℕ → TriggerConfig
+trigger_config_at l i = record { sequence_id = at l (i + 1); polarity = polarity_at (at l (i + 2)); mode = trigger_mode_at (at l (i + 3)) }
 
-abbrev pub triggerAt : List ℕ → ℕ → Trigger
-triggerAt l i = cond (ltb 0 (at l i)) (trigger.Given (triggerConfigAt l i)) trigger.Absent
+abbrev pub trigger_at : List ℕ → ℕ → Trigger
+trigger_at l i = cond (ltb 0 (at l i)) (trigger.Given (trigger_config_at l i)) trigger.Absent
 
-abbrev pub actuatorConfigAt : List ℕ → ℕ → ActuatorConfig
-actuatorConfigAt l i =
+abbrev pub actuator_config_at : List ℕ → ℕ → ActuatorConfig
+actuator_config_at l i =
     record {
-      actuator_type = actuatorAt (at l i);
-      nominal_max_mV = twoAt l (i + 1);
-      absolute_max_mV = twoAt l (i + 3);
-      max_current_mA = twoAt l (i + 5);
-      impedance_mOhm = twoAt l (i + 7);
-      inductance_uH = twoAt l (i + 9);
-      frequency_Hz = twoAt l (i + 11);
-      pid_Kp_Ki = pidAt l (i + 13);
+      actuator_type = actuator_at (at l i);
+      nominal_max_mV = two_at l (i + 1);
+      absolute_max_mV = two_at l (i + 3);
+      max_current_mA = two_at l (i + 5);
+      impedance_mOhm = two_at l (i + 7);
+      inductance_uH = two_at l (i + 9);
+      frequency_Hz = two_at l (i + 11);
+      pid_Kp_Ki = pid_at l (i + 13);
     }
 
-abbrev pub deviceConfigAt : List ℕ → ℕ → DeviceConfig
-deviceConfigAt l i =
+abbrev pub device_config_at : List ℕ → ℕ → DeviceConfig
+device_config_at l i =
     record {
-      operation_mode = operationAt (at l i);
-      driving_mode = drivingAt (at l (i + 1));
-      gpi_trigger_0 = triggerAt l (i + 2);
-      gpi_trigger_1 = triggerAt l (i + 6);
-      gpi_trigger_2 = triggerAt l (i + 10);
+      operation_mode = operation_at (at l i);
+      driving_mode = driving_at (at l (i + 1));
+      gpi_trigger_0 = trigger_at l (i + 2);
+      gpi_trigger_1 = trigger_at l (i + 6);
+      gpi_trigger_2 = trigger_at l (i + 10);
       acceleration = ltb 0 (at l (i + 14));
       rapid_stop = ltb 0 (at l (i + 15));
     }
 
-abbrev pub settingsAt : List ℕ → Settings
-settingsAt l = cond (ltb 1 (at l 2)) (Given (actuatorConfigAt l 3) (deviceConfigAt l 21)) Absent
+abbrev pub settings_at : List ℕ → Settings
+settings_at l = cond (ltb 1 (at l 2)) (Given (actuator_config_at l 3) (device_config_at l 21)) Absent
 
-unfoldable pub recordAt : List ℕ → DA728x
-recordAt l =
-    cond (eqb (length l) 38) (record { address = at l 0; variant = variantAt (at l 1); settings = settingsAt l; sequences = at l 37 })
+unfoldable pub record_at : List ℕ → DA728x
+record_at l =
+    cond (eqb (length l) 38) (record { address = at l 0; variant = variant_at (at l 1); settings = settings_at l; sequences = at l 37 })
     (record { address = 0; variant = DA7280; settings = Absent; sequences = 0 })
 
 -- all but its settings
-abbrev pub chipAt : List ℕ → DA728x
-chipAt l = let r = recordAt l in record { address = r.address; variant = r.variant; settings = Absent; sequences = r.sequences }
+abbrev pub chip_at : List ℕ → DA728x
+chip_at l = let r = record_at l in record { address = r.address; variant = r.variant; settings = Absent; sequences = r.sequences }

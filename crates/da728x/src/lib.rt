@@ -5,7 +5,7 @@
 #![tactic(auto)]
 
 ghost use Rattle.std.specs.Prelude.{◌≡◌, [], ◌∷◌, ◌++◌, ◌<◌, ◌+◌, ◌*◌, ◌/◌, ◌%◌, get_or, replicate};
-ghost use Rattle.da728x.specs.Record.{recordBytes, recordAt, chipAt, actuatorBytes, deviceBytes, pidBytes, triggerBytes, settingsAt, actuatorConfigAt, deviceConfigAt, pidAt, triggerAt, twoAt};
+ghost use Rattle.da728x.specs.Record.{record_bytes, record_at, chip_at, actuator_bytes, device_bytes, pid_bytes, trigger_bytes, settings_at, actuator_config_at, device_config_at, pid_at, trigger_at, two_at};
 
 use config::{
     ActuatorConfig, ActuatorType, DeviceConfig, DrivingMode, OperationMode, Pid, Trigger,
@@ -30,9 +30,9 @@ pub struct DA728x {
 }
 
 impl DA728x {
-    #[tactic(auto, unfolding(crate::specs::Record::recordBytes))]
+    #[tactic(auto, unfolding(crate::specs::Record::record_bytes))]
     pub fn to_bytes(self) -> [u8; RECORD_SIZE]
-        ensures { result ≡ recordBytes self }
+        ensures { result ≡ record_bytes self }
     {
         let variant = self.variant;
         let settings = self.settings;
@@ -42,9 +42,9 @@ impl DA728x {
         }
     }
 
-    #[tactic(auto, unfolding(crate::specs::Record::recordAt))]
+    #[tactic(auto, unfolding(crate::specs::Record::record_at))]
     pub fn from_bytes(bytes: &[u8]) -> DA728x
-        ensures { result ≡ recordAt bytes.now }
+        ensures { result ≡ record_at bytes.now }
     {
         if bytes.len() == RECORD_SIZE {
             return DA728x {
@@ -64,9 +64,9 @@ impl DA728x {
 }
 
 // All but the settings of a record's bytes, for what looks at none.
-#[tactic(auto, unfolding(crate::specs::Record::recordAt))]
+#[tactic(auto, unfolding(crate::specs::Record::record_at))]
 pub fn chip(bytes: &[u8]) -> DA728x
-    ensures { result ≡ chipAt bytes.now }
+    ensures { result ≡ chip_at bytes.now }
 {
     if bytes.len() == RECORD_SIZE {
         return DA728x {
@@ -86,13 +86,13 @@ pub fn chip(bytes: &[u8]) -> DA728x
 
 // Settings as 34 bytes: an actuator's and a device's. Bytes that are missing count as 0.
 pub fn actuator_config(bytes: &[u8]) -> ActuatorConfig
-    ensures { result ≡ actuatorConfigAt bytes.now 0 }
+    ensures { result ≡ actuator_config_at bytes.now 0 }
 {
     actuator_at(bytes, 0)
 }
 
 pub fn device_config(bytes: &[u8]) -> DeviceConfig
-    ensures { result ≡ deviceConfigAt bytes.now 18 }
+    ensures { result ≡ device_config_at bytes.now 18 }
 {
     device_at(bytes, 18)
 }
@@ -117,7 +117,7 @@ fn filled(
     d: DeviceConfig,
     sequences: u8,
 ) -> [u8; RECORD_SIZE]
-    ensures { result ≡ address ∷ variant ∷ 2 ∷ ((actuatorBytes a ++ deviceBytes d) ++ (sequences ∷ [])) }
+    ensures { result ≡ address ∷ variant ∷ 2 ∷ ((actuator_bytes a ++ device_bytes d) ++ (sequences ∷ [])) }
 {
     let actuator_type = a.actuator_type;
     let pid = a.pid_Kp_Ki;
@@ -173,7 +173,7 @@ fn filled(
 }
 
 fn pid_bytes(pid: Pid) -> [u8; 5]
-    ensures { result ≡ pidBytes pid }
+    ensures { result ≡ pid_bytes pid }
 {
     match pid {
         Pid::Absent => [0, 0, 0, 0, 0],
@@ -182,7 +182,7 @@ fn pid_bytes(pid: Pid) -> [u8; 5]
 }
 
 fn trigger_bytes(trigger: Trigger) -> [u8; 4]
-    ensures { result ≡ triggerBytes trigger }
+    ensures { result ≡ trigger_bytes trigger }
 {
     match trigger {
         Trigger::Absent => [0, 0, 0, 0],
@@ -209,7 +209,7 @@ fn high(n: u16) -> u8
 // ---- from bytes
 
 fn stored_at(bytes: &[u8]) -> Settings
-    ensures { result ≡ settingsAt bytes.now }
+    ensures { result ≡ settings_at bytes.now }
 {
     if 1 < byte_at(bytes, 2) {
         return Settings::Given(actuator_at(bytes, 3), device_at(bytes, 21));
@@ -219,7 +219,7 @@ fn stored_at(bytes: &[u8]) -> Settings
 
 fn actuator_at(bytes: &[u8], i: usize) -> ActuatorConfig
     requires { i < 64 }
-    ensures { result ≡ actuatorConfigAt bytes.now i }
+    ensures { result ≡ actuator_config_at bytes.now i }
 {
     ActuatorConfig {
         actuator_type: ActuatorType::from_code(byte_at(bytes, i)),
@@ -235,7 +235,7 @@ fn actuator_at(bytes: &[u8], i: usize) -> ActuatorConfig
 
 fn device_at(bytes: &[u8], i: usize) -> DeviceConfig
     requires { i < 64 }
-    ensures { result ≡ deviceConfigAt bytes.now i }
+    ensures { result ≡ device_config_at bytes.now i }
 {
     DeviceConfig {
         operation_mode: OperationMode::from_code(byte_at(bytes, i)),
@@ -250,7 +250,7 @@ fn device_at(bytes: &[u8], i: usize) -> DeviceConfig
 
 fn pid_at(bytes: &[u8], i: usize) -> Pid
     requires { i < 128 }
-    ensures { result ≡ pidAt bytes.now i }
+    ensures { result ≡ pid_at bytes.now i }
 {
     if 0 < byte_at(bytes, i) {
         return Pid::Given(two_at(bytes, i + 1), two_at(bytes, i + 3));
@@ -260,7 +260,7 @@ fn pid_at(bytes: &[u8], i: usize) -> Pid
 
 fn trigger_at(bytes: &[u8], i: usize) -> Trigger
     requires { i < 128 }
-    ensures { result ≡ triggerAt bytes.now i }
+    ensures { result ≡ trigger_at bytes.now i }
 {
     if i + 3 < bytes.len() {
         return trigger(bytes[i], bytes[i + 1], bytes[i + 2], bytes[i + 3]);
@@ -274,7 +274,7 @@ fn trigger_at(bytes: &[u8], i: usize) -> Trigger
 }
 
 fn trigger(given: u8, sequence_id: u8, polarity: u8, mode: u8) -> Trigger
-    ensures { result ≡ triggerAt (given ∷ sequence_id ∷ polarity ∷ mode ∷ []) 0 }
+    ensures { result ≡ trigger_at (given ∷ sequence_id ∷ polarity ∷ mode ∷ []) 0 }
 {
     if 0 < given {
         let polarity = TriggerPolarity::from_code(polarity);
@@ -291,7 +291,7 @@ fn trigger(given: u8, sequence_id: u8, polarity: u8, mode: u8) -> Trigger
 
 fn two_at(bytes: &[u8], i: usize) -> u16
     requires { i < 256 }
-    ensures { result ≡ twoAt bytes.now i }
+    ensures { result ≡ two_at bytes.now i }
 {
     if i + 1 < bytes.len() {
         return word(bytes[i], bytes[i + 1]);

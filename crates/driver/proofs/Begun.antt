@@ -10,29 +10,29 @@ use lib.Seq.{take_all}
 use borrow.Author.Tests.{eqb-true, not-true}
 use Rattle.laws.specs.Bytes.{All}
 use Rattle.laws.specs.Lists.{at}
-use Rattle.exchange.specs.Steps.{exchangeFor}
+use Rattle.exchange.specs.Steps.{exchange_for}
 use Rattle.exchange.specs.declared.Step.{Step}
 use Rattle.exchange.specs.declared.Step.TheVariants.{Write, Read, Update, Match, Chunk, Store}
 use Rattle.exchange.specs.declared.Exchange.{Exchange}
-use Rattle.exchange.specs.State.{isSession, isUnbroken, addressIn, countIn, roomIn, readCount, purposeIn, imageIn, recordIn, left, noneLeft, completed, Begun, begunIn}
-use Rattle.exchange.specs.Session.{AnswerCall, final, sent, came, brokenOff, exchangesOf}
-use Rattle.exchange.proofs.Latest.{bytesRead, bytesWanted}
+use Rattle.exchange.specs.State.{is_session, is_unbroken, address_in, count_in, room_in, read_count, purpose_in, image_in, record_in, left, none_left, completed, Begun, begun_in}
+use Rattle.exchange.specs.Session.{AnswerCall, final, sent, came, broken_off, exchanges_of}
+use Rattle.exchange.proofs.Latest.{bytes_read, bytes_wanted}
 use Rattle.exchange.proofs.Begins.{begins as begun}
 use Rattle.exchange.proofs.Comes.{comes}
 use Rattle.exchange.proofs.Keeps.{keeps}
 use Rattle.exchange.proofs.Session.{session}
-use Rattle.sessions.specs.Sessions.{noImage, blankRecord}
-use Rattle.outcome.specs.Outcome.{bigEndian, valueIn, outcomeOf}
-use Rattle.driver.specs.Theorems.{allSteps, Course}
+use Rattle.sessions.specs.Sessions.{no_image, blank_record}
+use Rattle.outcome.specs.Outcome.{big_endian, value_in, outcome_of}
+use Rattle.driver.specs.Theorems.{all_steps, Course}
 
 -- ---- what stands in place of an image, and of a record
 
-pub no-image : length noImage ≡ 100
-unfolding noImage
-no-image = length-replicate {A = ℕ} 100 0
+pub no_image_lem : length no_image ≡ 100
+unfolding no_image
+no_image_lem = length-replicate {A = ℕ} 100 0
 
-pub no_record : length blankRecord ≡ 38
-unfolding blankRecord
+pub no_record : length blank_record ≡ 38
+unfolding blank_record
 no_record = length-replicate {A = ℕ} 38 0
 
 -- ---- what a session holds
@@ -44,34 +44,34 @@ Fits b xs = (length xs ≤ 25) × (b.room < 2 ^ 64) × (length b.image ≡ 100) 
 -- these steps and all else that it was begun with, and none made
 pub record Holds (s : List ℕ) (b : Begun) (xs : List Step) : Type 0 where
   pub steps : left s ≡ xs
-  pub address : addressIn s ≡ b.address
+  pub address : address_in s ≡ b.address
   pub last : at s 3 ≡ 0
-  pub image : imageIn s ≡ b.image
-  pub «record» : recordIn s ≡ b.«record»
-  pub purpose : purposeIn s ≡ b.purpose
-  pub reads : readCount s ≡ min b.reads 100
-  pub room : roomIn s ≡ b.room
-  pub count : countIn s ≡ 0
-  pub session : isSession s ≡ true
-  pub opened : isUnbroken s ≡ true
-  pub bytes : bytesRead s ≡ 0 ∷ 0 ∷ 0 ∷ []
+  pub image : image_in s ≡ b.image
+  pub «record» : record_in s ≡ b.«record»
+  pub purpose : purpose_in s ≡ b.purpose
+  pub reads : read_count s ≡ min b.reads 100
+  pub room : room_in s ≡ b.room
+  pub count : count_in s ≡ 0
+  pub session : is_session s ≡ true
+  pub opened : is_unbroken s ≡ true
+  pub bytes : bytes_read s ≡ 0 ∷ 0 ∷ 0 ∷ []
 
 -- an open session has its size
-open-session : (s : List ℕ) → isUnbroken s ≡ true → isSession s ≡ true
-open-session s o = ((and-eq-true_iff (isSession s) (eqb (at s 1) 1)).0 o).0
+open_session : (s : List ℕ) → is_unbroken s ≡ true → is_session s ≡ true
+open_session s o = ((and-eq-true_iff (is_session s) (eqb (at s 1) 1)).0 o).0
 
 -- the byte read last, of three
-last-read : (s : List ℕ) → isSession s ≡ true → bytesRead s ≡ 0 ∷ 0 ∷ 0 ∷ [] → at s 3 ≡ 0
-last-read s e h = ap (λ (l : List ℕ). get_or l 0 0) (rw e at h)
+last_read : (s : List ℕ) → is_session s ≡ true → bytes_read s ≡ 0 ∷ 0 ∷ 0 ∷ [] → at s 3 ≡ 0
+last_read s e h = ap (λ (l : List ℕ). get_or l 0 0) (rw e at h)
 
-pub holds : (st : List ℕ) (b : Begun) (xs : List Step) → isSession st ≡ true → Fits b xs → Holds (begunIn st b xs) b (allSteps b xs)
+pub holds : (st : List ℕ) (b : Begun) (xs : List Step) → is_session st ≡ true → Fits b xs → Holds (begun_in st b xs) b (all_steps b xs)
 holds st b xs s f =
     let k = begun st b xs s f.0 f.1 f.2 f.3 in
-    let o = open-session (begunIn st b xs) k.8 in
+    let o = open_session (begun_in st b xs) k.8 in
     record {
       steps = k.0;
       address = k.1;
-      last = last-read (begunIn st b xs) o k.9;
+      last = last_read (begun_in st b xs) o k.9;
       image = k.4;
       «record» = k.5;
       purpose = k.6;
@@ -86,18 +86,18 @@ holds st b xs s f =
 -- ---- what follows
 
 -- no step is left of those from the k-th on, exactly where k is their number
-none-past : (xs : List Step) (k : ℕ) → k ≤ length xs → noneLeft (drop k xs) ≡ eqb k (length xs)
-none-past [] zero h = refl
-none-past [] (suc k) h = absurd (omega arith)
-none-past (x ∷ xs) zero h = sym (eqb-zero-suc (length xs))
-none-past (x ∷ xs) (suc k) h = none-past xs k (omega arith) ∙ sym (eqb-suc-suc k (length xs))
+none_past : (xs : List Step) (k : ℕ) → k ≤ length xs → none_left (drop k xs) ≡ eqb k (length xs)
+none_past [] zero h = refl
+none_past [] (suc k) h = absurd (omega arith)
+none_past (x ∷ xs) zero h = sym (eqb-zero-suc (length xs))
+none_past (x ∷ xs) (suc k) h = none_past xs k (omega arith) ∙ sym (eqb-suc-suc k (length xs))
 
 -- every exchange is the chip's
-to-chip : (xs : List Step) (address last : ℕ) (image bytes : List ℕ) → All (λ (e : Exchange). e.address ≡ address) (exchangesOf address last image xs bytes)
-to-chip [] address last image bytes = tt
-to-chip (x ∷ xs) address last image bytes = (own x, to-chip xs address _ image _)
+to_chip : (xs : List Step) (address last : ℕ) (image bytes : List ℕ) → All (λ (e : Exchange). e.address ≡ address) (exchanges_of address last image xs bytes)
+to_chip [] address last image bytes = tt
+to_chip (x ∷ xs) address last image bytes = (own x, to_chip xs address _ image _)
   where
-    own : (x : Step) → (exchangeFor address last image x).address ≡ address
+    own : (x : Step) → (exchange_for address last image x).address ≡ address
     own (Write register value) = refl
     own (Read register) = refl
     own (Update register shift width value) = refl
@@ -105,34 +105,34 @@ to-chip (x ∷ xs) address last image bytes = (own x, to-chip xs address _ image
     own (Chunk offset len) = refl
     own (Store index) = refl
 
-pub all-taken : (P : Exchange → Type 0) (n : ℕ) (es : List Exchange) → All P es → All P (take n es)
-all-taken P zero es h = tt
-all-taken P (suc n) [] h = tt
-all-taken P (suc n) (e ∷ es) h = (h.0, all-taken P n es h.1)
+pub all_taken : (P : Exchange → Type 0) (n : ℕ) (es : List Exchange) → All P es → All P (take n es)
+all_taken P zero es h = tt
+all_taken P (suc n) [] h = tt
+all_taken P (suc n) (e ∷ es) h = (h.0, all_taken P n es h.1)
 
 -- as many exchanges as steps
-length-exchanges : (xs : List Step) (address last : ℕ) (image bytes : List ℕ) → length (exchangesOf address last image xs bytes) ≡ length xs
-length-exchanges [] address last image bytes = refl
-length-exchanges (x ∷ xs) address last image bytes = ap suc (length-exchanges xs address _ image _)
+length_exchanges : (xs : List Step) (address last : ℕ) (image bytes : List ℕ) → length (exchanges_of address last image xs bytes) ≡ length xs
+length_exchanges [] address last image bytes = refl
+length_exchanges (x ∷ xs) address last image bytes = ap suc (length_exchanges xs address _ image _)
 
 -- what the bytes read last say once these came
 abbrev shown : List ℕ → List ℕ
 shown bytes = take 3 (reverse bytes ++ (0 ∷ 0 ∷ 0 ∷ []))
 
-abbrev pub valueOf : ℕ → List ℕ → ℕ → ℕ
-valueOf purpose bytes reads =
+abbrev pub value_of : ℕ → List ℕ → ℕ → ℕ
+value_of purpose bytes reads =
     let l = shown bytes in
-    get_or (0 ∷ 0 ∷ 0 ∷ get_or l 0 0 ∷ bigEndian 0 (get_or l 2 0 ∷ get_or l 1 0 ∷ get_or l 0 0 ∷ []) ∷ reads ∷ []) purpose 0
+    get_or (0 ∷ 0 ∷ 0 ∷ get_or l 0 0 ∷ big_endian 0 (get_or l 2 0 ∷ get_or l 1 0 ∷ get_or l 0 0 ∷ []) ∷ reads ∷ []) purpose 0
 
 module _ {s : List ℕ} {b : Begun} {xs : List Step} (h : Holds s b xs) (cs : List AnswerCall) where
   -- the exchanges are those of the steps, in order
-  pub in_order : sent s cs ≡ take (length (sent s cs)) (exchangesOf b.address 0 b.image xs (came s cs))
+  pub in_order : sent s cs ≡ take (length (sent s cs)) (exchanges_of b.address 0 b.image xs (came s cs))
   in_order =
       session.order s cs
-      ∙ (λ i. take (length (sent s cs)) (exchangesOf (h.address i) (h.last i) (h.image i) (h.steps i) (came s cs)))
+      ∙ (λ i. take (length (sent s cs)) (exchanges_of (h.address i) (h.last i) (h.image i) (h.steps i) (came s cs)))
 
   -- the count is their number
-  pub counted : countIn (final s cs) ≡ length (sent s cs)
+  pub counted : count_in (final s cs) ≡ length (sent s cs)
   counted = omega (arith, session.count s cs, h.count)
 
   -- no more than there are steps
@@ -140,48 +140,48 @@ module _ {s : List ℕ} {b : Begun} {xs : List Step} (h : Holds s b xs) (cs : Li
   within = omega (arith, session.within s cs, ap length h.steps)
 
   -- completed, exactly where all were made and none failed
-  pub completes : completed (final s cs) ≡ not (brokenOff s cs) && eqb (length (sent s cs)) (length xs)
+  pub completes : completed (final s cs) ≡ not (broken_off s cs) && eqb (length (sent s cs)) (length xs)
   completes =
       session.completes s cs h.opened
-      ∙ ap (λ (l : List Step). not (brokenOff s cs) && noneLeft (drop (length (sent s cs)) l)) h.steps
-      ∙ ap (λ (k : Bool). not (brokenOff s cs) && k) (none-past xs (length (sent s cs)) within)
+      ∙ ap (λ (l : List Step). not (broken_off s cs) && none_left (drop (length (sent s cs)) l)) h.steps
+      ∙ ap (λ (k : Bool). not (broken_off s cs) && k) (none_past xs (length (sent s cs)) within)
 
   -- so all were made where it is completed, and as many bytes came as they want
   pub all_made : completed (final s cs) ≡ true → length (sent s cs) ≡ length xs
-  all_made e = eqb-true _ _ ((and-eq-true_iff (not (brokenOff s cs)) _).0 (sym completes ∙ e)).1
+  all_made e = eqb-true _ _ ((and-eq-true_iff (not (broken_off s cs)) _).0 (sym completes ∙ e)).1
 
-  pub all-sent : completed (final s cs) ≡ true → sent s cs ≡ exchangesOf b.address 0 b.image xs (came s cs)
-  all-sent e =
-      let es = exchangesOf b.address 0 b.image xs (came s cs) in
-      in_order ∙ take_all (length (sent s cs)) es (omega (arith, all_made e, length-exchanges xs b.address 0 b.image (came s cs)))
+  pub all_sent : completed (final s cs) ≡ true → sent s cs ≡ exchanges_of b.address 0 b.image xs (came s cs)
+  all_sent e =
+      let es = exchanges_of b.address 0 b.image xs (came s cs) in
+      in_order ∙ take_all (length (sent s cs)) es (omega (arith, all_made e, length_exchanges xs b.address 0 b.image (came s cs)))
 
-  pub all-came : completed (final s cs) ≡ true → length (came s cs) ≡ bytesWanted (exchangesOf b.address 0 b.image xs (came s cs))
-  all-came e =
-      comes cs s (not-true (brokenOff s cs) ((and-eq-true_iff (not (brokenOff s cs)) _).0 (sym completes ∙ e)).0)
-      ∙ ap bytesWanted (all-sent e)
+  pub all_came : completed (final s cs) ≡ true → length (came s cs) ≡ bytes_wanted (exchanges_of b.address 0 b.image xs (came s cs))
+  all_came e =
+      comes cs s (not-true (broken_off s cs) ((and-eq-true_iff (not (broken_off s cs)) _).0 (sym completes ∙ e)).0)
+      ∙ ap bytes_wanted (all_sent e)
 
   -- what the session answers
-  pub value_as : valueIn (final s cs) ≡ valueOf b.purpose (came s cs) (min b.reads 100)
+  pub value_as : value_in (final s cs) ≡ value_of b.purpose (came s cs) (min b.reads 100)
   value_as =
       let k = keeps cs s h.session in
       let l : at (final s cs) 3 ∷ at (final s cs) 4 ∷ at (final s cs) 5 ∷ [] ≡ shown (came s cs) =
-      (rw k.session at (k.shows ∙ ap (take 3) (reverse_aux-eq (came s cs) (bytesRead s)))) ∙ ap (λ (m : List ℕ). take 3 (reverse (came s cs) ++ m)) h.bytes in
-      (λ i. get_or (0 ∷ 0 ∷ 0 ∷ get_or (l i) 0 0 ∷ bigEndian 0 (get_or (l i) 2 0 ∷ get_or (l i) 1 0 ∷ get_or (l i) 0 0 ∷ []) ∷ (k.reads ∙ h.reads) i ∷ []) ((k.purpose ∙ h.purpose) i) 0)
+      (rw k.session at (k.shows ∙ ap (take 3) (reverse_aux-eq (came s cs) (bytes_read s)))) ∙ ap (λ (m : List ℕ). take 3 (reverse (came s cs) ++ m)) h.bytes in
+      (λ i. get_or (0 ∷ 0 ∷ 0 ∷ get_or (l i) 0 0 ∷ big_endian 0 (get_or (l i) 2 0 ∷ get_or (l i) 1 0 ∷ get_or (l i) 0 0 ∷ []) ∷ (k.reads ∙ h.reads) i ∷ []) ((k.purpose ∙ h.purpose) i) 0)
 
   -- all of it, where the result is this
   pub answered : (result : List ℕ → ℕ) →
-      ((bytes : List ℕ) → length bytes ≡ bytesWanted (exchangesOf b.address 0 b.image xs bytes) → valueOf b.purpose bytes (min b.reads 100) ≡ result bytes) →
+      ((bytes : List ℕ) → length bytes ≡ bytes_wanted (exchanges_of b.address 0 b.image xs bytes) → value_of b.purpose bytes (min b.reads 100) ≡ result bytes) →
       Course s b.address b.image xs result cs
-  unfolding outcomeOf
+  unfolding outcome_of
   answered result g = record {
     order = in_order;
-    chip = subst (All (λ (e : Exchange). e.address ≡ b.address)) (sym in_order) (all-taken _ (length (sent s cs)) _ (to-chip xs b.address 0 b.image (came s cs)));
-    next = session.end s cs ∙ ap (λ (l : List Step). cond (brokenOff s cs) [] (drop (length (sent s cs)) l)) h.steps;
+    chip = subst (All (λ (e : Exchange). e.address ≡ b.address)) (sym in_order) (all_taken _ (length (sent s cs)) _ (to_chip xs b.address 0 b.image (came s cs)));
+    next = session.end s cs ∙ ap (λ (l : List Step). cond (broken_off s cs) [] (drop (length (sent s cs)) l)) h.steps;
     completes = completes;
-    whole = all-sent;
+    whole = all_sent;
     outcome = λ i. record { made = counted i; completed = completed (final s cs); value = go (completed (final s cs)) refl i };
   }
     where
-      go : (k : Bool) → completed (final s cs) ≡ k → cond k (valueIn (final s cs)) 0 ≡ cond k (result (came s cs)) 0
-      go true e = value_as ∙ g (came s cs) (all-came e)
+      go : (k : Bool) → completed (final s cs) ≡ k → cond k (value_in (final s cs)) 0 ≡ cond k (result (came s cs)) 0
+      go true e = value_as ∙ g (came s cs) (all_came e)
       go false e = refl

@@ -9,217 +9,217 @@ use borrow.Author.Tests.{eqb-true}
 use Rattle.exchange.specs.declared.Step.{Step}
 use Rattle.exchange.specs.declared.Reply.{Reply}
 use Rattle.exchange.specs.declared.Reply.TheVariants.{Done, Byte, Failed}
-use Rattle.exchange.specs.State.{isSession, isUnbroken, left, noneLeft, completed, purposeIn, recordIn}
-use Rattle.exchange.specs.Turn.{pendingFor, resized, reportOf}
-use Rattle.exchange.specs.Session.{AnswerCall, fitsExchange, taken, numberAt, breaks, afterCall, final}
-use Rattle.exchange.proofs.Cases.{Case, same, broken, went, case, idle-state}
+use Rattle.exchange.specs.State.{is_session, is_unbroken, left, none_left, completed, purpose_in, record_in}
+use Rattle.exchange.specs.Turn.{pending_for, resized, report_of}
+use Rattle.exchange.specs.Session.{AnswerCall, fits_exchange, taken, number_at, breaks, after_call, final}
+use Rattle.exchange.proofs.Cases.{Case, same, broken, went, case, idle_state}
 use Rattle.exchange.proofs.Keeps.{keeps}
-use Rattle.exchange.proofs.Moves.{left-going, going-open}
+use Rattle.exchange.proofs.Moves.{left_going, going_open}
 use Rattle.exchange.proofs.Session.{session}
 use Rattle.da728x.specs.declared.DA728x.{DA728x}
-use Rattle.da728x.specs.Record.{recordAt}
+use Rattle.da728x.specs.Record.{record_at}
 use Rattle.outcome.specs.declared.Change.{Change}
 use Rattle.outcome.specs.declared.Change.TheVariants.{Same, Sequences}
-use Rattle.outcome.specs.Outcome.{forUpload, counting, changeFor, changeBefore, changeBy, recordBy}
-use Rattle.driver.specs.Operations.{changeAfter, recordAfter}
-use Rattle.driver.specs.Theorems.{changeBehind, recordFinal}
+use Rattle.outcome.specs.Outcome.{for_upload, counting, change_for, change_before, change_by, record_by}
+use Rattle.driver.specs.Operations.{change_after, record_after}
+use Rattle.driver.specs.Theorems.{change_behind, record_final}
 
 -- ---- sessions without a step left, and their end
 
 -- nothing is taken there
 pub taken_none : (st : List ℕ) (a : Reply) (n : ℕ) → left st ≡ [] → taken st a n ≡ false
-taken_none st a n e = ap (λ (l : List Step). fitsExchange (pendingFor st l) a && not (resized st n)) e ∙ go a
+taken_none st a n e = ap (λ (l : List Step). fits_exchange (pending_for st l) a && not (resized st n)) e ∙ go a
   where
-    go : (a : Reply) → fitsExchange (pendingFor st []) a && not (resized st n) ≡ false
+    go : (a : Reply) → fits_exchange (pending_for st []) a && not (resized st n) ≡ false
     go Done = refl
     go (Byte b) = refl
     go (Failed code) = refl
 
 pub idle : (cs : List AnswerCall) (st : List ℕ) → left st ≡ [] → final st cs ≡ st
 idle [] st e = refl
-idle (c ∷ cs) st e = ap (λ (t : List ℕ). final t cs) (idle-state st c e) ∙ idle cs st e
+idle (c ∷ cs) st e = ap (λ (t : List ℕ). final t cs) (idle_state st c e) ∙ idle cs st e
 
 -- bytes of another length are none, and not completed
-module _ (st : List ℕ) (e : isSession st ≡ false) where
+module _ (st : List ℕ) (e : is_session st ≡ false) where
   shut : (left st ≡ []) × (completed st ≡ false)
   shut = session.closed st (ap (λ (b : Bool). b && eqb (get_or st 1 0) 1) e)
 
-  pub no-step : left st ≡ []
-  no-step = shut.0
+  pub no_step : left st ≡ []
+  no_step = shut.0
 
   pub unopened : completed st ≡ false
   unopened = shut.1
 
 -- a session is not completed while a step is left, and one that was begun is once none is
 pub unfinished : (st : List ℕ) (x : Step) (xs : List Step) → left st ≡ x ∷ xs → completed st ≡ false
-unfinished st x xs e = session.completes st [] (going-open _ _ (left-going st x xs e)) ∙ ap noneLeft e
+unfinished st x xs e = session.completes st [] (going_open _ _ (left_going st x xs e)) ∙ ap none_left e
 
-completed-by : (st : List ℕ) → isUnbroken st ≡ true → completed st ≡ noneLeft (left st)
-completed-by st o = session.completes st [] o
+completed_by : (st : List ℕ) → is_unbroken st ≡ true → completed st ≡ none_left (left st)
+completed_by st o = session.completes st [] o
 
-pub finished : (st : List ℕ) → isUnbroken st ≡ true → left st ≡ [] → completed st ≡ true
-finished st o e = completed-by st o ∙ ap noneLeft e
+pub finished : (st : List ℕ) → is_unbroken st ≡ true → left st ≡ [] → completed st ≡ true
+finished st o e = completed_by st o ∙ ap none_left e
 
 -- ---- one answer
 
 -- what it does to a record, where the session is `t` afterwards, by whether that is a session, whether it was the last success, and whether it is refused
-abbrev changeIf : DA728x → List ℕ → Bool → Bool → Bool → Change
-changeIf r t s l k =
-    cond s (cond l (changeFor (purposeIn t) (recordAt (recordIn t)) r) (cond k Same (changeBefore (purposeIn t) (recordAt (recordIn t)) r))) Same
+abbrev change_if : DA728x → List ℕ → Bool → Bool → Bool → Change
+change_if r t s l k =
+    cond s (cond l (change_for (purpose_in t) (record_at (record_in t)) r) (cond k Same (change_before (purpose_in t) (record_at (record_in t)) r))) Same
 
 module _ (st : List ℕ) (c : AnswerCall) where
   abbrev pub Taken : Bool
   Taken = taken st c.reply (length c.buffer)
 
   abbrev pub ends : Bool
-  ends = (reportOf st c.reply (length c.buffer)).ended
+  ends = (report_of st c.reply (length c.buffer)).ended
 
   abbrev pub last : Bool
-  last = ends && eqb (numberAt st c) 0
+  last = ends && eqb (number_at st c) 0
 
-  pub out-of-turn : Taken ≡ false → numberAt st c ≡ 19
-  out-of-turn h = eqb-true _ _ (session.takes st c.reply (length c.buffer) ∙ ap not h)
+  pub out_of_turn : Taken ≡ false → number_at st c ≡ 19
+  out_of_turn h = eqb-true _ _ (session.takes st c.reply (length c.buffer) ∙ ap not h)
 
-  pub in-turn : numberAt st c ≡ 19 → Taken ≡ false
-  in-turn h = go Taken (ap (λ (n : ℕ). eqb n 19) (sym h) ∙ session.takes st c.reply (length c.buffer))
+  pub in_turn_lem : number_at st c ≡ 19 → Taken ≡ false
+  in_turn_lem h = go Taken (ap (λ (n : ℕ). eqb n 19) (sym h) ∙ session.takes st c.reply (length c.buffer))
     where
       go : (b : Bool) → true ≡ not b → b ≡ false
       go true e = e
       go false e = refl
 
   -- one that is not taken leaves the session
-  pub untaken : Taken ≡ false → afterCall st c ≡ st
-  unfolding afterCall
-  untaken h = (session.refused st c.reply c.buffer (out-of-turn h)).0
+  pub untaken : Taken ≡ false → after_call st c ≡ st
+  unfolding after_call
+  untaken h = (session.refused st c.reply c.buffer (out_of_turn h)).0
 
   -- where one is, a step is left: the bytes are a session, and it is not completed
-  taken-in : Taken ≡ true → (isSession st ≡ true) × (completed st ≡ false)
-  taken-in h = (sized (isSession st) refl, by (left st) refl)
+  taken_in : Taken ≡ true → (is_session st ≡ true) × (completed st ≡ false)
+  taken_in h = (sized (is_session st) refl, by (left st) refl)
     where
       none : left st ≡ [] → ⊥
       none e = true≢false (sym h ∙ taken_none st c.reply (length c.buffer) e)
 
-      sized : (b : Bool) → isSession st ≡ b → b ≡ true
+      sized : (b : Bool) → is_session st ≡ b → b ≡ true
       sized true e = refl
-      sized false e = absurd (none (no-step st e))
+      sized false e = absurd (none (no_step st e))
 
       by : (l : List Step) → left st ≡ l → completed st ≡ false
       by [] e = absurd (none e)
       by (x ∷ xs) e = unfinished st x xs e
 
   pub undone : Taken ≡ true → completed st ≡ false
-  undone h = (taken-in h).1
+  undone h = (taken_in h).1
 
   -- one that fails does not complete it
-  off : breaks (numberAt st c) ≡ true → completed (afterCall st c) ≡ false
-  unfolding afterCall
+  off : breaks (number_at st c) ≡ true → completed (after_call st c) ≡ false
+  unfolding after_call
   off k = (session.ends st c.reply (length c.buffer) k).1
 
-  ended-as : ends ≡ noneLeft (left (afterCall st c))
-  unfolding afterCall
-  ended-as = (session.tells st c.reply (length c.buffer)).1
+  ended_as : ends ≡ none_left (left (after_call st c))
+  unfolding after_call
+  ended_as = (session.tells st c.reply (length c.buffer)).1
 
   -- one that is taken is the last success exactly if it completes the session
-  pub completes-as : Taken ≡ true → completed (afterCall st c) ≡ last
-  completes-as h = by (case st c)
+  pub completes_as : Taken ≡ true → completed (after_call st c) ≡ last
+  completes_as h = by (case st c)
     where
-      none : (b : Bool) → eqb (numberAt st c) 0 ≡ false → b && eqb (numberAt st c) 0 ≡ false
+      none : (b : Bool) → eqb (number_at st c) 0 ≡ false → b && eqb (number_at st c) 0 ≡ false
       none true n = n
       none false n = refl
 
-      all : (b : Bool) → eqb (numberAt st c) 0 ≡ true → b ≡ b && eqb (numberAt st c) 0
+      all : (b : Bool) → eqb (number_at st c) 0 ≡ true → b ≡ b && eqb (number_at st c) 0
       all true n = sym n
       all false n = refl
 
-      by : Case st c → completed (afterCall st c) ≡ last
+      by : Case st c → completed (after_call st c) ≡ last
       by (same m n) = ap completed m ∙ undone h ∙ sym (none ends n)
       by (broken x xs p q n k) = off k ∙ sym (none ends n)
-      by (went x xs p q o n) = completed-by (afterCall st c) o ∙ sym ended-as ∙ all ends n
+      by (went x xs p q o n) = completed_by (after_call st c) o ∙ sym ended_as ∙ all ends n
 
   -- what it does to the record lent with it
-  pub changes : (r : DA728x) → let next = recordAt (recordIn st) in
-      changeBehind st c r ≡ cond Taken (cond (completed (afterCall st c)) (changeFor (purposeIn st) next r) (changeBefore (purposeIn st) next r)) Same
-  unfolding changeAfter changeBy afterCall
+  pub changes : (r : DA728x) → let next = record_at (record_in st) in
+      change_behind st c r ≡ cond Taken (cond (completed (after_call st c)) (change_for (purpose_in st) next r) (change_before (purpose_in st) next r)) Same
+  unfolding change_after change_by after_call
   changes r = by Taken refl
     where
-      refuses : (s e : Bool) → changeIf r (afterCall st c) s (e && false) true ≡ Same
+      refuses : (s e : Bool) → change_if r (after_call st c) s (e && false) true ≡ Same
       refuses true true = refl
       refuses true false = refl
       refuses false e = refl
 
-      by : (b : Bool) → Taken ≡ b → changeIf r (afterCall st c) (isSession (afterCall st c)) last (eqb (numberAt st c) 19)
-          ≡ cond b (cond (completed (afterCall st c)) (changeFor (purposeIn st) (recordAt (recordIn st)) r) (changeBefore (purposeIn st) (recordAt (recordIn st)) r)) Same
+      by : (b : Bool) → Taken ≡ b → change_if r (after_call st c) (is_session (after_call st c)) last (eqb (number_at st c) 19)
+          ≡ cond b (cond (completed (after_call st c)) (change_for (purpose_in st) (record_at (record_in st)) r) (change_before (purpose_in st) (record_at (record_in st)) r)) Same
       by false h =
-          let n = out-of-turn h in
-          (λ i. changeIf r (afterCall st c) (isSession (afterCall st c)) (ends && eqb (n i) 0) (eqb (n i) 19)) ∙ refuses (isSession (afterCall st c)) ends
+          let n = out_of_turn h in
+          (λ i. change_if r (after_call st c) (is_session (after_call st c)) (ends && eqb (n i) 0) (eqb (n i) 19)) ∙ refuses (is_session (after_call st c)) ends
       by true h =
-          let k = keeps (c ∷ []) st (taken-in h).0 in
-          let n : eqb (numberAt st c) 19 ≡ false = session.takes st c.reply (length c.buffer) ∙ ap not h in
-          λ i. cond (k.session i) (cond ((sym (completes-as h)) i) (changeFor (k.purpose i) (recordAt (k.«record» i)) r)
-          (cond (n i) Same (changeBefore (k.purpose i) (recordAt (k.«record» i)) r))) Same
+          let k = keeps (c ∷ []) st (taken_in h).0 in
+          let n : eqb (number_at st c) 19 ≡ false = session.takes st c.reply (length c.buffer) ∙ ap not h in
+          λ i. cond (k.session i) (cond ((sym (completes_as h)) i) (change_for (k.purpose i) (record_at (k.«record» i)) r)
+          (cond (n i) Same (change_before (k.purpose i) (record_at (k.«record» i)) r))) Same
 
 -- ---- what follows, by what the session is for
 
 -- for this no answer changes a record
 abbrev pub Leaves : ℕ → Type 0
-Leaves purpose = ((next r : DA728x) → changeFor purpose next r ≡ Same) × (eqb purpose forUpload ≡ false)
+Leaves purpose = ((next r : DA728x) → change_for purpose next r ≡ Same) × (eqb purpose for_upload ≡ false)
 
 -- no other answer than the last success does, but for an upload
-before-last : (purpose : ℕ) (next r : DA728x) → eqb purpose forUpload ≡ false → changeBefore purpose next r ≡ Same
-before-last purpose next r p = ap (λ (upload : Bool). cond upload (counting next 0 r) Same) p
+before_last : (purpose : ℕ) (next r : DA728x) → eqb purpose for_upload ≡ false → change_before purpose next r ≡ Same
+before_last purpose next r p = ap (λ (upload : Bool). cond upload (counting next 0 r) Same) p
 
 -- neither, or both
-none-of : (b d : Bool) → cond b (cond d Same Same) Same ≡ Same
-none-of true true = refl
-none-of true false = refl
-none-of false d = refl
+none_of : (b d : Bool) → cond b (cond d Same Same) Same ≡ Same
+none_of true true = refl
+none_of true false = refl
+none_of false d = refl
 
 module _ (st : List ℕ) (c : AnswerCall) (r : DA728x) where
   abbrev next : DA728x
-  next = recordAt (recordIn st)
+  next = record_at (record_in st)
 
-  pub refused : numberAt st c ≡ 19 → changeBehind st c r ≡ Same
+  pub refused : number_at st c ≡ 19 → change_behind st c r ≡ Same
   refused h =
       changes st c r
-      ∙ ap (λ (b : Bool). cond b (cond (completed (afterCall st c)) (changeFor (purposeIn st) next r) (changeBefore (purposeIn st) next r)) Same) (in-turn st c h)
+      ∙ ap (λ (b : Bool). cond b (cond (completed (after_call st c)) (change_for (purpose_in st) next r) (change_before (purpose_in st) next r)) Same) (in_turn_lem st c h)
 
-  pub dead : left st ≡ [] → changeBehind st c r ≡ Same
-  dead e = refused (out-of-turn st c (taken_none st c.reply (length c.buffer) e))
+  pub dead : left st ≡ [] → change_behind st c r ≡ Same
+  dead e = refused (out_of_turn st c (taken_none st c.reply (length c.buffer) e))
 
-  for-other : eqb (purposeIn st) forUpload ≡ false → last st c ≡ false → changeBehind st c r ≡ Same
-  for-other p h = changes st c r ∙ by (Taken st c) refl
+  for_other : eqb (purpose_in st) for_upload ≡ false → last st c ≡ false → change_behind st c r ≡ Same
+  for_other p h = changes st c r ∙ by (Taken st c) refl
     where
       by : (b : Bool) → Taken st c ≡ b →
-          cond b (cond (completed (afterCall st c)) (changeFor (purposeIn st) next r) (changeBefore (purposeIn st) next r)) Same ≡ Same
+          cond b (cond (completed (after_call st c)) (change_for (purpose_in st) next r) (change_before (purpose_in st) next r)) Same ≡ Same
       by true k =
-          ap (λ (d : Bool). cond d (changeFor (purposeIn st) next r) (changeBefore (purposeIn st) next r)) (completes-as st c k ∙ h)
-          ∙ before-last (purposeIn st) next r p
+          ap (λ (d : Bool). cond d (change_for (purpose_in st) next r) (change_before (purpose_in st) next r)) (completes_as st c k ∙ h)
+          ∙ before_last (purpose_in st) next r p
       by false k = refl
 
   -- one that fails, and one that is not the last
-  pub failed : eqb (purposeIn st) forUpload ≡ false → eqb (numberAt st c) 0 ≡ false → changeBehind st c r ≡ Same
-  failed p h = for-other p (ap (λ (k : Bool). ends st c && k) h ∙ go (ends st c))
+  pub failed : eqb (purpose_in st) for_upload ≡ false → eqb (number_at st c) 0 ≡ false → change_behind st c r ≡ Same
+  failed p h = for_other p (ap (λ (k : Bool). ends st c && k) h ∙ go (ends st c))
     where
       go : (b : Bool) → b && false ≡ false
       go true = refl
       go false = refl
 
-  pub before : eqb (purposeIn st) forUpload ≡ false → ends st c ≡ false → changeBehind st c r ≡ Same
-  before p h = for-other p (ap (λ (b : Bool). b && eqb (numberAt st c) 0) h)
+  pub before : eqb (purpose_in st) for_upload ≡ false → ends st c ≡ false → change_behind st c r ≡ Same
+  before p h = for_other p (ap (λ (b : Bool). b && eqb (number_at st c) 0) h)
 
-  pub for-none : Leaves (purposeIn st) → changeBehind st c r ≡ Same
-  for-none h =
+  pub for_none : Leaves (purpose_in st) → change_behind st c r ≡ Same
+  for_none h =
       changes st c r
-      ∙ (λ i. cond (Taken st c) (cond (completed (afterCall st c)) (h.0 next r i) (before-last (purposeIn st) next r h.1 i)) Same)
-      ∙ none-of (Taken st c) (completed (afterCall st c))
+      ∙ (λ i. cond (Taken st c) (cond (completed (after_call st c)) (h.0 next r i) (before_last (purpose_in st) next r h.1 i)) Same)
+      ∙ none_of (Taken st c) (completed (after_call st c))
 
   -- an upload's
-  pub counts : purposeIn st ≡ forUpload →
-      changeBehind st c r ≡ cond (Taken st c && eqb next.address r.address) (Sequences (cond (completed (afterCall st c)) next.sequences 0)) Same
+  pub counts : purpose_in st ≡ for_upload →
+      change_behind st c r ≡ cond (Taken st c && eqb next.address r.address) (Sequences (cond (completed (after_call st c)) next.sequences 0)) Same
   counts p =
       changes st c r
-      ∙ ap (λ (purpose : ℕ). cond (Taken st c) (cond (completed (afterCall st c)) (changeFor purpose next r) (changeBefore purpose next r)) Same) p
-      ∙ go (Taken st c) (completed (afterCall st c))
+      ∙ ap (λ (purpose : ℕ). cond (Taken st c) (cond (completed (after_call st c)) (change_for purpose next r) (change_before purpose next r)) Same) p
+      ∙ go (Taken st c) (completed (after_call st c))
     where
       go : (b d : Bool) → cond b (cond d (counting next next.sequences r) (counting next 0 r)) Same
           ≡ cond (b && eqb next.address r.address) (Sequences (cond d next.sequences 0)) Same
@@ -231,34 +231,34 @@ module _ (st : List ℕ) (c : AnswerCall) (r : DA728x) where
 
 -- a session that is for this, and carries this record; the record that is lent becomes `f done`, by whether the session is completed then
 module _ (purpose : ℕ) (next : DA728x) (f : Bool → DA728x)
-    (becomes : (done : Bool) → recordBy (f false) (cond done (changeFor purpose next (f false)) (changeBefore purpose next (f false))) ≡ f done) where
-  pub runs-to : (cs : List AnswerCall) (st : List ℕ) → isSession st ≡ true → purposeIn st ≡ purpose → recordAt (recordIn st) ≡ next →
-      recordFinal st cs (f (completed st)) ≡ f (completed (final st cs))
-  runs-to [] st s p e = refl
-  runs-to (c ∷ cs) st s p e =
+    (becomes : (done : Bool) → record_by (f false) (cond done (change_for purpose next (f false)) (change_before purpose next (f false))) ≡ f done) where
+  pub runs_to : (cs : List AnswerCall) (st : List ℕ) → is_session st ≡ true → purpose_in st ≡ purpose → record_at (record_in st) ≡ next →
+      record_final st cs (f (completed st)) ≡ f (completed (final st cs))
+  runs_to [] st s p e = refl
+  runs_to (c ∷ cs) st s p e =
       let k = keeps (c ∷ []) st s in
-      ap (recordFinal (afterCall st c) cs) (by (Taken st c) refl) ∙ runs-to cs (afterCall st c) k.session (k.purpose ∙ p) (ap recordAt k.«record» ∙ e)
+      ap (record_final (after_call st c) cs) (by (Taken st c) refl) ∙ runs_to cs (after_call st c) k.session (k.purpose ∙ p) (ap record_at k.«record» ∙ e)
     where
-      by : (b : Bool) → Taken st c ≡ b → recordAfter st c.reply (length c.buffer) (f (completed st)) ≡ f (completed (afterCall st c))
+      by : (b : Bool) → Taken st c ≡ b → record_after st c.reply (length c.buffer) (f (completed st)) ≡ f (completed (after_call st c))
       by true h =
-          ap (λ (d : Bool). recordAfter st c.reply (length c.buffer) (f d)) (undone st c h)
-          ∙ ap (recordBy (f false)) (changes st c (f false)
-          ∙ (λ i. cond (h i) (cond (completed (afterCall st c)) (changeFor (p i) (e i) (f false)) (changeBefore (p i) (e i) (f false))) Same))
-          ∙ becomes (completed (afterCall st c))
+          ap (λ (d : Bool). record_after st c.reply (length c.buffer) (f d)) (undone st c h)
+          ∙ ap (record_by (f false)) (changes st c (f false)
+          ∙ (λ i. cond (h i) (cond (completed (after_call st c)) (change_for (p i) (e i) (f false)) (change_before (p i) (e i) (f false))) Same))
+          ∙ becomes (completed (after_call st c))
       by false h =
-          ap (recordBy (f (completed st))) (refused st c (f (completed st)) (out-of-turn st c h)) ∙ ap (λ (t : List ℕ). f (completed t)) (sym (untaken st c h))
+          ap (record_by (f (completed st))) (refused st c (f (completed st)) (out_of_turn st c h)) ∙ ap (λ (t : List ℕ). f (completed t)) (sym (untaken st c h))
 
 -- where no step is left
-pub ended : (cs : List AnswerCall) (st : List ℕ) (r : DA728x) → left st ≡ [] → recordFinal st cs r ≡ r
+pub ended : (cs : List AnswerCall) (st : List ℕ) (r : DA728x) → left st ≡ [] → record_final st cs r ≡ r
 ended [] st r e = refl
 ended (c ∷ cs) st r e =
-    let k = ap (recordBy r) (dead st c r e) in
-    (λ i. recordFinal (idle-state st c e i) cs (k i)) ∙ ended cs st r e
+    let k = ap (record_by r) (dead st c r e) in
+    (λ i. record_final (idle_state st c e i) cs (k i)) ∙ ended cs st r e
 
 -- one that is for no record
-pub spares : (cs : List AnswerCall) (st : List ℕ) (r : DA728x) → isSession st ≡ true → Leaves (purposeIn st) → recordFinal st cs r ≡ r
-spares cs st r s h = runs-to (purposeIn st) (recordAt (recordIn st)) (λ done. r) by cs st s refl refl
+pub spares : (cs : List AnswerCall) (st : List ℕ) (r : DA728x) → is_session st ≡ true → Leaves (purpose_in st) → record_final st cs r ≡ r
+spares cs st r s h = runs_to (purpose_in st) (record_at (record_in st)) (λ done. r) by cs st s refl refl
   where
-    by : (done : Bool) → recordBy r (cond done (changeFor (purposeIn st) (recordAt (recordIn st)) r) (changeBefore (purposeIn st) (recordAt (recordIn st)) r)) ≡ r
-    by true = ap (recordBy r) (h.0 (recordAt (recordIn st)) r)
-    by false = ap (recordBy r) (before-last (purposeIn st) (recordAt (recordIn st)) r h.1)
+    by : (done : Bool) → record_by r (cond done (change_for (purpose_in st) (record_at (record_in st)) r) (change_before (purpose_in st) (record_at (record_in st)) r)) ≡ r
+    by true = ap (record_by r) (h.0 (record_at (record_in st)) r)
+    by false = ap (record_by r) (before_last (purpose_in st) (record_at (record_in st)) r h.1)

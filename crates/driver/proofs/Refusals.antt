@@ -14,25 +14,25 @@ use Rattle.config.specs.declared.DrivingMode.{DrivingMode}
 use Rattle.config.specs.declared.DrivingMode.TheVariants.{FREQUENCY_TRACK, WIDEBAND, CUSTOM_WAVEFORM}
 use Rattle.config.specs.declared.OperationMode.{OperationMode}
 use Rattle.config.specs.declared.OperationMode.TheVariants.{INACTIVE, DRO_MODE, PWM_MODE, RTWM_MODE, ETWM_MODE}
-use Rattle.config.specs.Codes.{operationCode, drivingCode}
-use Rattle.checks.specs.Checks.{Check, firstFailing, configureNumber, outsideBand}
+use Rattle.config.specs.Codes.{operation_code, driving_code}
+use Rattle.checks.specs.Checks.{Check, first_failing, configure_number, outside_band}
 use Rattle.checks.specs.Blames.{OutOfBand, Fault, faults, OfFirst}
-use Rattle.checks.proofs.Blames.{Agree, of-first, flag, and-says, above, out-of-band, blames}
+use Rattle.checks.proofs.Blames.{Agree, of_first, flag, and_says, above, out_of_band, blames}
 use Rattle.exchange.specs.declared.Step.{Step}
 use Rattle.exchange.specs.State.{Begun}
 use Rattle.da728x.specs.declared.DA728x.{DA728x}
 use Rattle.da728x.specs.declared.Settings.{Settings}
 use Rattle.da728x.specs.declared.Settings.TheVariants.{Absent, Given}
-use Rattle.driver.specs.Operations.{Start, declines, begins, unless, withSettings, negative, overrideChecks, isCustom, drivePointChecks, sequenceChecks}
+use Rattle.driver.specs.Operations.{Start, declines, begins, unless, with_settings, negative, override_checks, is_custom, drive_point_checks, sequence_checks}
 use Rattle.driver.specs.Theorems.{InStored, BelowZero, BeginsUnless, Refusals}
 
-begins-unless : (n : ℕ) (b : Begun) (xs : List Step) (fs : List Fault) → OfFirst n fs → BeginsUnless (unless n (begins b xs)) fs
-begins-unless zero b xs fs h = h
-begins-unless (suc n) b xs fs h = (omega arith, h)
+begins_unless : (n : ℕ) (b : Begun) (xs : List Step) (fs : List Fault) → OfFirst n fs → BeginsUnless (unless n (begins b xs)) fs
+begins_unless zero b xs fs h = h
+begins_unless (suc n) b xs fs h = (omega arith, h)
 
 -- begun unless a check fails
-checked : (cs : List Check) (b : Begun) (xs : List Step) (fs : List Fault) → Agree cs fs → BeginsUnless (unless (firstFailing cs) (begins b xs)) fs
-checked cs b xs fs t = begins-unless (firstFailing cs) b xs fs (of-first cs fs t)
+checked : (cs : List Check) (b : Begun) (xs : List Step) (fs : List Fault) → Agree cs fs → BeginsUnless (unless (first_failing cs) (begins b xs)) fs
+checked cs b xs fs t = begins_unless (first_failing cs) b xs fs (of_first cs fs t)
 
 -- behind a fault that does not hold
 later : (s : Start) (f : Fault) (fs : List Fault) → ¬ f.1 → BeginsUnless s fs → BeginsUnless s (f ∷ fs)
@@ -41,7 +41,7 @@ later (begins b xs) f fs n h = inr (n, h)
 
 -- 15 first
 settled : (s : Settings) (f : ActuatorConfig → DeviceConfig → Start) (fs : Settings → List Fault) →
-    ((a : ActuatorConfig) (d : DeviceConfig) → BeginsUnless (f a d) (fs (Given a d))) → BeginsUnless (withSettings s f) ((15, s ≡ Absent) ∷ fs s)
+    ((a : ActuatorConfig) (d : DeviceConfig) → BeginsUnless (f a d) (fs (Given a d))) → BeginsUnless (with_settings s f) ((15, s ≡ Absent) ∷ fs s)
 settled Absent f fs h = (omega arith, inl (refl, refl))
 settled (Given a d) f fs h = later (f a d) (15, Given a d ≡ Absent) (fs (Given a d)) (λ e. true≢false (ap given e)) (h a d)
   where
@@ -49,45 +49,45 @@ settled (Given a d) f fs h = later (f a d) (15, Given a d ≡ Absent) (fs (Given
     given Absent = false
     given (Given a d) = true
 
-below-zero : (value : ℤ) → (negative value ≡ true) ↔ BelowZero value
-below-zero (pos n) = (λ e. false≢true e, λ f. absurd f)
-below-zero (negsuc n) = (λ e. tt, λ u. refl)
+below_zero : (value : ℤ) → (negative value ≡ true) ↔ BelowZero value
+below_zero (pos n) = (λ e. false≢true e, λ f. absurd f)
+below_zero (negsuc n) = (λ e. tt, λ u. refl)
 
-in-dro : (m : OperationMode) → (not (eqb (operationCode m) (operationCode DRO_MODE)) ≡ true) ↔ ¬ (m ≡ DRO_MODE)
-in-dro INACTIVE = (λ e p. omega (arith, ap operationCode p), λ n. refl)
-in-dro DRO_MODE = (λ e. absurd (false≢true e), λ n. absurd (n refl))
-in-dro PWM_MODE = (λ e p. omega (arith, ap operationCode p), λ n. refl)
-in-dro RTWM_MODE = (λ e p. omega (arith, ap operationCode p), λ n. refl)
-in-dro ETWM_MODE = (λ e p. omega (arith, ap operationCode p), λ n. refl)
+in_dro : (m : OperationMode) → (not (eqb (operation_code m) (operation_code DRO_MODE)) ≡ true) ↔ ¬ (m ≡ DRO_MODE)
+in_dro INACTIVE = (λ e p. omega (arith, ap operation_code p), λ n. refl)
+in_dro DRO_MODE = (λ e. absurd (false≢true e), λ n. absurd (n refl))
+in_dro PWM_MODE = (λ e p. omega (arith, ap operation_code p), λ n. refl)
+in_dro RTWM_MODE = (λ e p. omega (arith, ap operation_code p), λ n. refl)
+in_dro ETWM_MODE = (λ e p. omega (arith, ap operation_code p), λ n. refl)
 
-custom : (m : DrivingMode) → (not (isCustom m) ≡ true) ↔ ¬ (m ≡ CUSTOM_WAVEFORM)
-custom FREQUENCY_TRACK = (λ e p. omega (arith, ap drivingCode p), λ n. refl)
-custom WIDEBAND = (λ e p. omega (arith, ap drivingCode p), λ n. refl)
+custom : (m : DrivingMode) → (not (is_custom m) ≡ true) ↔ ¬ (m ≡ CUSTOM_WAVEFORM)
+custom FREQUENCY_TRACK = (λ e p. omega (arith, ap driving_code p), λ n. refl)
+custom WIDEBAND = (λ e p. omega (arith, ap driving_code p), λ n. refl)
 custom CUSTOM_WAVEFORM = (λ e. absurd (false≢true e), λ n. absurd (n refl))
 
-not-below : (n m : ℕ) → (leb n m ≡ true) ↔ (n ≤ m)
-not-below n m = (leb-true n m, le-leb n m)
+not_below : (n m : ℕ) → (leb n m ≡ true) ↔ (n ≤ m)
+not_below n m = (leb-true n m, le-leb n m)
 
-checked-sequence : (r : DA728x) (id loops : ℕ) (b : Begun) (xs : List Step) →
-    BeginsUnless (unless (firstFailing (sequenceChecks r.sequences id loops)) (begins b xs)) ((11, 15 < id) ∷ (11, 15 < loops) ∷ (28, r.sequences ≤ id) ∷ [])
-checked-sequence r id loops b xs =
-    checked (sequenceChecks r.sequences id loops) b xs ((11, 15 < id) ∷ (11, 15 < loops) ∷ (28, r.sequences ≤ id) ∷ [])
-    (refl, above 15 id, (refl, above 15 loops, (refl, not-below r.sequences id, tt)))
+checked_sequence : (r : DA728x) (id loops : ℕ) (b : Begun) (xs : List Step) →
+    BeginsUnless (unless (first_failing (sequence_checks r.sequences id loops)) (begins b xs)) ((11, 15 < id) ∷ (11, 15 < loops) ∷ (28, r.sequences ≤ id) ∷ [])
+checked_sequence r id loops b xs =
+    checked (sequence_checks r.sequences id loops) b xs ((11, 15 < id) ∷ (11, 15 < loops) ∷ (28, r.sequences ≤ id) ∷ [])
+    (refl, above 15 id, (refl, above 15 loops, (refl, not_below r.sequences id, tt)))
 
 pub refusals : Refusals
 refusals = record {
-  configure = λ r a d. begins-unless (configureNumber r.variant a d) _ _ (faults r.variant a d) (blames.first r.variant a d);
-  set-frequency = λ r hz. settled r.settings _ (λ s. (23, InStored (λ a d. OutOfBand d.driving_mode hz) s) ∷ []) (λ a d.
-      checked ((outsideBand d.driving_mode hz, 23) ∷ []) _ _ ((23, OutOfBand d.driving_mode hz) ∷ []) (refl, out-of-band d.driving_mode hz, tt));
-  set-override-value = λ r value. settled r.settings _ (λ s. (11, InStored (λ a d. (d.acceleration ≡ true) × BelowZero value) s)
+  configure = λ r a d. begins_unless (configure_number r.variant a d) _ _ (faults r.variant a d) (blames.first r.variant a d);
+  set_frequency = λ r hz. settled r.settings _ (λ s. (23, InStored (λ a d. OutOfBand d.driving_mode hz) s) ∷ []) (λ a d.
+      checked ((outside_band d.driving_mode hz, 23) ∷ []) _ _ ((23, OutOfBand d.driving_mode hz) ∷ []) (refl, out_of_band d.driving_mode hz, tt));
+  set_override_value = λ r value. settled r.settings _ (λ s. (11, InStored (λ a d. (d.acceleration ≡ true) × BelowZero value) s)
       ∷ (12, InStored (λ a d. ¬ (d.operation_mode ≡ DRO_MODE)) s) ∷ []) (λ a d.
-      checked (overrideChecks d value) _ _ ((11, (d.acceleration ≡ true) × BelowZero value) ∷ (12, ¬ (d.operation_mode ≡ DRO_MODE)) ∷ [])
-      (refl, and-says d.acceleration (negative value) _ _ (flag d.acceleration) (below-zero value), (refl, in-dro d.operation_mode, tt)));
-  select-sequence = λ r id loops. checked-sequence r id loops _ _;
-  play-sequence = λ r id loops. checked-sequence r id loops _ _;
+      checked (override_checks d value) _ _ ((11, (d.acceleration ≡ true) × BelowZero value) ∷ (12, ¬ (d.operation_mode ≡ DRO_MODE)) ∷ [])
+      (refl, and_says d.acceleration (negative value) _ _ (flag d.acceleration) (below_zero value), (refl, in_dro d.operation_mode, tt)));
+  select_sequence = λ r id loops. checked_sequence r id loops _ _;
+  play_sequence = λ r id loops. checked_sequence r id loops _ _;
   enable = λ r. settled r.settings _ (λ s. []) (λ a d. refl);
   disable = λ r. settled r.settings _ (λ s. []) (λ a d. refl);
-  set-custom-drive-waveform = λ r p1 p2 p3. settled r.settings _ (λ s. (12, InStored (λ a d. ¬ (d.driving_mode ≡ CUSTOM_WAVEFORM)) s) ∷ []) (λ a d.
-      checked (drivePointChecks d) _ _ ((12, ¬ (d.driving_mode ≡ CUSTOM_WAVEFORM)) ∷ []) (refl, custom d.driving_mode, tt));
-  others = λ r address v timebase m lockAfter len room. (refl, (refl, (refl, (refl, (refl, (refl, (refl, (refl, (refl, (refl, tt))))))))));
+  set_custom_drive_waveform = λ r p1 p2 p3. settled r.settings _ (λ s. (12, InStored (λ a d. ¬ (d.driving_mode ≡ CUSTOM_WAVEFORM)) s) ∷ []) (λ a d.
+      checked (drive_point_checks d) _ _ ((12, ¬ (d.driving_mode ≡ CUSTOM_WAVEFORM)) ∷ []) (refl, custom d.driving_mode, tt));
+  others = λ r address v timebase m lock_after len room. (refl, (refl, (refl, (refl, (refl, (refl, (refl, (refl, (refl, (refl, tt))))))))));
 }

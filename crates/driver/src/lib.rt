@@ -16,16 +16,16 @@
 
 ghost use Rattle.std.specs.Prelude.{◌≡◌, ◌&&◌, ◌∷◌, eqb, length};
 ghost use Rattle.laws.specs.Lists.{at};
-ghost use Rattle.errors.specs.Number.{answerNumber};
-ghost use Rattle.registers.specs.Table.{addressOf};
-ghost use Rattle.config.specs.Codes.{operationCode};
-ghost use Rattle.checks.specs.Checks.{firstFailing};
+ghost use Rattle.errors.specs.Number.{answer_number};
+ghost use Rattle.registers.specs.Table.{address_of};
+ghost use Rattle.config.specs.Codes.{operation_code};
+ghost use Rattle.checks.specs.Checks.{first_failing};
 ghost use Rattle.config.specs.declared.OperationMode.TheVariants.{DRO_MODE};
 ghost use Rattle.exchange.specs.declared.Step.TheVariants.{Write};
-ghost use Rattle.exchange.specs.State.{begunIn};
-ghost use Rattle.exchange.specs.Turn.{stateAfter, bufferAfter, reportOf, turnReport};
-ghost use Rattle.sessions.specs.Sessions.{blank, startSteps};
-ghost use Rattle.outcome.specs.Outcome.{recordBy};
+ghost use Rattle.exchange.specs.State.{begun_in};
+ghost use Rattle.exchange.specs.Turn.{state_after, buffer_after, report_of, turn_report};
+ghost use Rattle.sessions.specs.Sessions.{blank, start_steps};
+ghost use Rattle.outcome.specs.Outcome.{record_by};
 ghost use Rattle.driver.specs.Operations as spec;
 
 use config::{ActuatorConfig, DeviceConfig, DrivingMode, OperationMode, Variant};
@@ -53,8 +53,8 @@ pub struct Answered {
 // ---- a new record, and its settings
 
 pub fn new(address: u8, variant: Variant, session: &mut [u8]) -> Answer
-    ensures result_value { answerNumber result ≡ spec.startNumber (spec.new address variant).start }
-    ensures session_after { session.new ≡ spec.startedIn session.old (spec.new address variant).start }
+    ensures result_value { answer_number result ≡ spec.start_number (spec.new address variant).start }
+    ensures session_after { session.new ≡ spec.started_in session.old (spec.new address variant).start }
 {
     let next = DA728x {
         address: address,
@@ -81,8 +81,8 @@ fn revision(variant: Variant) -> u8
 }
 
 pub fn configure(driver: DA728x, a: ActuatorConfig, d: DeviceConfig, session: &mut [u8]) -> Answer
-    ensures result_value { answerNumber result ≡ spec.startNumber (spec.configure driver a d).start }
-    ensures session_after { session.new ≡ spec.startedIn session.old (spec.configure driver a d).start }
+    ensures result_value { answer_number result ≡ spec.start_number (spec.configure driver a d).start }
+    ensures session_after { session.new ≡ spec.started_in session.old (spec.configure driver a d).start }
 {
     let variant = driver.variant;
     match checks::configure_checks(variant, a, d) {
@@ -104,8 +104,8 @@ pub fn configure(driver: DA728x, a: ActuatorConfig, d: DeviceConfig, session: &m
 // ---- what the chip says
 
 pub fn get_chip_rev(driver: DA728x, session: &mut [u8]) -> Answer
-    ensures result_value { answerNumber result ≡ spec.startNumber (spec.getChipRev driver).start }
-    ensures session_after { session.new ≡ spec.startedIn session.old (spec.getChipRev driver).start }
+    ensures result_value { answer_number result ≡ spec.start_number (spec.get_chip_rev driver).start }
+    ensures session_after { session.new ≡ spec.started_in session.old (spec.get_chip_rev driver).start }
 {
     sessions::run(
         session,
@@ -118,8 +118,8 @@ pub fn get_chip_rev(driver: DA728x, session: &mut [u8]) -> Answer
 
 // All events, which are cleared by the last exchange.
 pub fn get_events(driver: DA728x, session: &mut [u8]) -> Answer
-    ensures result_value { answerNumber result ≡ spec.startNumber (spec.getEvents driver).start }
-    ensures session_after { session.new ≡ spec.startedIn session.old (spec.getEvents driver).start }
+    ensures result_value { answer_number result ≡ spec.start_number (spec.get_events driver).start }
+    ensures session_after { session.new ≡ spec.started_in session.old (spec.get_events driver).start }
 {
     sessions::run(
         session,
@@ -137,8 +137,8 @@ pub fn get_events(driver: DA728x, session: &mut [u8]) -> Answer
 }
 
 pub fn get_status(driver: DA728x, session: &mut [u8]) -> Answer
-    ensures result_value { answerNumber result ≡ spec.startNumber (spec.getStatus driver).start }
-    ensures session_after { session.new ≡ spec.startedIn session.old (spec.getStatus driver).start }
+    ensures result_value { answer_number result ≡ spec.start_number (spec.get_status driver).start }
+    ensures session_after { session.new ≡ spec.started_in session.old (spec.get_status driver).start }
 {
     sessions::run(
         session,
@@ -152,8 +152,8 @@ pub fn get_status(driver: DA728x, session: &mut [u8]) -> Answer
 // ---- operations that need settings
 
 pub fn set_frequency(driver: DA728x, frequency_hz: u16, session: &mut [u8]) -> Answer
-    ensures result_value { answerNumber result ≡ spec.startNumber (spec.setFrequency driver frequency_hz).start }
-    ensures session_after { session.new ≡ spec.startedIn session.old (spec.setFrequency driver frequency_hz).start }
+    ensures result_value { answer_number result ≡ spec.start_number (spec.set_frequency driver frequency_hz).start }
+    ensures session_after { session.new ≡ spec.started_in session.old (spec.set_frequency driver frequency_hz).start }
 {
     let settings = driver.settings;
     match settings {
@@ -171,8 +171,8 @@ pub fn set_frequency(driver: DA728x, frequency_hz: u16, session: &mut [u8]) -> A
 }
 
 pub fn set_override_value(driver: DA728x, value: i8, session: &mut [u8]) -> Answer
-    ensures result_value { answerNumber result ≡ spec.startNumber (spec.setOverrideValue driver value).start }
-    ensures session_after { session.new ≡ spec.startedIn session.old (spec.setOverrideValue driver value).start }
+    ensures result_value { answer_number result ≡ spec.start_number (spec.set_override_value driver value).start }
+    ensures session_after { session.new ≡ spec.started_in session.old (spec.set_override_value driver value).start }
 {
     let settings = driver.settings;
     match settings {
@@ -182,8 +182,8 @@ pub fn set_override_value(driver: DA728x, value: i8, session: &mut [u8]) -> Answ
 }
 
 fn overriding(address: u8, d: DeviceConfig, value: i8, session: &mut [u8]) -> Answer
-    ensures result_value { answerNumber result ≡ spec.startNumber (spec.overriding address d value) }
-    ensures session_after { session.new ≡ spec.startedIn session.old (spec.overriding address d value) }
+    ensures result_value { answer_number result ≡ spec.start_number (spec.overriding address d value) }
+    ensures session_after { session.new ≡ spec.started_in session.old (spec.overriding address d value) }
 {
     let mode = d.operation_mode;
     if wrong_sign(d.acceleration, value) {
@@ -212,7 +212,7 @@ fn wrong_sign(acceleration: bool, value: i8) -> bool
 }
 
 fn is_dro(mode: OperationMode) -> bool
-    ensures { result ≡ eqb (operationCode mode) (operationCode DRO_MODE) }
+    ensures { result ≡ eqb (operation_code mode) (operation_code DRO_MODE) }
 {
     let dro = OperationMode::DRO_MODE;
     mode.code() == dro.code()
@@ -220,8 +220,8 @@ fn is_dro(mode: OperationMode) -> bool
 
 // Sets the operation mode; a sequence is not started.
 pub fn enable(driver: DA728x, session: &mut [u8]) -> Answer
-    ensures result_value { answerNumber result ≡ spec.startNumber (spec.enable driver).start }
-    ensures session_after { session.new ≡ spec.startedIn session.old (spec.enable driver).start }
+    ensures result_value { answer_number result ≡ spec.start_number (spec.enable driver).start }
+    ensures session_after { session.new ≡ spec.started_in session.old (spec.enable driver).start }
 {
     let settings = driver.settings;
     match settings {
@@ -240,8 +240,8 @@ pub fn enable(driver: DA728x, session: &mut [u8]) -> Answer
 }
 
 pub fn disable(driver: DA728x, session: &mut [u8]) -> Answer
-    ensures result_value { answerNumber result ≡ spec.startNumber (spec.disable driver).start }
-    ensures session_after { session.new ≡ spec.startedIn session.old (spec.disable driver).start }
+    ensures result_value { answer_number result ≡ spec.start_number (spec.disable driver).start }
+    ensures session_after { session.new ≡ spec.started_in session.old (spec.disable driver).start }
 {
     let settings = driver.settings;
     match settings {
@@ -262,10 +262,10 @@ pub fn disable(driver: DA728x, session: &mut [u8]) -> Answer
 
 // Gives the chip the three points of the wave that it drives the actuator with; for CUSTOM_WAVEFORM only.
 pub fn set_custom_drive_waveform(driver: DA728x, points: [u8; 3], session: &mut [u8]) -> Answer
-    ensures result_value { answerNumber result
-        ≡ spec.startNumber (spec.setCustomDriveWaveform driver (at points 0) (at points 1) (at points 2)).start }
+    ensures result_value { answer_number result
+        ≡ spec.start_number (spec.set_custom_drive_waveform driver (at points 0) (at points 1) (at points 2)).start }
     ensures session_after { session.new
-        ≡ spec.startedIn session.old (spec.setCustomDriveWaveform driver (at points 0) (at points 1) (at points 2)).start }
+        ≡ spec.started_in session.old (spec.set_custom_drive_waveform driver (at points 0) (at points 1) (at points 2)).start }
 {
     let settings = driver.settings;
     match settings {
@@ -282,14 +282,14 @@ pub fn set_custom_drive_waveform(driver: DA728x, points: [u8; 3], session: &mut 
 }
 
 fn is_custom(mode: DrivingMode) -> bool
-    ensures { result ≡ spec.isCustom mode }
+    ensures { result ≡ spec.is_custom mode }
 {
     let custom = DrivingMode::CUSTOM_WAVEFORM;
     mode.code() == custom.code()
 }
 
 fn drive_points(session: &mut [u8], address: u8, p1: u8, p2: u8, p3: u8)
-    ensures { session.new ≡ begunIn session.old (blank 0 address) (spec.drivePointSteps p1 p2 p3) }
+    ensures { session.new ≡ begun_in session.old (blank 0 address) (spec.drive_point_steps p1 p2 p3) }
 {
     let swg_c1 = SWG_C1::new().with_CUSTOM_WAVE_GEN_COEFF1(p1);
     let swg_c2 = SWG_C2::new().with_CUSTOM_WAVE_GEN_COEFF2(p2);
@@ -313,8 +313,8 @@ fn drive_points(session: &mut [u8], address: u8, p1: u8, p2: u8, p3: u8)
 // ---- waveform memory
 
 pub fn set_timebase(driver: DA728x, timebase: WaveformMemoryTimebase, session: &mut [u8]) -> Answer
-    ensures result_value { answerNumber result ≡ spec.startNumber (spec.setTimebase driver timebase).start }
-    ensures session_after { session.new ≡ spec.startedIn session.old (spec.setTimebase driver timebase).start }
+    ensures result_value { answer_number result ≡ spec.start_number (spec.set_timebase driver timebase).start }
+    ensures session_after { session.new ≡ spec.started_in session.old (spec.set_timebase driver timebase).start }
 {
     sessions::update(
         session,
@@ -328,8 +328,8 @@ pub fn set_timebase(driver: DA728x, timebase: WaveformMemoryTimebase, session: &
 }
 
 pub fn unlock_waveform_memory(driver: DA728x, session: &mut [u8]) -> Answer
-    ensures result_value { answerNumber result ≡ spec.startNumber (spec.unlockWaveformMemory driver).start }
-    ensures session_after { session.new ≡ spec.startedIn session.old (spec.unlockWaveformMemory driver).start }
+    ensures result_value { answer_number result ≡ spec.start_number (spec.unlock_waveform_memory driver).start }
+    ensures session_after { session.new ≡ spec.started_in session.old (spec.unlock_waveform_memory driver).start }
 {
     sessions::run(
         session,
@@ -341,8 +341,8 @@ pub fn unlock_waveform_memory(driver: DA728x, session: &mut [u8]) -> Answer
 }
 
 pub fn lock_waveform_memory(driver: DA728x, session: &mut [u8]) -> Answer
-    ensures result_value { answerNumber result ≡ spec.startNumber (spec.lockWaveformMemory driver).start }
-    ensures session_after { session.new ≡ spec.startedIn session.old (spec.lockWaveformMemory driver).start }
+    ensures result_value { answer_number result ≡ spec.start_number (spec.lock_waveform_memory driver).start }
+    ensures session_after { session.new ≡ spec.started_in session.old (spec.lock_waveform_memory driver).start }
 {
     sessions::run(
         session,
@@ -360,9 +360,9 @@ pub fn upload_waveform_memory(
     lock_after: bool,
     session: &mut [u8],
 ) -> Uploading
-    ensures result_value { answerNumber result.answer ≡ spec.startNumber (spec.uploadWaveformMemory driver memory lock_after).start }
-    ensures driver { result.driver ≡ recordBy driver (spec.changeFrom session.old (spec.uploadWaveformMemory driver memory lock_after).start) }
-    ensures session_after { session.new ≡ spec.startedIn session.old (spec.uploadWaveformMemory driver memory lock_after).start }
+    ensures result_value { answer_number result.answer ≡ spec.start_number (spec.upload_waveform_memory driver memory lock_after).start }
+    ensures driver { result.driver ≡ record_by driver (spec.change_from session.old (spec.upload_waveform_memory driver memory lock_after).start) }
+    ensures session_after { session.new ≡ spec.started_in session.old (spec.upload_waveform_memory driver memory lock_after).start }
 {
     let variant = driver.variant;
     let zeroed = outcome::changed(driver, outcome::zeroing(session));
@@ -391,15 +391,15 @@ pub fn upload_waveform_memory(
 }
 
 // Reads into a buffer of this length, which is lent with every answer.
-#[tactic(auto, unfolding(sessions::specs::Sessions::noImage, sessions::specs::Sessions::blankRecord))]
+#[tactic(auto, unfolding(sessions::specs::Sessions::no_image, sessions::specs::Sessions::blank_record))]
 pub fn read_waveform_memory(
     driver: DA728x,
     len: usize,
     buffer_len: usize,
     session: &mut [u8],
 ) -> Answer
-    ensures result_value { answerNumber result ≡ spec.startNumber (spec.readWaveformMemory driver len buffer_len).start }
-    ensures session_after { session.new ≡ spec.startedIn session.old (spec.readWaveformMemory driver len buffer_len).start }
+    ensures result_value { answer_number result ≡ spec.start_number (spec.read_waveform_memory driver len buffer_len).start }
+    ensures session_after { session.new ≡ spec.started_in session.old (spec.read_waveform_memory driver len buffer_len).start }
 {
     let none = [0u8; da728x::RECORD_SIZE];
     let image = [0u8; 100];
@@ -418,8 +418,8 @@ pub fn read_waveform_memory(
 // ---- sequences
 
 pub fn select_sequence(driver: DA728x, sequence_id: u8, loops: u8, session: &mut [u8]) -> Answer
-    ensures result_value { answerNumber result ≡ spec.startNumber (spec.selectSequence driver sequence_id loops).start }
-    ensures session_after { session.new ≡ spec.startedIn session.old (spec.selectSequence driver sequence_id loops).start }
+    ensures result_value { answer_number result ≡ spec.start_number (spec.select_sequence driver sequence_id loops).start }
+    ensures session_after { session.new ≡ spec.started_in session.old (spec.select_sequence driver sequence_id loops).start }
 {
     match sequence_checks(driver.sequences, sequence_id, loops) {
         Answer::Refused(e) => Answer::Refused(e),
@@ -440,7 +440,7 @@ pub fn select_sequence(driver: DA728x, sequence_id: u8, loops: u8, session: &mut
 
 // The number of a sequence and its loops, where so many are loaded.
 fn sequence_checks(sequences: u8, sequence_id: u8, loops: u8) -> Answer
-    ensures { answerNumber result ≡ firstFailing (spec.sequenceChecks sequences sequence_id loops) }
+    ensures { answer_number result ≡ first_failing (spec.sequence_checks sequences sequence_id loops) }
 {
     if 15 < sequence_id {
         return Answer::Refused(Error::InvalidValue);
@@ -455,8 +455,8 @@ fn sequence_checks(sequences: u8, sequence_id: u8, loops: u8) -> Answer
 }
 
 pub fn start_sequence(driver: DA728x, session: &mut [u8]) -> Answer
-    ensures result_value { answerNumber result ≡ spec.startNumber (spec.startSequence driver).start }
-    ensures session_after { session.new ≡ spec.startedIn session.old (spec.startSequence driver).start }
+    ensures result_value { answer_number result ≡ spec.start_number (spec.start_sequence driver).start }
+    ensures session_after { session.new ≡ spec.started_in session.old (spec.start_sequence driver).start }
 {
     sessions::update(
         session,
@@ -470,8 +470,8 @@ pub fn start_sequence(driver: DA728x, session: &mut [u8]) -> Answer
 }
 
 pub fn play_sequence(driver: DA728x, sequence_id: u8, loops: u8, session: &mut [u8]) -> Answer
-    ensures result_value { answerNumber result ≡ spec.startNumber (spec.playSequence driver sequence_id loops).start }
-    ensures session_after { session.new ≡ spec.startedIn session.old (spec.playSequence driver sequence_id loops).start }
+    ensures result_value { answer_number result ≡ spec.start_number (spec.play_sequence driver sequence_id loops).start }
+    ensures session_after { session.new ≡ spec.started_in session.old (spec.play_sequence driver sequence_id loops).start }
 {
     match sequence_checks(driver.sequences, sequence_id, loops) {
         Answer::Refused(e) => Answer::Refused(e),
@@ -487,7 +487,7 @@ pub fn play_sequence(driver: DA728x, sequence_id: u8, loops: u8, session: &mut [
 }
 
 fn play(session: &mut [u8], address: u8, value: u8)
-    ensures { session.new ≡ begunIn session.old (blank 0 address) (Write (addressOf "SEQ_CTL2") value ∷ startSteps) }
+    ensures { session.new ≡ begun_in session.old (blank 0 address) (Write (address_of "SEQ_CTL2") value ∷ start_steps) }
 {
     sessions::run(
         session,
@@ -510,12 +510,12 @@ fn play(session: &mut [u8], address: u8, value: u8)
 // ---- what an answer gives
 
 // Takes back what the bus answered, with the record in force and the buffer that a memory read fills.
-#[tactic(auto, unfolding(crate::specs::Operations::changeAfter))]
+#[tactic(auto, unfolding(crate::specs::Operations::change_after))]
 pub fn answer(driver: DA728x, session: &mut [u8], reply: Reply, buffer: &mut [u8]) -> Answered
-    ensures turn { turnReport result.turn ≡ reportOf session.old reply (length buffer.old) }
-    ensures driver { result.driver ≡ spec.recordAfter session.old reply (length buffer.old) driver }
-    ensures session { session.new ≡ stateAfter session.old reply (length buffer.old) }
-    ensures buffer { buffer.new ≡ bufferAfter session.old reply buffer.old }
+    ensures turn { turn_report result.turn ≡ report_of session.old reply (length buffer.old) }
+    ensures driver { result.driver ≡ spec.record_after session.old reply (length buffer.old) driver }
+    ensures session { session.new ≡ state_after session.old reply (length buffer.old) }
+    ensures buffer { buffer.new ≡ buffer_after session.old reply buffer.old }
 {
     let turn = exchange::answer(session, reply, buffer);
     let next = outcome::changed(driver, outcome::change_by(driver, session, turn));

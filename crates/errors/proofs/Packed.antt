@@ -15,8 +15,8 @@ apart p v n h k e = let m : 1 * p ≤ n * p = mul-le-mul_right p k in absurd (om
 factor : (p m n : ℕ) → 0 < p → m * p ≡ n * p → m ≡ n
 factor p m n h e = le_antisymm (le_of_mul-le-mul_right (le_of_eq e) h) (le_of_mul-le-mul_right (le_of_eq (sym e)) h)
 
-pub packed-apart : (bits : ℕ) (x y : Told ℕ) → Room bits x → Room bits y → packed bits x ≡ packed bits y → x ≡ y
-packed-apart bits (gives v) (gives w) h k e = ap gives e
-packed-apart bits (gives v) (refuses n) h k e = apart (2 ^ bits) v n h k e
-packed-apart bits (refuses m) (gives w) h k e = apart (2 ^ bits) w m k h (sym e)
-packed-apart bits (refuses m) (refuses n) h k e = ap refuses (factor (2 ^ bits) m n (pow_pos bits) e)
+pub packed_apart : (bits : ℕ) (x y : Told ℕ) → Room bits x → Room bits y → packed bits x ≡ packed bits y → x ≡ y
+packed_apart bits (gives v) (gives w) h k e = ap gives e
+packed_apart bits (gives v) (refuses n) h k e = apart (2 ^ bits) v n h k e
+packed_apart bits (refuses m) (gives w) h k e = apart (2 ^ bits) w m k h (sym e)
+packed_apart bits (refuses m) (refuses n) h k e = ap refuses (factor (2 ^ bits) m n (pow_pos bits) e)

@@ -9,52 +9,52 @@ use Rattle.errors.specs.declared.Encoded.{Encoded}
 use Rattle.errors.specs.declared.Encoded.TheVariants as Encoded
 
 -- its number, and "17 I2c, with the bus's own failure code (one byte) handed through"; any other has code 0
-abbrev pub numberAndCode : Error → ℕ × ℕ
+abbrev pub number_and_code : Error → ℕ × ℕ
 -- the pattern's author
-numberAndCode Error.InvalidTimebase = (1, 0)
-numberAndCode Error.InvalidAmplitude = (2, 0)
-numberAndCode Error.InvalidSnippetId = (3, 0)
-numberAndCode Error.InvalidLoopCount = (4, 0)
-numberAndCode Error.InvalidFrequency = (5, 0)
-numberAndCode Error.TooManySnippets = (6, 0)
-numberAndCode Error.TooManySequences = (7, 0)
-numberAndCode Error.WaveformMemoryFull = (8, 0)
-numberAndCode Error.EmptySnippet = (9, 0)
-numberAndCode Error.EmptySequence = (10, 0)
+number_and_code Error.InvalidTimebase = (1, 0)
+number_and_code Error.InvalidAmplitude = (2, 0)
+number_and_code Error.InvalidSnippetId = (3, 0)
+number_and_code Error.InvalidLoopCount = (4, 0)
+number_and_code Error.InvalidFrequency = (5, 0)
+number_and_code Error.TooManySnippets = (6, 0)
+number_and_code Error.TooManySequences = (7, 0)
+number_and_code Error.WaveformMemoryFull = (8, 0)
+number_and_code Error.EmptySnippet = (9, 0)
+number_and_code Error.EmptySequence = (10, 0)
 -- the fitter of the unit; document 02: "Number 11 remains for trigger numbers, override values, `select_sequence` and `play_sequence`"
-numberAndCode Error.InvalidValue = (11, 0)
-numberAndCode Error.WrongMode = (12, 0)
-numberAndCode Error.MissingTriggerConfigInEtwmMode = (13, 0)
-numberAndCode Error.NotSupported = (14, 0)
+number_and_code Error.InvalidValue = (11, 0)
+number_and_code Error.WrongMode = (12, 0)
+number_and_code Error.MissingTriggerConfigInEtwmMode = (13, 0)
+number_and_code Error.NotSupported = (14, 0)
 -- .. and document 02: "A voltage gives 21, a current or impedance 22, and a frequency .. 23" (5 is a frame's)
-numberAndCode Error.InvalidVoltage = (21, 0)
-numberAndCode Error.InvalidCurrentOrImpedance = (22, 0)
-numberAndCode Error.InvalidDriveFrequency = (23, 0)
+number_and_code Error.InvalidVoltage = (21, 0)
+number_and_code Error.InvalidCurrentOrImpedance = (22, 0)
+number_and_code Error.InvalidDriveFrequency = (23, 0)
 -- the calling program (8 as well, for `from_bytes`)
-numberAndCode Error.NotConfigured = (15, 0)
+number_and_code Error.NotConfigured = (15, 0)
 -- the board
-numberAndCode Error.VariantMismatch = (16, 0)
-numberAndCode (Error.I2c code) = (17, code)
+number_and_code Error.VariantMismatch = (16, 0)
+number_and_code (Error.I2c code) = (17, code)
 -- whoever hands in an image to read
-numberAndCode Error.NotAnImage = (18, 0)
+number_and_code Error.NotAnImage = (18, 0)
 -- the calling program; document 02: "A buffer shorter than the item is refused with 24", "a number not below it is refused with 28"
-numberAndCode Error.OutOfTurn = (19, 0)
-numberAndCode Error.BufferTooShort = (24, 0)
-numberAndCode Error.MissingSequence = (28, 0)
+number_and_code Error.OutOfTurn = (19, 0)
+number_and_code Error.BufferTooShort = (24, 0)
+number_and_code Error.MissingSequence = (28, 0)
 
-abbrev pub errorNumber : Error → ℕ
-errorNumber e = (numberAndCode e).0
+abbrev pub error_number : Error → ℕ
+error_number e = (number_and_code e).0
 
 -- 0 where nothing was refused
-abbrev pub answerNumber : Answer → ℕ
-answerNumber Answer.Done = 0
-answerNumber (Answer.Refused e) = errorNumber e
+abbrev pub answer_number : Answer → ℕ
+answer_number Answer.Done = 0
+answer_number (Answer.Refused e) = error_number e
 
-abbrev pub busCode : Answer → ℕ
-busCode Answer.Done = 0
-busCode (Answer.Refused e) = (numberAndCode e).1
+abbrev pub bus_code : Answer → ℕ
+bus_code Answer.Done = 0
+bus_code (Answer.Refused e) = (number_and_code e).1
 
 -- the length of an item that was copied, or the refusal
-abbrev pub encodedTold : Encoded → Told ℕ
-encodedTold (Encoded.Whole n) = gives n
-encodedTold (Encoded.Refused e) = refuses (errorNumber e)
+abbrev pub encoded_told : Encoded → Told ℕ
+encoded_told (Encoded.Whole n) = gives n
+encoded_told (Encoded.Refused e) = refuses (error_number e)

@@ -8,17 +8,17 @@ pub data Told (A : Type 0) : Type 0 where
   refuses : ℕ → Told A
 
 -- what is said of a value, and of a refusal
-abbrev pub onTold {ℓ} : {A : Type 0} {B : Type ℓ} → Told A → (A → B) → (ℕ → B) → B
-onTold (gives a) value refusal = value a
-onTold (refuses n) value refusal = refusal n
+abbrev pub on_told {ℓ} : {A : Type 0} {B : Type ℓ} → Told A → (A → B) → (ℕ → B) → B
+on_told (gives a) value refusal = value a
+on_told (refuses n) value refusal = refusal n
 
 -- the number alone, 0 for a value
-abbrev pub toldNumber : {A : Type 0} → Told A → ℕ
-toldNumber t = onTold t (λ a. 0) (λ n. n)
+abbrev pub told_number : {A : Type 0} → Told A → ℕ
+told_number t = on_told t (λ a. 0) (λ n. n)
 
 -- the value where the number is 0, else the refusal
-abbrev pub toldBy : {A : Type 0} → ℕ → A → Told A
-toldBy n a = cond (ltb 0 n) (refuses n) (gives a)
+abbrev pub told_by : {A : Type 0} → ℕ → A → Told A
+told_by n a = cond (ltb 0 n) (refuses n) (gives a)
 
 -- a builder's call: 0 or the number of its refusal, and the builder that it hands back
 pub record Handed (B : Type 0) : Type 0 where

@@ -5,8 +5,8 @@
 #![tactic(auto)]
 
 ghost use Rattle.std.specs.Prelude.{◌≡◌};
-ghost use Rattle.errors.specs.Number.{numberAndCode, errorNumber, answerNumber, busCode, encodedTold};
-ghost use Rattle.errors.specs.Told.{toldNumber};
+ghost use Rattle.errors.specs.Number.{number_and_code, error_number, answer_number, bus_code, encoded_told};
+ghost use Rattle.errors.specs.Told.{told_number};
 
 #[derive(Clone, Copy)]
 pub enum Error {
@@ -53,7 +53,7 @@ pub enum Encoded {
 impl Error {
     // The bus's own code, or 0.
     pub fn bus_code(self) -> u8
-        ensures { result ≡ (numberAndCode self).1 }
+        ensures { result ≡ (number_and_code self).1 }
     {
         match self {
             Error::I2c(code) => code,
@@ -84,7 +84,7 @@ impl Error {
     }
 
     pub fn number(self) -> u8
-        ensures { result ≡ errorNumber self }
+        ensures { result ≡ error_number self }
     {
         match self {
             Error::InvalidTimebase => 1,
@@ -118,7 +118,7 @@ impl Error {
 impl Answer {
     // The bus's own code, or 0.
     pub fn bus_code(self) -> u8
-        ensures { result ≡ busCode self }
+        ensures { result ≡ bus_code self }
     {
         match self {
             Answer::Done => 0,
@@ -128,7 +128,7 @@ impl Answer {
 
     // The refusal's number, or 0.
     pub fn number(self) -> u8
-        ensures { result ≡ answerNumber self }
+        ensures { result ≡ answer_number self }
     {
         match self {
             Answer::Done => 0,
@@ -140,7 +140,7 @@ impl Answer {
 impl Encoded {
     // The refusal's number, or 0.
     pub fn number(self) -> u8
-        ensures { result ≡ toldNumber (encodedTold self) }
+        ensures { result ≡ told_number (encoded_told self) }
     {
         match self {
             Encoded::Whole(_) => 0,

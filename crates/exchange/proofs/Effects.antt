@@ -12,10 +12,10 @@ use Rattle.exchange.specs.declared.Reply.TheVariants.{Done, Byte, Failed}
 use Rattle.exchange.specs.declared.Fit.{Fit}
 use Rattle.exchange.specs.declared.Fit.TheVariants.{Unfit, Broke, Went, Got, Kept, Wrong}
 use Rattle.exchange.specs.State.{left, completed}
-use Rattle.exchange.specs.Turn.{wanted, fitsNext, resized, fitOf, effectOf, stateAfter, reportOf}
-use Rattle.exchange.specs.Session.{taken, replyBytes, breaks}
+use Rattle.exchange.specs.Turn.{wanted, fits_next, resized, fit_of, effect_of, state_after, report_of}
+use Rattle.exchange.specs.Session.{taken, reply_bytes, breaks}
 use Rattle.exchange.proofs.Left.{closed}
-use Rattle.exchange.proofs.Moves.{stateBy}
+use Rattle.exchange.proofs.Moves.{state_by}
 use Rattle.exchange.proofs.Takes.{takes}
 use Rattle.exchange.proofs.Turns.{Turned, turned_by}
 
@@ -26,11 +26,11 @@ not_same false true e = absurd (true≢false e)
 not_same false false e = refl
 
 -- whether it counts
-pub made-taken : (st : List ℕ) (a : Reply) (n : ℕ) → taken st a n ≡ (effectOf (fitOf st a n)).counts
-unfolding reportOf
-made-taken st a n = not_same _ _ (sym (takes st a n) ∙ go (fitOf st a n))
+pub made_taken : (st : List ℕ) (a : Reply) (n : ℕ) → taken st a n ≡ (effect_of (fit_of st a n)).counts
+unfolding report_of
+made_taken st a n = not_same _ _ (sym (takes st a n) ∙ go (fit_of st a n))
   where
-    go : (f : Fit) → eqb (effectOf f).number 19 ≡ not (effectOf f).counts
+    go : (f : Fit) → eqb (effect_of f).number 19 ≡ not (effect_of f).counts
     go Unfit = refl
     go (Broke code) = refl
     go Went = refl
@@ -39,36 +39,36 @@ made-taken st a n = not_same _ _ (sym (takes st a n) ∙ go (fitOf st a n))
     go (Wrong b) = refl
 
 -- the byte that comes with it
-came-by : (k : Bool) (l : List Step) (a : Reply) → cond (effectOf (cond k Unfit (fitsNext l a))).counts (replyBytes a) [] ≡ (effectOf (cond k Unfit (fitsNext l a))).came
-came-by true l a = refl
-came-by false [] a = refl
-came-by false (x ∷ xs) (Failed code) = refl
-came-by false (x ∷ xs) Done = go (eqb (wanted x) 0)
+came_by : (k : Bool) (l : List Step) (a : Reply) → cond (effect_of (cond k Unfit (fits_next l a))).counts (reply_bytes a) [] ≡ (effect_of (cond k Unfit (fits_next l a))).came
+came_by true l a = refl
+came_by false [] a = refl
+came_by false (x ∷ xs) (Failed code) = refl
+came_by false (x ∷ xs) Done = go (eqb (wanted x) 0)
   where
-    go : (w : Bool) → cond (effectOf (cond w Went Unfit)).counts [] [] ≡ (effectOf (cond w Went Unfit)).came
+    go : (w : Bool) → cond (effect_of (cond w Went Unfit)).counts [] [] ≡ (effect_of (cond w Went Unfit)).came
     go true = refl
     go false = refl
-came-by false (Write r v ∷ xs) (Byte b) = refl
-came-by false (Read r ∷ xs) (Byte b) = refl
-came-by false (Update r s w v ∷ xs) (Byte b) = refl
-came-by false (Match r v ∷ xs) (Byte b) = go (eqb b v)
+came_by false (Write r v ∷ xs) (Byte b) = refl
+came_by false (Read r ∷ xs) (Byte b) = refl
+came_by false (Update r s w v ∷ xs) (Byte b) = refl
+came_by false (Match r v ∷ xs) (Byte b) = go (eqb b v)
   where
-    go : (q : Bool) → cond (effectOf (cond q (Got b) (Wrong b))).counts (b ∷ []) [] ≡ (effectOf (cond q (Got b) (Wrong b))).came
+    go : (q : Bool) → cond (effect_of (cond q (Got b) (Wrong b))).counts (b ∷ []) [] ≡ (effect_of (cond q (Got b) (Wrong b))).came
     go true = refl
     go false = refl
-came-by false (Chunk i n ∷ xs) (Byte b) = refl
-came-by false (Store i ∷ xs) (Byte b) = refl
+came_by false (Chunk i n ∷ xs) (Byte b) = refl
+came_by false (Store i ∷ xs) (Byte b) = refl
 
-pub came-taken : (st : List ℕ) (a : Reply) (n : ℕ) → cond (taken st a n) (replyBytes a) [] ≡ (effectOf (fitOf st a n)).came
-unfolding fitOf
-came-taken st a n = ap (λ (k : Bool). cond k (replyBytes a) []) (made-taken st a n) ∙ came-by (resized st n) (left st) a
+pub came_taken : (st : List ℕ) (a : Reply) (n : ℕ) → cond (taken st a n) (reply_bytes a) [] ≡ (effect_of (fit_of st a n)).came
+unfolding fit_of
+came_taken st a n = ap (λ (k : Bool). cond k (reply_bytes a) []) (made_taken st a n) ∙ came_by (resized st n) (left st) a
 
 -- whether it breaks the session off
-pub stage-breaks : (st : List ℕ) (a : Reply) (n : ℕ) → breaks (reportOf st a n).number ≡ eqb (effectOf (fitOf st a n)).stage 2
-unfolding reportOf
-stage-breaks st a n = go (fitOf st a n)
+pub stage_breaks : (st : List ℕ) (a : Reply) (n : ℕ) → breaks (report_of st a n).number ≡ eqb (effect_of (fit_of st a n)).stage 2
+unfolding report_of
+stage_breaks st a n = go (fit_of st a n)
   where
-    go : (f : Fit) → breaks (effectOf f).number ≡ eqb (effectOf f).stage 2
+    go : (f : Fit) → breaks (effect_of f).number ≡ eqb (effect_of f).stage 2
     go Unfit = refl
     go (Broke code) = refl
     go Went = refl
@@ -77,11 +77,11 @@ stage-breaks st a n = go (fitOf st a n)
     go (Wrong b) = refl
 
 -- only 17 has a code
-pub quiet : (st : List ℕ) (a : Reply) (n : ℕ) → eqb (reportOf st a n).number 17 ≡ false → (reportOf st a n).code ≡ 0
-unfolding reportOf
-quiet st a n = go (fitOf st a n)
+pub quiet : (st : List ℕ) (a : Reply) (n : ℕ) → eqb (report_of st a n).number 17 ≡ false → (report_of st a n).code ≡ 0
+unfolding report_of
+quiet st a n = go (fit_of st a n)
   where
-    go : (f : Fit) → eqb (effectOf f).number 17 ≡ false → (effectOf f).code ≡ 0
+    go : (f : Fit) → eqb (effect_of f).number 17 ≡ false → (effect_of f).code ≡ 0
     go Unfit e = refl
     go (Broke code) e = absurd (true≢false e)
     go Went e = refl
@@ -90,12 +90,12 @@ quiet st a n = go (fitOf st a n)
     go (Wrong b) e = refl
 
 -- 16 and 17 leave no step, and the session is not completed
-pub ends : (st : List ℕ) (a : Reply) (n : ℕ) → breaks (reportOf st a n).number ≡ true → (left (stateAfter st a n) ≡ []) × (completed (stateAfter st a n) ≡ false)
-unfolding reportOf stateAfter fitOf
-ends st a n = go (cond (resized st n) Unfit (fitsNext (left st) a)) (turned_by st (resized st n) (left st) refl a)
+pub ends : (st : List ℕ) (a : Reply) (n : ℕ) → breaks (report_of st a n).number ≡ true → (left (state_after st a n) ≡ []) × (completed (state_after st a n) ≡ false)
+unfolding report_of state_after fit_of
+ends st a n = go (cond (resized st n) Unfit (fits_next (left st) a)) (turned_by st (resized st n) (left st) refl a)
   where
-    go : (f : Fit) → Turned f st (stateBy st (effectOf f)) → breaks (effectOf f).number ≡ true →
-        (left (stateBy st (effectOf f)) ≡ []) × (completed (stateBy st (effectOf f)) ≡ false)
+    go : (f : Fit) → Turned f st (state_by st (effect_of f)) → breaks (effect_of f).number ≡ true →
+        (left (state_by st (effect_of f)) ≡ []) × (completed (state_by st (effect_of f)) ≡ false)
     go Unfit m h = absurd (true≢false (sym h))
     go (Broke code) m h = closed _ m.opened
     go Went m h = absurd (true≢false (sym h))

@@ -9,12 +9,12 @@ use lib.ListN.{length, take}
 use lib.Seq.{take-take}
 use Rattle.exchange.specs.declared.Fit.{Fit}
 use Rattle.exchange.specs.declared.Fit.TheVariants.{Unfit, Broke, Went, Got, Kept, Wrong}
-use Rattle.exchange.specs.State.{isSession, readCount, purposeIn, roomIn, recordIn}
-use Rattle.exchange.specs.Turn.{fitOf, effectOf, moved, stateAfter}
-use Rattle.exchange.specs.Session.{AnswerCall, afterCall, final, came}
-use Rattle.exchange.proofs.Latest.{bytesRead}
-use Rattle.exchange.proofs.Effects.{came-taken}
-use Rattle.exchange.proofs.Moves.{latest, moves, stateBy}
+use Rattle.exchange.specs.State.{is_session, read_count, purpose_in, room_in, record_in}
+use Rattle.exchange.specs.Turn.{fit_of, effect_of, moved, state_after}
+use Rattle.exchange.specs.Session.{AnswerCall, after_call, final, came}
+use Rattle.exchange.proofs.Latest.{bytes_read}
+use Rattle.exchange.proofs.Effects.{came_taken}
+use Rattle.exchange.proofs.Moves.{latest, moves, state_by}
 
 -- of bytes behind others no more than n show among the first n
 first_more : (n b : ℕ) (l : List ℕ) → take n (b ∷ take n l) ≡ take n (b ∷ l)
@@ -31,46 +31,46 @@ enough (b ∷ bytes) n l =
 
 -- what the operation is for, and the bytes read with those that came
 pub record Keeps (st t bytes : List ℕ) : Type 0 where
-  pub session : isSession t ≡ true
-  pub purpose : purposeIn t ≡ purposeIn st
-  pub «record» : recordIn t ≡ recordIn st
-  pub reads : readCount t ≡ readCount st
-  pub room : roomIn t ≡ roomIn st
-  pub shows : bytesRead t ≡ take 3 (reverse_aux bytes (bytesRead st))
+  pub session : is_session t ≡ true
+  pub purpose : purpose_in t ≡ purpose_in st
+  pub «record» : record_in t ≡ record_in st
+  pub reads : read_count t ≡ read_count st
+  pub room : room_in t ≡ room_in st
+  pub shows : bytes_read t ≡ take 3 (reverse_aux bytes (bytes_read st))
 
-module _ (st : List ℕ) (s : isSession st ≡ true) where
+module _ (st : List ℕ) (s : is_session st ≡ true) where
   -- nothing
-  keeps-all : Keeps st st []
-  keeps-all = record { session = s; purpose = refl; «record» = refl; reads = refl; room = refl; shows = rw s }
+  keeps_all : Keeps st st []
+  keeps_all = record { session = s; purpose = refl; «record» = refl; reads = refl; room = refl; shows = rw s }
 
   -- a move that takes in these bytes
-  keeps-moved : (w : ℕ) (bytes : List ℕ) → latest st bytes ≡ take 3 (reverse_aux bytes (bytesRead st)) → Keeps st (moved st w bytes) bytes
-  keeps-moved w bytes e =
+  keeps_moved : (w : ℕ) (bytes : List ℕ) → latest st bytes ≡ take 3 (reverse_aux bytes (bytes_read st)) → Keeps st (moved st w bytes) bytes
+  keeps_moved w bytes e =
       let m = moves st w bytes s in
       record { session = m.session; purpose = m.purpose; «record» = m.«record»; reads = m.reads; room = m.room; shows = m.shows ∙ e }
 
   -- by how the answer fits
-  keeps-by : (f : Fit) → Keeps st (stateBy st (effectOf f)) (effectOf f).came
-  keeps-by Unfit = keeps-all
-  keeps-by (Broke code) = keeps-moved 2 [] (rw s)
-  keeps-by Went = keeps-moved 1 [] (rw s)
-  keeps-by (Got b) = keeps-moved 1 (b ∷ []) (rw s)
-  keeps-by (Kept i b) = keeps-moved 1 (b ∷ []) (rw s)
-  keeps-by (Wrong b) = keeps-moved 2 (b ∷ []) (rw s)
+  keeps_by : (f : Fit) → Keeps st (state_by st (effect_of f)) (effect_of f).came
+  keeps_by Unfit = keeps_all
+  keeps_by (Broke code) = keeps_moved 2 [] (rw s)
+  keeps_by Went = keeps_moved 1 [] (rw s)
+  keeps_by (Got b) = keeps_moved 1 (b ∷ []) (rw s)
+  keeps_by (Kept i b) = keeps_moved 1 (b ∷ []) (rw s)
+  keeps_by (Wrong b) = keeps_moved 2 (b ∷ []) (rw s)
 
 -- the bytes that came with the first answer, and those after it
-came-more : (first bytes earlier : List ℕ) → reverse_aux bytes (reverse_aux first earlier) ≡ reverse_aux (first ++ bytes) earlier
-came-more [] bytes earlier = refl
-came-more (b ∷ first) bytes earlier = came-more first bytes (b ∷ earlier)
+came_more : (first bytes earlier : List ℕ) → reverse_aux bytes (reverse_aux first earlier) ≡ reverse_aux (first ++ bytes) earlier
+came_more [] bytes earlier = refl
+came_more (b ∷ first) bytes earlier = came_more first bytes (b ∷ earlier)
 
 -- every list of answers
-pub keeps : (cs : List AnswerCall) (st : List ℕ) → isSession st ≡ true → Keeps st (final st cs) (came st cs)
-unfolding afterCall stateAfter
-keeps [] st s = keeps-all st s
+pub keeps : (cs : List AnswerCall) (st : List ℕ) → is_session st ≡ true → Keeps st (final st cs) (came st cs)
+unfolding after_call state_after
+keeps [] st s = keeps_all st s
 keeps (c ∷ cs) st s =
-    let first = (effectOf (fitOf st c.reply (length c.buffer))).came in
-    let t = afterCall st c in
-    let k = keeps-by st s (fitOf st c.reply (length c.buffer)) in
+    let first = (effect_of (fit_of st c.reply (length c.buffer))).came in
+    let t = after_call st c in
+    let k = keeps_by st s (fit_of st c.reply (length c.buffer)) in
     let m = keeps cs t k.session in
     record {
       session = m.session;
@@ -81,7 +81,7 @@ keeps (c ∷ cs) st s =
       shows =
           m.shows
           ∙ ap (λ (l : List ℕ). take 3 (reverse_aux (came t cs) l)) k.shows
-          ∙ enough (came t cs) 3 (reverse_aux first (bytesRead st))
-          ∙ ap (take 3) (came-more first (came t cs) (bytesRead st))
-          ∙ ap (λ (l : List ℕ). take 3 (reverse_aux (l ++ came t cs) (bytesRead st))) (sym (came-taken st c.reply (length c.buffer)));
+          ∙ enough (came t cs) 3 (reverse_aux first (bytes_read st))
+          ∙ ap (take 3) (came_more first (came t cs) (bytes_read st))
+          ∙ ap (λ (l : List ℕ). take 3 (reverse_aux (l ++ came t cs) (bytes_read st))) (sym (came_taken st c.reply (length c.buffer)));
     }

@@ -12,81 +12,81 @@ use Rattle.exchange.specs.declared.Step.{Step}
 use Rattle.exchange.specs.declared.Step.TheVariants.{Store}
 use Rattle.exchange.specs.declared.Slot.{Slot}
 use Rattle.exchange.specs.declared.Slot.TheVariants.{Idle, At}
-use Rattle.exchange.specs.State.{isSession, isUnbroken, madeIn, stepCount, readCount, encodedStep, stepIn, indexed, plan, left, completed, slotOf}
+use Rattle.exchange.specs.State.{is_session, is_unbroken, made_in, step_count, read_count, encoded_step, step_in, indexed, plan, left, completed, slot_of}
 
 -- ---- `indexed`
 
-pub indexed-same : {A : Type 0} (f : ℕ → A) (i j n m : ℕ) → i ≡ j → n ≡ m → indexed f i n ≡ indexed f j m
-indexed-same f i j n m e h = ap (λ (k : ℕ). indexed f k n) e ∙ ap (indexed f j) h
+pub indexed_same : {A : Type 0} (f : ℕ → A) (i j n m : ℕ) → i ≡ j → n ≡ m → indexed f i n ≡ indexed f j m
+indexed_same f i j n m e h = ap (λ (k : ℕ). indexed f k n) e ∙ ap (indexed f j) h
 
 -- without the first k, it starts k later
-pub drop-indexed : {A : Type 0} (f : ℕ → A) (k i n : ℕ) → drop k (indexed f i n) ≡ indexed f (i + k) (n - k)
-drop-indexed f zero i n = indexed-same f i (i + zero) n (n - zero) (omega arith) (omega arith)
-drop-indexed f (suc k) i zero = indexed-same f (i + suc k) (i + suc k) zero (zero - suc k) refl (omega arith)
-drop-indexed f (suc k) i (suc n) = drop-indexed f k (suc i) n ∙ indexed-same f (suc i + k) (i + suc k) (n - k) (suc n - suc k) (omega arith) (omega arith)
+pub drop_indexed : {A : Type 0} (f : ℕ → A) (k i n : ℕ) → drop k (indexed f i n) ≡ indexed f (i + k) (n - k)
+drop_indexed f zero i n = indexed_same f i (i + zero) n (n - zero) (omega arith) (omega arith)
+drop_indexed f (suc k) i zero = indexed_same f (i + suc k) (i + suc k) zero (zero - suc k) refl (omega arith)
+drop_indexed f (suc k) i (suc n) = drop_indexed f k (suc i) n ∙ indexed_same f (suc i + k) (i + suc k) (n - k) (suc n - suc k) (omega arith) (omega arith)
 
 -- ---- `left`
 
 -- bytes of another length are no open session, nor are those of another stage
-pub no-session : (st : List ℕ) → (length st ≡ 280 → ⊥) → isUnbroken st ≡ false
-no-session st h = simp (ne_eqb _ _ h)
+pub no_session : (st : List ℕ) → (length st ≡ 280 → ⊥) → is_unbroken st ≡ false
+no_session st h = simp (ne_eqb _ _ h)
 
-pub not-begun : (st : List ℕ) → (at st 1 ≡ 1 → ⊥) → isUnbroken st ≡ false
-not-begun st h = ap (λ (t : Bool). isSession st && t) (ne_eqb _ _ h) ∙ and-false (isSession st)
+pub not_begun : (st : List ℕ) → (at st 1 ≡ 1 → ⊥) → is_unbroken st ≡ false
+not_begun st h = ap (λ (t : Bool). is_session st && t) (ne_eqb _ _ h) ∙ and-false (is_session st)
 
-pub opened : (st : List ℕ) → length st ≡ 280 → at st 1 ≡ 1 → isUnbroken st ≡ true
+pub opened : (st : List ℕ) → length st ≡ 280 → at st 1 ≡ 1 → is_unbroken st ≡ true
 opened st l h = simp (eq-eqb _ _ l, eq-eqb _ _ h)
 
 -- no step is left of one that is not open, and it is not completed
-pub left-closed : (st : List ℕ) → isUnbroken st ≡ false → left st ≡ []
+pub left_closed : (st : List ℕ) → is_unbroken st ≡ false → left st ≡ []
 unfolding left
-left-closed st h = ap (λ (t : Bool). cond t (drop (madeIn st) (plan st)) []) h
+left_closed st h = ap (λ (t : Bool). cond t (drop (made_in st) (plan st)) []) h
 
-pub closed : (st : List ℕ) → isUnbroken st ≡ false → (left st ≡ []) × (completed st ≡ false)
+pub closed : (st : List ℕ) → is_unbroken st ≡ false → (left st ≡ []) × (completed st ≡ false)
 unfolding completed
-closed st h = (left-closed st h, ap (λ (t : Bool). t && leb (stepCount st + readCount st) (madeIn st)) h)
+closed st h = (left_closed st h, ap (λ (t : Bool). t && leb (step_count st + read_count st) (made_in st)) h)
 
-module _ (st : List ℕ) (o : isUnbroken st ≡ true) where
+module _ (st : List ℕ) (o : is_unbroken st ≡ true) where
   -- what is left of one that is open
-  left-rest : left st ≡ indexed (stepIn st) (madeIn st) (stepCount st + readCount st - madeIn st)
+  left_rest : left st ≡ indexed (step_in st) (made_in st) (step_count st + read_count st - made_in st)
   unfolding left
-  left-rest =
-      ap (λ (t : Bool). cond t (drop (madeIn st) (plan st)) []) o
-      ∙ drop-indexed (stepIn st) (madeIn st) 0 (stepCount st + readCount st)
-      ∙ indexed-same (stepIn st) (0 + madeIn st) (madeIn st) (stepCount st + readCount st - madeIn st) (stepCount st + readCount st - madeIn st) (omega arith) refl
+  left_rest =
+      ap (λ (t : Bool). cond t (drop (made_in st) (plan st)) []) o
+      ∙ drop_indexed (step_in st) (made_in st) 0 (step_count st + read_count st)
+      ∙ indexed_same (step_in st) (0 + made_in st) (made_in st) (step_count st + read_count st - made_in st) (step_count st + read_count st - made_in st) (omega arith) refl
 
   -- where all were made, none is left
-  pub left-none : stepCount st + readCount st ≤ madeIn st → left st ≡ []
-  left-none n = left-rest ∙ indexed-same (stepIn st) (madeIn st) (madeIn st) (stepCount st + readCount st - madeIn st) zero refl (omega arith)
+  pub left_none : step_count st + read_count st ≤ made_in st → left st ≡ []
+  left_none n = left_rest ∙ indexed_same (step_in st) (made_in st) (made_in st) (step_count st + read_count st - made_in st) zero refl (omega arith)
 
   -- else one is, and those behind it
-  left-next : madeIn st < stepCount st + readCount st →
-      left st ≡ stepIn st (madeIn st) ∷ indexed (stepIn st) (suc (madeIn st)) (stepCount st + readCount st - suc (madeIn st))
-  left-next n =
-      left-rest
-      ∙ indexed-same (stepIn st) (madeIn st) (madeIn st) (stepCount st + readCount st - madeIn st) (suc (stepCount st + readCount st - suc (madeIn st))) refl (omega arith)
+  left_next : made_in st < step_count st + read_count st →
+      left st ≡ step_in st (made_in st) ∷ indexed (step_in st) (suc (made_in st)) (step_count st + read_count st - suc (made_in st))
+  left_next n =
+      left_rest
+      ∙ indexed_same (step_in st) (made_in st) (made_in st) (step_count st + read_count st - made_in st) (suc (step_count st + read_count st - suc (made_in st))) refl (omega arith)
 
   -- an encoded step comes next, or a memory read
-  pub slot-encoded : madeIn st < stepCount st → At (encodedStep st (madeIn st)) ≡ slotOf (left st)
-  slot-encoded k = sym (ap slotOf (left-next (omega (arith, k))) ∙ ap (λ (t : Bool). At (cond t (encodedStep st (madeIn st)) (Store (madeIn st - stepCount st)))) (lt-ltb _ _ k))
+  pub slot_encoded : made_in st < step_count st → At (encoded_step st (made_in st)) ≡ slot_of (left st)
+  slot_encoded k = sym (ap slot_of (left_next (omega (arith, k))) ∙ ap (λ (t : Bool). At (cond t (encoded_step st (made_in st)) (Store (made_in st - step_count st)))) (lt-ltb _ _ k))
 
-  pub slot-store : stepCount st ≤ madeIn st → madeIn st < stepCount st + readCount st → At (Store (madeIn st - stepCount st)) ≡ slotOf (left st)
-  slot-store k n = sym (ap slotOf (left-next n) ∙ ap (λ (t : Bool). At (cond t (encodedStep st (madeIn st)) (Store (madeIn st - stepCount st)))) (le-ltb _ _ k))
+  pub slot_store : step_count st ≤ made_in st → made_in st < step_count st + read_count st → At (Store (made_in st - step_count st)) ≡ slot_of (left st)
+  slot_store k n = sym (ap slot_of (left_next n) ∙ ap (λ (t : Bool). At (cond t (encoded_step st (made_in st)) (Store (made_in st - step_count st)))) (le-ltb _ _ k))
 
 -- ---- where a session stands
 
-pub idle-none : (xs : List Step) → slotOf xs ≡ Idle → xs ≡ []
-idle-none [] e = refl
-idle-none (x ∷ xs) e = absurd (subst isAt e tt) where
-  isAt : Slot → Type 0
-  isAt Idle = ⊥
-  isAt (At y) = Unit
+pub idle_none : (xs : List Step) → slot_of xs ≡ Idle → xs ≡ []
+idle_none [] e = refl
+idle_none (x ∷ xs) e = absurd (subst is_at e tt) where
+  is_at : Slot → Type 0
+  is_at Idle = ⊥
+  is_at (At y) = Unit
 
-pub at_some : (xs : List Step) (x : Step) → slotOf xs ≡ At x → xs ≡ x ∷ drop 1 xs
-at_some [] x e = absurd (subst isIdle e tt) where
-  isIdle : Slot → Type 0
-  isIdle Idle = Unit
-  isIdle (At y) = ⊥
+pub at_some : (xs : List Step) (x : Step) → slot_of xs ≡ At x → xs ≡ x ∷ drop 1 xs
+at_some [] x e = absurd (subst is_idle e tt) where
+  is_idle : Slot → Type 0
+  is_idle Idle = Unit
+  is_idle (At y) = ⊥
 at_some (y ∷ xs) x e = ap (λ (s : Slot). first s ∷ xs) e where
   first : Slot → Step
   first Idle = y

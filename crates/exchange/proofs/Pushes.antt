@@ -9,73 +9,73 @@ use lib.ListN.{length, replicate, length-append, replicate-append-replicate}
 use lib.Seq.{append_snoc}
 use borrow.Author.Tests.{eq-eqb, lt-ltb}
 use Rattle.laws.specs.Copied.{over}
-use Rattle.laws.proofs.Copies.{over-at}
+use Rattle.laws.proofs.Copies.{over_at}
 use Rattle.laws.specs.Lists.{joined}
 use Rattle.exchange.specs.declared.Step.{Step}
-use Rattle.exchange.specs.Steps.{stepBytes}
-use Rattle.exchange.specs.State.{isSession, headOf, Begun, begunBytes, begunIn, pushed, pushedAll}
-use Rattle.exchange.proofs.Plan.{length-step, length-joined}
+use Rattle.exchange.specs.Steps.{step_bytes}
+use Rattle.exchange.specs.State.{is_session, head_of, Begun, begun_bytes, begun_in, pushed, pushed_all}
+use Rattle.exchange.proofs.Plan.{length_step, length_joined}
 use Rattle.exchange.proofs.Begins.{size}
 
 -- pushing some and then others is pushing them all
-pub push-append : (xs ys : List Step) (st : List ℕ) → pushedAll st (xs ++ ys) ≡ pushedAll (pushedAll st xs) ys
-push-append [] ys st = refl
-push-append (x ∷ xs) ys st = push-append xs ys (pushed st x)
+pub push_append : (xs ys : List Step) (st : List ℕ) → pushed_all st (xs ++ ys) ≡ pushed_all (pushed_all st xs) ys
+push_append [] ys st = refl
+push_append (x ∷ xs) ys st = push_append xs ys (pushed st x)
 
 -- the bytes of steps, and of one more
-joined-more : (xs : List Step) (x : Step) → joined (map stepBytes (xs ++ (x ∷ []))) ≡ joined (map stepBytes xs) ++ stepBytes x
-joined-more [] x = append-nil (stepBytes x)
-joined-more (y ∷ xs) x = ap (λ (l : List ℕ). stepBytes y ++ l) (joined-more xs x) ∙ sym (append_assoc (stepBytes y) (joined (map stepBytes xs)) (stepBytes x))
+joined_more : (xs : List Step) (x : Step) → joined (map step_bytes (xs ++ (x ∷ []))) ≡ joined (map step_bytes xs) ++ step_bytes x
+joined_more [] x = append-nil (step_bytes x)
+joined_more (y ∷ xs) x = ap (λ (l : List ℕ). step_bytes y ++ l) (joined_more xs x) ∙ sym (append_assoc (step_bytes y) (joined (map step_bytes xs)) (step_bytes x))
 
 -- the zeros behind n steps, of which five go to one more
 abbrev zeros : ℕ → List ℕ
 zeros n = replicate (125 - 5 * n) 0
 
-zeros-more : (n : ℕ) → n < 25 → zeros n ≡ replicate 5 0 ++ zeros (n + 1)
-zeros-more n h =
+zeros_more : (n : ℕ) → n < 25 → zeros n ≡ replicate 5 0 ++ zeros (n + 1)
+zeros_more n h =
     let k : 5 + (125 - 5 * (n + 1)) ≡ 125 - 5 * n = omega arith in
     sym (replicate-append-replicate {A = ℕ} 5 (125 - 5 * (n + 1)) 0 ∙ ap (λ (m : ℕ). replicate m 0) k)
 
 -- bytes of another length take no step
-push-none : (ys : List Step) (st : List ℕ) → isSession st ≡ false → pushedAll st ys ≡ st
+push_none : (ys : List Step) (st : List ℕ) → is_session st ≡ false → pushed_all st ys ≡ st
 unfolding pushed
-push-none [] st s = refl
-push-none (y ∷ ys) st s = rw s (push-none ys st s)
+push_none [] st s = refl
+push_none (y ∷ ys) st s = rw s (push_none ys st s)
 
 module _ (b : Begun) (image : length b.image ≡ 100) (recorded : length b.«record» ≡ 38) where
   -- what stands before the steps, where there are n
   abbrev front : ℕ → List ℕ
-  front n = headOf b n ++ b.image ++ b.«record»
+  front n = head_of b n ++ b.image ++ b.«record»
 
   -- one step more
-  push-one : (xs : List Step) (x : Step) → length xs < 25 → pushed (begunBytes b xs) x ≡ begunBytes b (xs ++ (x ∷ []))
+  push_one : (xs : List Step) (x : Step) → length xs < 25 → pushed (begun_bytes b xs) x ≡ begun_bytes b (xs ++ (x ∷ []))
   unfolding pushed
-  push-one xs x h =
+  push_one xs x h =
       let n = length xs in
-      let p = front (n + 1) ++ joined (map stepBytes xs) in
-      let e : length p ≡ 155 + 5 * n = simp (length-append, length-joined, image, recorded) (omega arith) in
+      let p = front (n + 1) ++ joined (map step_bytes xs) in
+      let e : length p ≡ 155 + 5 * n = simp (length-append, length_joined, image, recorded) (omega arith) in
       let m : n + 1 ≡ length (xs ++ (x ∷ [])) = sym (length-append xs (x ∷ [])) in
-      let k = ap (λ (z : List ℕ). over (p ++ z) (155 + 5 * n) (stepBytes x)) (zeros-more n h) in
-      let o = over-at p (replicate 5 0) (zeros (n + 1)) (stepBytes x) (155 + 5 * n) e (sym (length-step x)) in
-      let a = append_assoc (front (n + 1)) (joined (map stepBytes xs)) (stepBytes x) in
-      let j = sym (joined-more xs x) in
+      let k = ap (λ (z : List ℕ). over (p ++ z) (155 + 5 * n) (step_bytes x)) (zeros_more n h) in
+      let o = over_at p (replicate 5 0) (zeros (n + 1)) (step_bytes x) (155 + 5 * n) e (sym (length_step x)) in
+      let a = append_assoc (front (n + 1)) (joined (map step_bytes xs)) (step_bytes x) in
+      let j = sym (joined_more xs x) in
       rw (eq-eqb _ _ (size b xs (omega arith) image recorded), lt-ltb _ _ h) (k ∙ o ∙ (λ t. a t ++ zeros (n + 1)) ∙ (λ t. front (m t) ++ j t ++ zeros (m t)))
 
   -- one after another
-  push-more : (ys xs : List Step) → length (xs ++ ys) ≤ 25 → pushedAll (begunBytes b xs) ys ≡ begunBytes b (xs ++ ys)
-  push-more [] xs h = ap (begunBytes b) (sym (append-nil xs))
-  push-more (y ∷ ys) xs h =
+  push_more : (ys xs : List Step) → length (xs ++ ys) ≤ 25 → pushed_all (begun_bytes b xs) ys ≡ begun_bytes b (xs ++ ys)
+  push_more [] xs h = ap (begun_bytes b) (sym (append-nil xs))
+  push_more (y ∷ ys) xs h =
       let e : xs ++ (y ∷ []) ++ ys ≡ xs ++ y ∷ ys = append_snoc xs y ys in
-      ap (λ (l : List ℕ). pushedAll l ys) (push-one xs y (omega (arith, length-append xs (y ∷ ys))))
-      ∙ push-more ys (xs ++ (y ∷ [])) (rw e h)
-      ∙ ap (begunBytes b) e
+      ap (λ (l : List ℕ). pushed_all l ys) (push_one xs y (omega (arith, length-append xs (y ∷ ys))))
+      ∙ push_more ys (xs ++ (y ∷ [])) (rw e h)
+      ∙ ap (begun_bytes b) e
 
 -- also where the bytes are no session
 pub pushes : (st : List ℕ) (b : Begun) (xs ys : List Step) → length b.image ≡ 100 → length b.«record» ≡ 38 → length (xs ++ ys) ≤ 25 →
-    pushedAll (begunIn st b xs) ys ≡ begunIn st b (xs ++ ys)
-unfolding begunIn
-pushes st b xs ys image recorded h = go (isSession st) refl
+    pushed_all (begun_in st b xs) ys ≡ begun_in st b (xs ++ ys)
+unfolding begun_in
+pushes st b xs ys image recorded h = go (is_session st) refl
   where
-    go : (s : Bool) → isSession st ≡ s → pushedAll (cond s (begunBytes b xs) st) ys ≡ cond s (begunBytes b (xs ++ ys)) st
-    go true e = push-more b image recorded ys xs h
-    go false e = push-none ys st e
+    go : (s : Bool) → is_session st ≡ s → pushed_all (cond s (begun_bytes b xs) st) ys ≡ cond s (begun_bytes b (xs ++ ys)) st
+    go true e = push_more b image recorded ys xs h
+    go false e = push_none ys st e

@@ -2,8 +2,8 @@
 -- Assumes nothing.
 use mathlib.Core.Path.{ap}
 use mathlib.Core.Bool.{Bool, cond}
-use Rattle.exchange.specs.State.{madeIn}
-use Rattle.exchange.specs.Turn.{pendingFor}
+use Rattle.exchange.specs.State.{made_in}
+use Rattle.exchange.specs.Turn.{pending_for}
 use Rattle.exchange.specs.Session.{Session}
 use Rattle.exchange.proofs.Order.{follows}
 use Rattle.exchange.proofs.Turns.{refused}
@@ -14,13 +14,13 @@ use Rattle.exchange.proofs.Ends.{whole}
 
 pub session : Session
 session = record {
-  hands = λ st x xs e. ap (pendingFor st) e;
+  hands = λ st x xs e. ap (pending_for st) e;
   order = λ st cs. (follows cs st).order;
   count = λ st cs. (follows cs st).count;
   within = λ st cs. (follows cs st).within;
   end = λ st cs. (follows cs st).remaining;
   closed = closed;
-  uncounted = λ st h. ap (λ (b : Bool). cond b (madeIn st) 0) h;
+  uncounted = λ st h. ap (λ (b : Bool). cond b (made_in st) 0) h;
   completes = whole;
   takes = takes;
   fails = fails;

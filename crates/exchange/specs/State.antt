@@ -7,73 +7,73 @@
 --   3 the last three bytes read, the newest first
 use Rattle.std.specs.Prelude.{ℕ, suc, zero, ◌+◌, ◌-◌, ◌*◌, min, Bool, true, false, cond, ◌&&◌, List, [], ◌∷◌, ◌++◌, map, ltb, leb, eqb, length, take, drop, set, replicate}
 use Rattle.laws.specs.Copied.{over}
-use Rattle.laws.specs.Lists.{joined, at, lowBytes}
+use Rattle.laws.specs.Lists.{joined, at, low_bytes}
 use Rattle.exchange.specs.declared.Slot.{Slot}
 use Rattle.exchange.specs.declared.Slot.TheVariants.{Idle, At}
 use Rattle.exchange.specs.declared.Step.{Step}
 use Rattle.exchange.specs.declared.Step.TheVariants.{Store}
-use Rattle.exchange.specs.Steps.{stepOf, stepBytes}
+use Rattle.exchange.specs.Steps.{step_of, step_bytes}
 
-abbrev pub isSession : List ℕ → Bool
-isSession st = eqb (length st) 280
+abbrev pub is_session : List ℕ → Bool
+is_session st = eqb (length st) 280
 
 -- ---- what the bytes say
 
-abbrev pub addressIn : List ℕ → ℕ
-addressIn st = at st 0
+abbrev pub address_in : List ℕ → ℕ
+address_in st = at st 0
 
-abbrev pub isBegun : List ℕ → Bool
-isBegun st = isSession st && ltb 0 (at st 1)
+abbrev pub is_begun : List ℕ → Bool
+is_begun st = is_session st && ltb 0 (at st 1)
 
 -- begun, and not broken off
-abbrev pub isUnbroken : List ℕ → Bool
-isUnbroken st = isSession st && eqb (at st 1) 1
+abbrev pub is_unbroken : List ℕ → Bool
+is_unbroken st = is_session st && eqb (at st 1) 1
 
-abbrev pub madeIn : List ℕ → ℕ
-madeIn st = at st 2
+abbrev pub made_in : List ℕ → ℕ
+made_in st = at st 2
 
 -- "The count of exchanges made"
-abbrev pub countIn : List ℕ → ℕ
-countIn st = cond (isBegun st) (madeIn st) 0
+abbrev pub count_in : List ℕ → ℕ
+count_in st = cond (is_begun st) (made_in st) 0
 
 -- the byte read last
-abbrev pub lastIn : List ℕ → ℕ
-lastIn st = at st 3
+abbrev pub last_in : List ℕ → ℕ
+last_in st = at st 3
 
-abbrev pub stepCount : List ℕ → ℕ
-stepCount st = min (at st 6) 25
+abbrev pub step_count : List ℕ → ℕ
+step_count st = min (at st 6) 25
 
-abbrev pub readCount : List ℕ → ℕ
-readCount st = min (at st 7) 100
+abbrev pub read_count : List ℕ → ℕ
+read_count st = min (at st 7) 100
 
 -- least byte first
-abbrev pub wordAt : List ℕ → ℕ → ℕ
-wordAt st i = at st i + 256 * at st (i + 1) + 65536 * at st (i + 2) + 16777216 * at st (i + 3)
+abbrev pub word_at : List ℕ → ℕ → ℕ
+word_at st i = at st i + 256 * at st (i + 1) + 65536 * at st (i + 2) + 16777216 * at st (i + 3)
 
 -- the length that the read buffer had at the start
-abbrev pub roomIn : List ℕ → ℕ
-roomIn st = wordAt st 8 + 4294967296 * wordAt st 12
+abbrev pub room_in : List ℕ → ℕ
+room_in st = word_at st 8 + 4294967296 * word_at st 12
 
 -- a code of `outcome`
-abbrev pub purposeIn : List ℕ → ℕ
-purposeIn st = at st 16
+abbrev pub purpose_in : List ℕ → ℕ
+purpose_in st = at st 16
 
-abbrev pub imageIn : List ℕ → List ℕ
-imageIn st = take 100 (drop 17 st)
+abbrev pub image_in : List ℕ → List ℕ
+image_in st = take 100 (drop 17 st)
 
-abbrev pub recordIn : List ℕ → List ℕ
-recordIn st = take 38 (drop 117 st)
+abbrev pub record_in : List ℕ → List ℕ
+record_in st = take 38 (drop 117 st)
 
 -- where the i-th step stands
-abbrev pub placeOf : ℕ → ℕ
-placeOf i = 155 + 5 * i
+abbrev pub place_of : ℕ → ℕ
+place_of i = 155 + 5 * i
 
-abbrev pub encodedStep : List ℕ → ℕ → Step
-encodedStep st i = stepOf (at st (placeOf i)) (at st (placeOf i + 1)) (at st (placeOf i + 2)) (at st (placeOf i + 3)) (at st (placeOf i + 4))
+abbrev pub encoded_step : List ℕ → ℕ → Step
+encoded_step st i = step_of (at st (place_of i)) (at st (place_of i + 1)) (at st (place_of i + 2)) (at st (place_of i + 3)) (at st (place_of i + 4))
 
 -- the encoded steps, and behind them one memory read for each index
-abbrev pub stepIn : List ℕ → ℕ → Step
-stepIn st i = cond (ltb i (stepCount st)) (encodedStep st i) (Store (i - stepCount st))
+abbrev pub step_in : List ℕ → ℕ → Step
+step_in st i = cond (ltb i (step_count st)) (encoded_step st i) (Store (i - step_count st))
 
 -- `f` of n numbers from i on
 abbrev pub indexed : {A : Type 0} → (ℕ → A) → ℕ → ℕ → List A
@@ -82,24 +82,24 @@ indexed f i (suc n) = f i ∷ indexed f (suc i) n
 
 -- all steps of the operation
 abbrev pub plan : List ℕ → List Step
-plan st = indexed (stepIn st) 0 (stepCount st + readCount st)
+plan st = indexed (step_in st) 0 (step_count st + read_count st)
 
 -- the steps still to be made
 unfoldable pub left : List ℕ → List Step
-left st = cond (isUnbroken st) (drop (madeIn st) (plan st)) []
+left st = cond (is_unbroken st) (drop (made_in st) (plan st)) []
 
 -- whether every step was made
 unfoldable pub completed : List ℕ → Bool
-completed st = isUnbroken st && leb (stepCount st + readCount st) (madeIn st)
+completed st = is_unbroken st && leb (step_count st + read_count st) (made_in st)
 
 -- where a session stands
-abbrev pub slotOf : List Step → Slot
-slotOf [] = Idle
-slotOf (x ∷ xs) = At x
+abbrev pub slot_of : List Step → Slot
+slot_of [] = Idle
+slot_of (x ∷ xs) = At x
 
-abbrev pub noneLeft : List Step → Bool
-noneLeft [] = true
-noneLeft (x ∷ xs) = false
+abbrev pub none_left : List Step → Bool
+none_left [] = true
+none_left (x ∷ xs) = false
 
 -- ---- what a start writes
 
@@ -112,26 +112,26 @@ pub record Begun : Type 0 where
   pub image : List ℕ
   pub «record» : List ℕ
 
-abbrev pub begunWith : ℕ → ℕ → ℕ → ℕ → List ℕ → List ℕ → Begun
-begunWith address reads room purpose image r = record { address = address; reads = reads; room = room; purpose = purpose; image = image; «record» = r }
+abbrev pub begun_with : ℕ → ℕ → ℕ → ℕ → List ℕ → List ℕ → Begun
+begun_with address reads room purpose image r = record { address = address; reads = reads; room = room; purpose = purpose; image = image; «record» = r }
 
 -- the first seventeen bytes
-abbrev pub headOf : Begun → ℕ → List ℕ
-headOf b steps = b.address ∷ 1 ∷ 0 ∷ 0 ∷ 0 ∷ 0 ∷ steps ∷ b.reads ∷ (lowBytes 8 b.room ++ (b.purpose ∷ []))
+abbrev pub head_of : Begun → ℕ → List ℕ
+head_of b steps = b.address ∷ 1 ∷ 0 ∷ 0 ∷ 0 ∷ 0 ∷ steps ∷ b.reads ∷ (low_bytes 8 b.room ++ (b.purpose ∷ []))
 
 -- the bytes of a session that has these steps, and has made none
-abbrev pub begunBytes : Begun → List Step → List ℕ
-begunBytes b xs =
-    headOf b (length xs) ++ b.image ++ b.«record» ++ joined (map stepBytes xs) ++ replicate (125 - 5 * length xs) 0
+abbrev pub begun_bytes : Begun → List Step → List ℕ
+begun_bytes b xs =
+    head_of b (length xs) ++ b.image ++ b.«record» ++ joined (map step_bytes xs) ++ replicate (125 - 5 * length xs) 0
 
 -- bytes that are no session stay as they are
-unfoldable pub begunIn : List ℕ → Begun → List Step → List ℕ
-begunIn st b xs = cond (isSession st) (begunBytes b xs) st
+unfoldable pub begun_in : List ℕ → Begun → List Step → List ℕ
+begun_in st b xs = cond (is_session st) (begun_bytes b xs) st
 
 -- a step more, where there is room for it
 unfoldable pub pushed : List ℕ → Step → List ℕ
-pushed st x = cond (isSession st && ltb (at st 6) 25) (over (set st 6 (at st 6 + 1)) (placeOf (at st 6)) (stepBytes x)) st
+pushed st x = cond (is_session st && ltb (at st 6) 25) (over (set st 6 (at st 6 + 1)) (place_of (at st 6)) (step_bytes x)) st
 
-abbrev pub pushedAll : List ℕ → List Step → List ℕ
-pushedAll st [] = st
-pushedAll st (x ∷ xs) = pushedAll (pushed st x) xs
+abbrev pub pushed_all : List ℕ → List Step → List ℕ
+pushed_all st [] = st
+pushed_all st (x ∷ xs) = pushed_all (pushed st x) xs

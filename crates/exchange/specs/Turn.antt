@@ -1,6 +1,6 @@
 -- What a session hands out, and what an answer of the bus does to it: document 01, 'Exchanges' and 'Who can cause which answer'.
 use Rattle.std.specs.Prelude.{ℕ, ◌+◌, ◌<◌, ◌≡◌, Bool, true, false, cond, not, ◌&&◌, List, [], ◌∷◌, ◌++◌, ltb, eqb, length, take, set}
-use Rattle.errors.specs.Number.{answerNumber, busCode}
+use Rattle.errors.specs.Number.{answer_number, bus_code}
 use Rattle.errors.specs.declared.Answer.{Answer}
 use Rattle.laws.specs.Copied.{over}
 use Rattle.laws.specs.Lists.{at}
@@ -12,56 +12,56 @@ use Rattle.exchange.specs.declared.Reply.TheVariants.{Done, Byte, Failed}
 use Rattle.exchange.specs.declared.Fit.{Fit}
 use Rattle.exchange.specs.declared.Fit.TheVariants.{Unfit, Broke, Went, Got, Kept, Wrong}
 use Rattle.exchange.specs.declared.Turn.{Turn}
-use Rattle.exchange.specs.Steps.{exchange, exchangeFor}
-use Rattle.exchange.specs.State.{addressIn, madeIn, countIn, lastIn, readCount, roomIn, imageIn, left, noneLeft}
+use Rattle.exchange.specs.Steps.{exchange, exchange_for}
+use Rattle.exchange.specs.State.{address_in, made_in, count_in, last_in, read_count, room_in, image_in, left, none_left}
 
 -- ---- the pending exchange
 
-abbrev pub pendingFor : List ℕ → List Step → Exchange
-pendingFor st [] = exchange 0 [] 0
-pendingFor st (x ∷ xs) = exchangeFor (addressIn st) (lastIn st) (imageIn st) x
+abbrev pub pending_for : List ℕ → List Step → Exchange
+pending_for st [] = exchange 0 [] 0
+pending_for st (x ∷ xs) = exchange_for (address_in st) (last_in st) (image_in st) x
 
 -- the exchange of the next step; none once the session has ended
-abbrev pub pendingOf : List ℕ → Exchange
-pendingOf st = pendingFor st (left st)
+abbrev pub pending_of : List ℕ → Exchange
+pending_of st = pending_for st (left st)
 
 -- ---- how an answer fits a step: done fits a write, a byte fits a read, a failure fits either
 
 -- how many bytes a step reads: 0 or 1
 abbrev pub wanted : Step → ℕ
-wanted x = (exchangeFor 0 0 [] x).wanted
+wanted x = (exchange_for 0 0 [] x).wanted
 
 -- what a step makes of a byte
-abbrev pub byteFit : Step → ℕ → Fit
-byteFit (Write register value) b = Unfit
-byteFit (Read register) b = Got b
-byteFit (Update register shift width value) b = Unfit
-byteFit (Match register value) b = cond (eqb b value) (Got b) (Wrong b)
-byteFit (Chunk offset len) b = Unfit
-byteFit (Store i) b = Kept i b
+abbrev pub byte_fit : Step → ℕ → Fit
+byte_fit (Write register value) b = Unfit
+byte_fit (Read register) b = Got b
+byte_fit (Update register shift width value) b = Unfit
+byte_fit (Match register value) b = cond (eqb b value) (Got b) (Wrong b)
+byte_fit (Chunk offset len) b = Unfit
+byte_fit (Store i) b = Kept i b
 
-abbrev pub fittingOf : Step → Reply → Fit
-fittingOf x (Failed code) = Broke code
-fittingOf x Done = cond (eqb (wanted x) 0) Went Unfit
-fittingOf x (Byte b) = byteFit x b
+abbrev pub fitting_of : Step → Reply → Fit
+fitting_of x (Failed code) = Broke code
+fitting_of x Done = cond (eqb (wanted x) 0) Went Unfit
+fitting_of x (Byte b) = byte_fit x b
 
 -- "a read buffer whose length has changed since the start"
 abbrev pub resized : List ℕ → ℕ → Bool
-resized st n = ltb 0 (readCount st) && not (eqb n (roomIn st))
+resized st n = ltb 0 (read_count st) && not (eqb n (room_in st))
 
-abbrev pub fitsNext : List Step → Reply → Fit
-fitsNext [] a = Unfit
-fitsNext (x ∷ xs) a = fittingOf x a
+abbrev pub fits_next : List Step → Reply → Fit
+fits_next [] a = Unfit
+fits_next (x ∷ xs) a = fitting_of x a
 
 -- how an answer fits a session, where n bytes are lent with it
-unfoldable pub fitOf : List ℕ → Reply → ℕ → Fit
-fitOf st a n = cond (resized st n) Unfit (fitsNext (left st) a)
+unfoldable pub fit_of : List ℕ → Reply → ℕ → Fit
+fit_of st a n = cond (resized st n) Unfit (fits_next (left st) a)
 
 -- ---- what an answer does
 
 -- a session of its size that has counted less than its most steps
 abbrev pub going : List ℕ → Type 0
-going st = (length st ≡ 280) × (madeIn st < 125)
+going st = (length st ≡ 280) × (made_in st < 125)
 
 -- what an answer does
 pub record Effect : Type 0 where
@@ -79,24 +79,24 @@ abbrev pub effect : ℕ → ℕ → Bool → ℕ → List ℕ → (List ℕ → 
 effect number code counts stage came buffer = record { number = number; code = code; counts = counts; stage = stage; came = came; buffer = buffer }
 
 -- 16 and 17 end the session; "Each byte read is stored at its own index in the buffer lent with that answer, and that call changes no other byte"
-abbrev pub effectOf : Fit → Effect
-effectOf Unfit = effect 19 0 false 1 [] (λ l. l)
-effectOf (Broke code) = effect 17 code true 2 [] (λ l. l)
-effectOf Went = effect 0 0 true 1 [] (λ l. l)
-effectOf (Got b) = effect 0 0 true 1 (b ∷ []) (λ l. l)
-effectOf (Kept i b) = effect 0 0 true 1 (b ∷ []) (λ l. set l i b)
-effectOf (Wrong b) = effect 16 0 true 2 (b ∷ []) (λ l. l)
+abbrev pub effect_of : Fit → Effect
+effect_of Unfit = effect 19 0 false 1 [] (λ l. l)
+effect_of (Broke code) = effect 17 code true 2 [] (λ l. l)
+effect_of Went = effect 0 0 true 1 [] (λ l. l)
+effect_of (Got b) = effect 0 0 true 1 (b ∷ []) (λ l. l)
+effect_of (Kept i b) = effect 0 0 true 1 (b ∷ []) (λ l. set l i b)
+effect_of (Wrong b) = effect 16 0 true 2 (b ∷ []) (λ l. l)
 
 -- the state with another count and stage, and the last three bytes read
 abbrev pub moved : List ℕ → ℕ → List ℕ → List ℕ
-moved st stage came = over st 1 (stage ∷ (madeIn st + 1) ∷ take 3 (came ++ (at st 3 ∷ at st 4 ∷ at st 5 ∷ [])))
+moved st stage came = over st 1 (stage ∷ (made_in st + 1) ∷ take 3 (came ++ (at st 3 ∷ at st 4 ∷ at st 5 ∷ [])))
 
 -- a refusal hands back the session as it came in
-unfoldable pub stateAfter : List ℕ → Reply → ℕ → List ℕ
-stateAfter st a n = let e = effectOf (fitOf st a n) in cond e.counts (moved st e.stage e.came) st
+unfoldable pub state_after : List ℕ → Reply → ℕ → List ℕ
+state_after st a n = let e = effect_of (fit_of st a n) in cond e.counts (moved st e.stage e.came) st
 
-unfoldable pub bufferAfter : List ℕ → Reply → List ℕ → List ℕ
-bufferAfter st a l = (effectOf (fitOf st a (length l))).buffer l
+unfoldable pub buffer_after : List ℕ → Reply → List ℕ → List ℕ
+buffer_after st a l = (effect_of (fit_of st a (length l))).buffer l
 
 -- ---- what is answered
 
@@ -107,14 +107,14 @@ pub record Report : Type 0 where
   pub made : ℕ
   pub ended : Bool
 
-unfoldable pub reportOf : List ℕ → Reply → ℕ → Report
-reportOf st a n =
-    let e = effectOf (fitOf st a n) in
-    record { number = e.number; code = e.code; made = countIn (stateAfter st a n); ended = noneLeft (left (stateAfter st a n)) }
+unfoldable pub report_of : List ℕ → Reply → ℕ → Report
+report_of st a n =
+    let e = effect_of (fit_of st a n) in
+    record { number = e.number; code = e.code; made = count_in (state_after st a n); ended = none_left (left (state_after st a n)) }
 
 -- a turn in document 01's numbers
-abbrev pub turnReport : Turn → Report
-turnReport t = record { number = answerNumber t.answer; code = busCode t.answer; made = t.made; ended = t.ended }
+abbrev pub turn_report : Turn → Report
+turn_report t = record { number = answer_number t.answer; code = bus_code t.answer; made = t.made; ended = t.ended }
 
-abbrev pub turnIn : List ℕ → Answer → Turn
-turnIn st a = record { answer = a; made = countIn st; ended = noneLeft (left st) }
+abbrev pub turn_in : List ℕ → Answer → Turn
+turn_in st a = record { answer = a; made = count_in st; ended = none_left (left st) }

@@ -10,9 +10,9 @@
 ghost use Rattle.std.specs.Prelude.{◌≡◌, cond, ◌+◌, ◌*◌, ◌≤◌, ◌<◌, min, [], ◌∷◌, length, set};
 ghost use Rattle.laws.specs.Copied.{over};
 ghost use Rattle.laws.specs.Lists.{at};
-ghost use Rattle.exchange.specs.Steps.{exchange, memoryAddress, chunk, exchangeFor, stepBytes, stepOf};
-ghost use Rattle.exchange.specs.State.{addressIn, countIn, roomIn, imageIn, encodedStep, left, noneLeft, slotOf, completed, headOf, begunWith, begunIn, pushed};
-ghost use Rattle.exchange.specs.Turn.{pendingOf, fittingOf, resized, fitOf, going, moved, stateAfter, bufferAfter, reportOf, turnReport, turnIn};
+ghost use Rattle.exchange.specs.Steps.{exchange, memory_address, chunk, exchange_for, step_bytes, step_of};
+ghost use Rattle.exchange.specs.State.{address_in, count_in, room_in, image_in, encoded_step, left, none_left, slot_of, completed, head_of, begun_with, begun_in, pushed};
+ghost use Rattle.exchange.specs.Turn.{pending_of, fitting_of, resized, fit_of, going, moved, state_after, buffer_after, report_of, turn_report, turn_in};
 
 use errors::{Answer, Error};
 use registers::Register;
@@ -114,7 +114,7 @@ enum Fit {
 }
 
 // Begins a session without steps; the caller's bytes stay as they are if they are not as many as a session has.
-#[tactic(auto, unfolding(crate::specs::State::begunIn))]
+#[tactic(auto, unfolding(crate::specs::State::begun_in))]
 pub fn begin(
     session: &mut [u8],
     address: u8,
@@ -124,7 +124,7 @@ pub fn begin(
     image: [u8; 100],
     record: [u8; RECORD_SIZE],
 )
-    ensures { session.new ≡ begunIn session.old (begunWith address reads room purpose image «record») [] }
+    ensures { session.new ≡ begun_in session.old (begun_with address reads room purpose image «record») [] }
 {
     if session.len() == SESSION_SIZE {
         let head = heading(address, reads, room, purpose);
@@ -138,7 +138,7 @@ pub fn begin(
 
 // The first seventeen bytes; eight of them are the length of the read buffer, least byte first.
 fn heading(address: u8, reads: u8, room: usize, purpose: u8) -> [u8; 17]
-    ensures { result ≡ headOf (begunWith address reads room purpose [] []) 0 }
+    ensures { result ≡ head_of (begun_with address reads room purpose [] []) 0 }
 {
     let q1 = room / 256;
     let q2 = q1 / 256;
@@ -192,7 +192,7 @@ pub fn push(session: &mut [u8], step: Step)
 }
 
 fn step_bytes(step: Step) -> [u8; 5]
-    ensures { result ≡ stepBytes step }
+    ensures { result ≡ step_bytes step }
 {
     match step {
         Step::Write(register, value) => [0, register, value, 0, 0],
@@ -205,7 +205,7 @@ fn step_bytes(step: Step) -> [u8; 5]
 }
 
 fn step_of(kind: u8, a: u8, b: u8, c: u8, d: u8) -> Step
-    ensures { result ≡ stepOf kind a b c d }
+    ensures { result ≡ step_of kind a b c d }
 {
     match kind {
         0 => Step::Write(a, b),
@@ -225,7 +225,7 @@ fn least(a: u8, b: u8) -> u8
 
 // The step that comes next.
 fn current(session: &[u8]) -> Slot
-    ensures { result ≡ slotOf (left session.now) }
+    ensures { result ≡ slot_of (left session.now) }
 {
     if session.len() != SESSION_SIZE {
         return Slot::Idle;
@@ -249,7 +249,7 @@ fn current(session: &[u8]) -> Slot
 // The i-th encoded step.
 fn step_at(session: &[u8], i: u8) -> Step
     requires { (length session.now ≡ 280) × (i < 25) }
-    ensures { result ≡ encodedStep session.now i }
+    ensures { result ≡ encoded_step session.now i }
 {
     let k = 5 * (i as usize);
     step_of(
@@ -263,7 +263,7 @@ fn step_at(session: &[u8], i: u8) -> Step
 
 // The exchange that is to be made next; no bytes once the session has ended.
 pub fn pending(session: &[u8]) -> Exchange
-    ensures { result ≡ pendingOf session.now }
+    ensures { result ≡ pending_of session.now }
 {
     match current(session) {
         Slot::Idle => nothing(),
@@ -273,7 +273,7 @@ pub fn pending(session: &[u8]) -> Exchange
 
 fn exchange_for(session: &[u8], step: Step) -> Exchange
     requires { length session.now ≡ 280 }
-    ensures { result ≡ exchangeFor (addressIn session.now) (at session.now 3) (imageIn session.now) step }
+    ensures { result ≡ exchange_for (address_in session.now) (at session.now 3) (image_in session.now) step }
 {
     let address = session[ADDRESS];
     match step {
@@ -330,7 +330,7 @@ fn reading(address: u8, register: u8) -> Exchange
 
 fn uploading(address: u8, image: &[u8], offset: u8, len: u8) -> Exchange
     requires { length image.now ≡ 100 }
-    ensures { result ≡ exchange address (memoryAddress offset ∷ chunk image.now offset len) 0 }
+    ensures { result ≡ exchange address (memory_address offset ∷ chunk image.now offset len) 0 }
 {
     let start = least(offset, 100);
     let n = least(least(len, 32), 100 - start);
@@ -348,18 +348,18 @@ fn uploading(address: u8, image: &[u8], offset: u8, len: u8) -> Exchange
 }
 
 fn memory_address(index: u8) -> u8
-    ensures { result ≡ memoryAddress index }
+    ensures { result ≡ memory_address index }
 {
     let first = Register::SNP_MEM_0.address();
     ((first as u16 + index as u16) % 256) as u8
 }
 
 // Takes back what the bus answered, with the buffer that a memory read fills (any, where the operation reads none).
-#[tactic(auto, unfolding(crate::specs::Turn::reportOf, crate::specs::Turn::stateAfter, crate::specs::Turn::bufferAfter))]
+#[tactic(auto, unfolding(crate::specs::Turn::report_of, crate::specs::Turn::state_after, crate::specs::Turn::buffer_after))]
 pub fn answer(session: &mut [u8], reply: Reply, buffer: &mut [u8]) -> Turn
-    ensures result_value { turnReport result ≡ reportOf session.old reply (length buffer.old) }
-    ensures session_after { session.new ≡ stateAfter session.old reply (length buffer.old) }
-    ensures buffer_after { buffer.new ≡ bufferAfter session.old reply buffer.old }
+    ensures result_value { turn_report result ≡ report_of session.old reply (length buffer.old) }
+    ensures session_after { session.new ≡ state_after session.old reply (length buffer.old) }
+    ensures buffer_after { buffer.new ≡ buffer_after session.old reply buffer.old }
 {
     match judge(session, reply, buffer.len()) {
         Fit::Unfit => tell(session, Answer::Refused(Error::OutOfTurn)),
@@ -428,7 +428,7 @@ fn store(buffer: &mut [u8], i: u8, b: u8)
 }
 
 fn tell(session: &[u8], answer: Answer) -> Turn
-    ensures { result ≡ turnIn session.now answer }
+    ensures { result ≡ turn_in session.now answer }
 {
     Turn {
         answer: answer,
@@ -439,7 +439,7 @@ fn tell(session: &[u8], answer: Answer) -> Turn
 
 // How many exchanges were made; none of a session that was not begun.
 pub fn made(session: &[u8]) -> u8
-    ensures { result ≡ countIn session.now }
+    ensures { result ≡ count_in session.now }
 {
     if session.len() == SESSION_SIZE {
         if 0 < session[STAGE] {
@@ -451,7 +451,7 @@ pub fn made(session: &[u8]) -> u8
 
 // Whether no step is left.
 pub fn is_over(session: &[u8]) -> bool
-    ensures { result ≡ noneLeft (left session.now) }
+    ensures { result ≡ none_left (left session.now) }
 {
     match current(session) {
         Slot::Idle => true,
@@ -475,7 +475,7 @@ pub fn is_completed(session: &[u8]) -> bool
 
 // How an answer fits the session, with n bytes lent.
 fn judge(session: &[u8], reply: Reply, n: usize) -> Fit
-    ensures { result ≡ fitOf session.now reply n }
+    ensures { result ≡ fit_of session.now reply n }
 {
     match current(session) {
         Slot::Idle => Fit::Unfit,
@@ -494,7 +494,7 @@ fn timely(resized: bool, fit: Fit) -> Fit
 }
 
 fn fitting(step: Step, reply: Reply) -> Fit
-    ensures { result ≡ fittingOf step reply }
+    ensures { result ≡ fitting_of step reply }
 {
     match reply {
         Reply::Failed(code) => Fit::Broke(code),
@@ -536,7 +536,7 @@ fn is_resized(session: &[u8], n: usize) -> bool
 // The length that the read buffer had at the start.
 fn room(session: &[u8]) -> usize
     requires { length session.now ≡ 280 }
-    ensures { result ≡ roomIn session.now }
+    ensures { result ≡ room_in session.now }
 {
     let low = word(
         session[ROOM],

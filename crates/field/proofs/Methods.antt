@@ -7,27 +7,27 @@ use native.Mathlib.Nat.{mod-lt}
 use native.Mathlib.Omega.{arith}
 use lib.Dec.{ltb}
 use lib.Pow.{pow_pos, mod-mod-pow}
-use Rattle.field.specs.Field.{getOf, widthIn, withOf, flagOf, codeOf}
+use Rattle.field.specs.Field.{get_of, width_in, with_of, flag_of, code_of}
 
 -- a number below 2 is the code of whether it is set
-bit : (n : ℕ) → n < 2 → codeOf (ltb 0 n) ≡ n
+bit : (n : ℕ) → n < 2 → code_of (ltb 0 n) ≡ n
 bit zero h = refl
 bit (suc zero) h = refl
 bit (suc (suc n)) h = absurd (omega arith)
 
 -- a flag's code is its field's value
-pub flag-code : (b s : ℕ) → codeOf (flagOf b s) ≡ getOf b s 1
-unfolding flagOf getOf
-flag-code b s = bit _ (mod-lt _ (pow_pos 1))
+pub flag_code : (b s : ℕ) → code_of (flag_of b s) ≡ get_of b s 1
+unfolding flag_of get_of
+flag_code b s = bit _ (mod-lt _ (pow_pos 1))
 
 -- a value counts as far as its field is wide
-pub with-masked : (b s w v : ℕ) → withOf b s w (v % 2 ^ w) ≡ withOf b s w v
-unfolding withOf
-with-masked b s w v =
-    let e : w - widthIn s w + widthIn s w ≡ w = omega arith in
-    let m : v % 2 ^ w % 2 ^ widthIn s w ≡ v % 2 ^ widthIn s w =
-    ap (λ (k : ℕ). v % 2 ^ k % 2 ^ widthIn s w) (sym e) ∙ mod-mod-pow v (w - widthIn s w) (widthIn s w) in
-    ap (λ (k : ℕ). b / 2 ^ (s + widthIn s w) * 2 ^ (s + widthIn s w) + k * 2 ^ s + b % 2 ^ s) m
+pub with_masked : (b s w v : ℕ) → with_of b s w (v % 2 ^ w) ≡ with_of b s w v
+unfolding with_of
+with_masked b s w v =
+    let e : w - width_in s w + width_in s w ≡ w = omega arith in
+    let m : v % 2 ^ w % 2 ^ width_in s w ≡ v % 2 ^ width_in s w =
+    ap (λ (k : ℕ). v % 2 ^ k % 2 ^ width_in s w) (sym e) ∙ mod-mod-pow v (w - width_in s w) (width_in s w) in
+    ap (λ (k : ℕ). b / 2 ^ (s + width_in s w) * 2 ^ (s + width_in s w) + k * 2 ^ s + b % 2 ^ s) m
 
 -- what a call with no `requires` asks
 pub asked : {A B : Type 0} → A → B → Prim.Unit {0}
@@ -39,18 +39,18 @@ cast c = tt
 
 module _ {x b : ℕ} where
   -- a number's getter, on a register that holds `b`
-  pub read : {r : ℕ} (s w : ℕ) → r ≡ getOf x s w → x ≡ b → r ≡ getOf b s w
-  read s w e h = e ∙ ap (λ (y : ℕ). getOf y s w) h
+  pub read : {r : ℕ} (s w : ℕ) → r ≡ get_of x s w → x ≡ b → r ≡ get_of b s w
+  read s w e h = e ∙ ap (λ (y : ℕ). get_of y s w) h
 
   -- a flag's getter
-  pub shown : {r : Bool} (s : ℕ) → r ≡ flagOf x s → x ≡ b → codeOf r ≡ getOf b s 1
-  shown s e h = ap codeOf e ∙ read s 1 (flag-code x s) h
+  pub shown : {r : Bool} (s : ℕ) → r ≡ flag_of x s → x ≡ b → code_of r ≡ get_of b s 1
+  shown s e h = ap code_of e ∙ read s 1 (flag_code x s) h
 
   -- a number's `with_`
-  pub put : {r : ℕ} (s w v : ℕ) → r ≡ withOf x s w v → x ≡ b → r ≡ withOf b s w v
-  put s w v e h = e ∙ ap (λ (y : ℕ). withOf y s w v) h
+  pub put : {r : ℕ} (s w v : ℕ) → r ≡ with_of x s w v → x ≡ b → r ≡ with_of b s w v
+  put s w v e h = e ∙ ap (λ (y : ℕ). with_of y s w v) h
 
   -- a flag's `with_`, at whether `v` is odd
-  pub turned : {r : ℕ} {on : Bool} (s v : ℕ) → r ≡ withOf x s 1 (codeOf on) → x ≡ b → on ≡ flagOf v 0 → r ≡ withOf b s 1 v
-  unfolding getOf
-  turned s v e h o = put s 1 _ e h ∙ ap (λ (k : ℕ). withOf b s 1 k) (ap codeOf o ∙ flag-code v 0 ∙ omega arith) ∙ with-masked b s 1 v
+  pub turned : {r : ℕ} {on : Bool} (s v : ℕ) → r ≡ with_of x s 1 (code_of on) → x ≡ b → on ≡ flag_of v 0 → r ≡ with_of b s 1 v
+  unfolding get_of
+  turned s v e h o = put s 1 _ e h ∙ ap (λ (k : ℕ). with_of b s 1 k) (ap code_of o ∙ flag_code v 0 ∙ omega arith) ∙ with_masked b s 1 v

@@ -3,26 +3,26 @@
 use Rattle.std.specs.Prelude.{ℕ, ◌+◌, ◌-◌, ◌*◌, ◌/◌, ◌%◌, ◌^◌, min, Bool, true, false, ltb}
 
 -- the field's value
-unfoldable pub getOf : ℕ → ℕ → ℕ → ℕ
-getOf b s w = b / 2 ^ s % 2 ^ w
+unfoldable pub get_of : ℕ → ℕ → ℕ → ℕ
+get_of b s w = b / 2 ^ s % 2 ^ w
 
 -- as much of a field as the byte has room for
-abbrev pub widthIn : ℕ → ℕ → ℕ
-widthIn s w = min w (8 - s)
+abbrev pub width_in : ℕ → ℕ → ℕ
+width_in s w = min w (8 - s)
 
 -- what stands above the field, the value, what stands below the field
 abbrev pub spliced : ℕ → ℕ → ℕ → ℕ → ℕ
 spliced b s w v = b / 2 ^ (s + w) * 2 ^ (s + w) + v % 2 ^ w * 2 ^ s + b % 2 ^ s
 
 -- the byte with the field replaced by a value
-unfoldable pub withOf : ℕ → ℕ → ℕ → ℕ → ℕ
-withOf b s w v = spliced b s (widthIn s w) v
+unfoldable pub with_of : ℕ → ℕ → ℕ → ℕ → ℕ
+with_of b s w v = spliced b s (width_in s w) v
 
 -- a flag is a field of one bit: whether it is set
-unfoldable pub flagOf : ℕ → ℕ → Bool
-flagOf b s = ltb 0 (getOf b s 1)
+unfoldable pub flag_of : ℕ → ℕ → Bool
+flag_of b s = ltb 0 (get_of b s 1)
 
 -- the value that a flag's field has
-abbrev pub codeOf : Bool → ℕ
-codeOf true = 1
-codeOf false = 0
+abbrev pub code_of : Bool → ℕ
+code_of true = 1
+code_of false = 0

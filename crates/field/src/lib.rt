@@ -8,12 +8,12 @@
 #![tactic(auto)]
 
 ghost use Rattle.std.specs.Prelude.{◌≡◌, ◌%◌, ◌^◌, ◌<◌, ◌≤◌};
-ghost use Rattle.field.specs.Field.{getOf, widthIn, withOf, flagOf, codeOf};
+ghost use Rattle.field.specs.Field.{get_of, width_in, with_of, flag_of, code_of};
 
 // The field's value.
-#[tactic(auto, unfolding(crate::specs::Field::getOf))]
+#[tactic(auto, unfolding(crate::specs::Field::get_of))]
 pub fn get(b: u8, shift: u8, width: u8) -> u8
-    ensures { result ≡ getOf b shift width }
+    ensures { result ≡ get_of b shift width }
 {
     if 8 <= shift {
         return 0;
@@ -26,7 +26,7 @@ pub fn get(b: u8, shift: u8, width: u8) -> u8
 
 // The byte with the field replaced.
 pub fn with(b: u8, shift: u8, width: u8, value: u8) -> u8
-    ensures { result ≡ withOf b shift width value }
+    ensures { result ≡ with_of b shift width value }
 {
     if 8 <= shift {
         return b;
@@ -39,16 +39,16 @@ pub fn with(b: u8, shift: u8, width: u8, value: u8) -> u8
 }
 
 // Whether the bit at `shift` is set.
-#[tactic(auto, unfolding(crate::specs::Field::flagOf))]
+#[tactic(auto, unfolding(crate::specs::Field::flag_of))]
 pub fn flag(b: u8, shift: u8) -> bool
-    ensures { result ≡ flagOf b shift }
+    ensures { result ≡ flag_of b shift }
 {
     0 < get(b, shift, 1)
 }
 
 // The byte with the bit at `shift` set or cleared.
 pub fn with_flag(b: u8, shift: u8, on: bool) -> u8
-    ensures { result ≡ withOf b shift 1 (codeOf on) }
+    ensures { result ≡ with_of b shift 1 (code_of on) }
 {
     with(b, shift, 1, on as u8)
 }
@@ -56,7 +56,7 @@ pub fn with_flag(b: u8, shift: u8, on: bool) -> u8
 // As much of the width as a byte has room for.
 fn cut(shift: u8, width: u8) -> u8
     requires { shift < 8 }
-    ensures { result ≡ widthIn shift width }
+    ensures { result ≡ width_in shift width }
 {
     let left = 8 - shift;
     if width <= left {

@@ -12,40 +12,40 @@ use Rattle.frame.specs.declared.LoopCount.{LoopCount}
 use Rattle.frame.specs.declared.Frequency.{Frequency}
 use Rattle.frame.specs.declared.FrameBuilder.{FrameBuilder}
 use Rattle.frame.specs.Agreement.{Agree, FrameAdmitted}
-use Rattle.frame.specs.Frame.{bytesOf, hasSecond, secondByte}
-use Rattle.frame.proofs.Parts.{loops, frequencyBits, thirdByte}
-use Rattle.frame.specs.Read.{Parsed, readFrame}
-use Rattle.frame.proofs.Canon.{canon, canon-agree, agree-canon}
+use Rattle.frame.specs.Frame.{bytes_of, has_second, second_byte}
+use Rattle.frame.proofs.Parts.{loops, frequency_bits, third_byte}
+use Rattle.frame.specs.Read.{Parsed, read_frame}
+use Rattle.frame.proofs.Canon.{canon, canon_agree, agree_canon}
 use Rattle.frame.proofs.Reading.{first_small, complete}
 use Rattle.frame.proofs.Written.{sound}
 
-loops-small : (k : LoopCount) → loops k < 16
-loops-small LoopCount.Absent = omega arith
-loops-small (LoopCount.Given k) = omega arith
+loops_small : (k : LoopCount) → loops k < 16
+loops_small LoopCount.Absent = omega arith
+loops_small (LoopCount.Given k) = omega arith
 
-frequency-small : (q : Frequency) → frequencyBits q < 7
-frequency-small Frequency.Absent = omega arith
-frequency-small (Frequency.Given q) = omega arith
+frequency_small : (q : Frequency) → frequency_bits q < 7
+frequency_small Frequency.Absent = omega arith
+frequency_small (Frequency.Given q) = omega arith
 
-third-bytes : (q : Frequency) → Bytes (thirdByte q)
-third-bytes Frequency.Absent = tt
-third-bytes (Frequency.Given q) = (omega arith, tt)
+third_bytes : (q : Frequency) → Bytes (third_byte q)
+third_bytes Frequency.Absent = tt
+third_bytes (Frequency.Given q) = (omega arith, tt)
 
 -- a frame's bytes are bytes
-pub frame-bytes : (f : FrameBuilder) → Bytes (bytesOf f)
-frame-bytes f = (omega (arith, first_small f), go (hasSecond f)) where
-  go : (t : Bool) → Bytes (cond t (secondByte f ∷ thirdByte f.frequency) [])
-  go true = (omega (arith, loops-small f.loop_count, frequency-small f.frequency), third-bytes f.frequency)
+pub frame_bytes_lem : (f : FrameBuilder) → Bytes (bytes_of f)
+frame_bytes_lem f = (omega (arith, first_small f), go (has_second f)) where
+  go : (t : Bool) → Bytes (cond t (second_byte f ∷ third_byte f.frequency) [])
+  go true = (omega (arith, loops_small f.loop_count, frequency_small f.frequency), third_bytes f.frequency)
   go false = tt
 
-alone : (f : FrameBuilder) → FrameAdmitted f → readFrame (bytesOf f) ≡ some (record { frame = canon f; rest = [] })
-alone f h = ap readFrame (sym (append-nil {A = ℕ} (bytesOf f))) ∙ complete f h [] tt
+alone : (f : FrameBuilder) → FrameAdmitted f → read_frame (bytes_of f) ≡ some (record { frame = canon f; rest = [] })
+alone f h = ap read_frame (sym (append-nil {A = ℕ} (bytes_of f))) ∙ complete f h [] tt
 
-pub canon-bytes : (f : FrameBuilder) → FrameAdmitted f → bytesOf (canon f) ≡ bytesOf f
-canon-bytes f h = sym (append-nil {A = ℕ} (bytesOf (canon f))) ∙ (sound (bytesOf f) _ (frame-bytes f) (alone f h)).1
+pub canon_bytes : (f : FrameBuilder) → FrameAdmitted f → bytes_of (canon f) ≡ bytes_of f
+canon_bytes f h = sym (append-nil {A = ℕ} (bytes_of (canon f))) ∙ (sound (bytes_of f) _ (frame_bytes_lem f) (alone f h)).1
 
-pub same_bytes : (f g : FrameBuilder) → FrameAdmitted f → FrameAdmitted g → (bytesOf f ≡ bytesOf g) ↔ Agree f g
+pub same_bytes : (f g : FrameBuilder) → FrameAdmitted f → FrameAdmitted g → (bytes_of f ≡ bytes_of g) ↔ Agree f g
 same_bytes f g h k = (
-  λ e. canon-agree f g (ap (λ (p : Parsed). p.frame) (some-injective _ _ (sym (alone f h) ∙ ap readFrame e ∙ alone g k))),
-  λ a. sym (canon-bytes f h) ∙ ap bytesOf (agree-canon f g a) ∙ canon-bytes g k,
+  λ e. canon_agree f g (ap (λ (p : Parsed). p.frame) (some-injective _ _ (sym (alone f h) ∙ ap read_frame e ∙ alone g k))),
+  λ a. sym (canon_bytes f h) ∙ ap bytes_of (agree_canon f g a) ∙ canon_bytes g k,
 )

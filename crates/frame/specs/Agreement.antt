@@ -3,12 +3,12 @@
 use Rattle.std.specs.Prelude.{◌≤◌, ◌≡◌, true, cond, leb}
 use Rattle.frame.specs.declared.LoopCount.{LoopCount}
 use Rattle.frame.specs.declared.FrameBuilder.{FrameBuilder}
-use Rattle.frame.specs.Frame.{onLoop, onFrequency}
+use Rattle.frame.specs.Frame.{on_loop, on_frequency}
 
 -- "an absent loop count equals 0 if the snippet number is 8 or more or a frequency is given"
-abbrev pub loopMeant : FrameBuilder → LoopCount
-loopMeant f =
-    onLoop f.loop_count (cond (onFrequency f.frequency (leb 8 f.snippet_id) (λ _. true)) (LoopCount.Given 0) LoopCount.Absent) LoopCount.Given
+abbrev pub loop_meant : FrameBuilder → LoopCount
+loop_meant f =
+    on_loop f.loop_count (cond (on_frequency f.frequency (leb 8 f.snippet_id) (λ _. true)) (LoopCount.Given 0) LoopCount.Absent) LoopCount.Given
 
 -- "Frames agree when gain, timebase, snippet number, frequency (or its absence) and loop count agree"
 pub record Agree (a b : FrameBuilder) : Type 0 where
@@ -16,10 +16,10 @@ pub record Agree (a b : FrameBuilder) : Type 0 where
   pub timebases : a.timebase ≡ b.timebase
   pub numbers : a.snippet_id ≡ b.snippet_id
   pub frequencies : a.frequency ≡ b.frequency
-  pub loopCounts : loopMeant a ≡ loopMeant b
+  pub loop_counts : loop_meant a ≡ loop_meant b
 
 -- "number 0 (silence) to 15, loop count 0..15 or absent, frequency 0..511 or absent"; gain and timebase codes are 0..3 by their types
 pub record FrameAdmitted (b : FrameBuilder) : Type 0 where
-  pub numberFits : b.snippet_id ≤ 15
-  pub loopFits : onLoop b.loop_count Unit (λ k. k ≤ 15)
-  pub frequencyFits : onFrequency b.frequency Unit (λ f. f ≤ 511)
+  pub number_fits : b.snippet_id ≤ 15
+  pub loop_fits : on_loop b.loop_count Unit (λ k. k ≤ 15)
+  pub frequency_fits : on_frequency b.frequency Unit (λ f. f ≤ 511)

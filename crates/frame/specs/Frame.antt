@@ -14,53 +14,53 @@ use Rattle.frame.specs.declared.Frame.{Frame}
 -- ---- codes
 
 -- full, a half, a quarter, an eighth
-abbrev pub gainCode : Gain → ℕ
-gainCode Full = 0
-gainCode Half = 1
-gainCode Quarter = 2
-gainCode Eighth = 3
+abbrev pub gain_code : Gain → ℕ
+gain_code Full = 0
+gain_code Half = 1
+gain_code Quarter = 2
+gain_code Eighth = 3
 
 -- 5.44, 21.76, 43.52, 87.04 ms
-abbrev pub timebaseCode : Timebase → ℕ
-timebaseCode Ms5_44 = 0
-timebaseCode Ms21_76 = 1
-timebaseCode Ms43_52 = 2
-timebaseCode Ms87_04 = 3
+abbrev pub timebase_code : Timebase → ℕ
+timebase_code Ms5_44 = 0
+timebase_code Ms21_76 = 1
+timebase_code Ms43_52 = 2
+timebase_code Ms87_04 = 3
 
 -- what is said of a loop count, one where it is absent and one where it is given; the same of a frequency
-abbrev pub onLoop {ℓ} : {A : Type ℓ} → LoopCount → A → (ℕ → A) → A
-onLoop LoopCount.Absent absent given = absent
-onLoop (LoopCount.Given k) absent given = given k
+abbrev pub on_loop {ℓ} : {A : Type ℓ} → LoopCount → A → (ℕ → A) → A
+on_loop LoopCount.Absent absent given = absent
+on_loop (LoopCount.Given k) absent given = given k
 
-abbrev pub onFrequency {ℓ} : {A : Type ℓ} → Frequency → A → (ℕ → A) → A
-onFrequency Frequency.Absent absent given = absent
-onFrequency (Frequency.Given f) absent given = given f
+abbrev pub on_frequency {ℓ} : {A : Type ℓ} → Frequency → A → (ℕ → A) → A
+on_frequency Frequency.Absent absent given = absent
+on_frequency (Frequency.Given f) absent given = given f
 
 -- ---- the bytes
 
 -- bit 7 clear, gain code in bits 6..5, timebase code in 4..3, low three bits of the snippet number in 2..0
-abbrev pub firstByte : FrameBuilder → ℕ
-firstByte b = gainCode b.gain * 32 + timebaseCode b.timebase * 8 + b.snippet_id % 8
+abbrev pub first_byte : FrameBuilder → ℕ
+first_byte b = gain_code b.gain * 32 + timebase_code b.timebase * 8 + b.snippet_id % 8
 
 -- bit 7 set, loop count (0 if absent) in bits 6..3, frequency-present in 2, frequency bit 8 in 1, snippet number bit 3 in 0
-abbrev pub secondByte : FrameBuilder → ℕ
-secondByte b =
-    128 + onLoop b.loop_count 0 (λ k. k % 16) * 8 + onFrequency b.frequency 0 (λ f. 4 + f / 256 % 2 * 2) + b.snippet_id / 8 % 2
+abbrev pub second_byte : FrameBuilder → ℕ
+second_byte b =
+    128 + on_loop b.loop_count 0 (λ k. k % 16) * 8 + on_frequency b.frequency 0 (λ f. 4 + f / 256 % 2 * 2) + b.snippet_id / 8 % 2
 
 -- a second byte follows if the number is 8 or more, or a loop count or a frequency was given
-abbrev pub hasSecond : FrameBuilder → Bool
-hasSecond b = onFrequency b.frequency false (λ _. true) || onLoop b.loop_count false (λ _. true) || leb 8 (b.snippet_id % 16)
+abbrev pub has_second : FrameBuilder → Bool
+has_second b = on_frequency b.frequency false (λ _. true) || on_loop b.loop_count false (λ _. true) || leb 8 (b.snippet_id % 16)
 
 -- one to three bytes: the third is the low eight bits of a frequency
-abbrev pub bytesOf : FrameBuilder → List ℕ
-bytesOf b = firstByte b ∷ cond (hasSecond b) (secondByte b ∷ onFrequency b.frequency [] (λ f. f % 256 ∷ [])) []
+abbrev pub bytes_of : FrameBuilder → List ℕ
+bytes_of b = first_byte b ∷ cond (has_second b) (second_byte b ∷ on_frequency b.frequency [] (λ f. f % 256 ∷ [])) []
 
 -- ---- a built frame
 
 -- the bytes that a frame shows: the first len, three at most
-abbrev pub frameBytes : Frame → List ℕ
-frameBytes f = take f.len f.bytes
+abbrev pub frame_bytes : Frame → List ℕ
+frame_bytes f = take f.len f.bytes
 
 -- three bytes, zeros after the frame's own
-abbrev pub builtFrame : FrameBuilder → Frame
-builtFrame b = record { bytes = take 3 (bytesOf b ++ replicate 3 0); len = length (bytesOf b) }
+abbrev pub built_frame : FrameBuilder → Frame
+built_frame b = record { bytes = take 3 (bytes_of b ++ replicate 3 0); len = length (bytes_of b) }

@@ -11,14 +11,14 @@
 mod bits;
 
 ghost use Rattle.std.specs.Prelude.{◌≡◌, ◌%◌, ◌+◌, ◌^◌, ◌≤◌, ◌<◌, length, drop};
-ghost use Rattle.laws.specs.Whole.{whole, wholeOut, lengthOf};
-ghost use Rattle.errors.specs.Number.{answerNumber, encodedTold};
+ghost use Rattle.laws.specs.Whole.{whole, whole_out, length_of};
+ghost use Rattle.errors.specs.Number.{answer_number, encoded_told};
 ghost use Rattle.errors.specs.Told.{gives, handed};
-ghost use Rattle.frame.specs.Builder.{frameWith, plainFrame, silentFrame, newFrame, newTold};
-ghost use Rattle.frame.specs.Builder.{withGain, withTimebase, withLoopCount, withFrequency};
-ghost use Rattle.frame.specs.Read.{gainAt, timebaseAt, fieldsIn, oneByte, twoBytes, threeBytes, secondAt, firstFrame, readTold};
-ghost use Rattle.frame.specs.Frame.{gainCode, timebaseCode, onLoop, onFrequency, frameBytes, builtFrame};
-ghost use Rattle.frame.specs.Word.{frameWord};
+ghost use Rattle.frame.specs.Builder.{frame_with, plain_frame, silent_frame, new_frame, new_told};
+ghost use Rattle.frame.specs.Builder.{with_gain, with_timebase, with_loop_count, with_frequency};
+ghost use Rattle.frame.specs.Read.{gain_at, timebase_at, fields_in, one_byte, two_bytes, three_bytes, second_at, first_frame, read_told};
+ghost use Rattle.frame.specs.Frame.{gain_code, timebase_code, on_loop, on_frequency, frame_bytes, built_frame};
+ghost use Rattle.frame.specs.Word.{frame_word};
 
 use errors::{Answer, Encoded, Error};
 
@@ -89,7 +89,7 @@ pub struct SetFrame {
 impl Gain {
     // A code past the last counts as the last.
     pub fn from_code(code: u8) -> Gain
-        ensures { result ≡ gainAt code }
+        ensures { result ≡ gain_at code }
     {
         match code {
             0 => Gain::Full,
@@ -101,7 +101,7 @@ impl Gain {
 
     // The code in a frame's first byte.
     pub fn code(self) -> u8
-        ensures { result ≡ gainCode self }
+        ensures { result ≡ gain_code self }
     {
         match self {
             Gain::Full => 0,
@@ -115,7 +115,7 @@ impl Gain {
 impl Timebase {
     // A code past the last counts as the last.
     pub fn from_code(code: u8) -> Timebase
-        ensures { result ≡ timebaseAt code }
+        ensures { result ≡ timebase_at code }
     {
         match code {
             0 => Timebase::Ms5_44,
@@ -127,7 +127,7 @@ impl Timebase {
 
     // The code in a frame's first byte.
     pub fn code(self) -> u8
-        ensures { result ≡ timebaseCode self }
+        ensures { result ≡ timebase_code self }
     {
         match self {
             Timebase::Ms5_44 => 0,
@@ -141,7 +141,7 @@ impl Timebase {
 impl Frame {
     // How many bytes the frame has, three at most.
     pub fn byte_len(self) -> usize
-        ensures { result ≡ length (frameBytes self) }
+        ensures { result ≡ length (frame_bytes self) }
     {
         if self.len < 3 { self.len as usize } else { 3 }
     }
@@ -155,8 +155,8 @@ impl Frame {
 
     // Copies all bytes and answers how many, or copies none and answers BufferTooShort.
     pub fn encode_into(self, buffer: &mut [u8]) -> Encoded
-        ensures result_value { encodedTold result ≡ lengthOf (whole buffer.old (gives (frameBytes self))) }
-        ensures buffer_after { buffer.new ≡ wholeOut buffer.old (gives (frameBytes self)) }
+        ensures result_value { encoded_told result ≡ length_of (whole buffer.old (gives (frame_bytes self))) }
+        ensures buffer_after { buffer.new ≡ whole_out buffer.old (gives (frame_bytes self)) }
     {
         let bytes = self.bytes;
         let n = self.byte_len();
@@ -167,7 +167,7 @@ impl Frame {
 impl FrameBuilder {
     // A frame of a snippet, or InvalidSnippetId for a number that is 0 or above 15.
     pub fn new(snippet_id: u8) -> NewFrame
-        ensures { newTold result ≡ newFrame snippet_id }
+        ensures { new_told result ≡ new_frame snippet_id }
     {
         if snippet_id < 1 {
             return NewFrame::Refused(Error::InvalidSnippetId);
@@ -180,14 +180,14 @@ impl FrameBuilder {
 
     // The built-in silence, number 0.
     pub fn silence() -> FrameBuilder
-        ensures { result ≡ silentFrame }
+        ensures { result ≡ silent_frame }
     {
         FrameBuilder::plain(0)
     }
 
     // Sets the gain.
     pub fn gain(self, gain: Gain) -> FrameBuilder
-        ensures { result ≡ withGain self gain }
+        ensures { result ≡ with_gain self gain }
     {
         let timebase = self.timebase;
         let loop_count = self.loop_count;
@@ -197,7 +197,7 @@ impl FrameBuilder {
 
     // Sets the timebase.
     pub fn timebase(self, timebase: Timebase) -> FrameBuilder
-        ensures { result ≡ withTimebase self timebase }
+        ensures { result ≡ with_timebase self timebase }
     {
         let gain = self.gain;
         let loop_count = self.loop_count;
@@ -207,7 +207,7 @@ impl FrameBuilder {
 
     // Sets the loop count, or InvalidLoopCount for one above 15.
     pub fn loop_count(self, count: u8) -> SetFrame
-        ensures { handed (answerNumber result.answer) result.builder ≡ withLoopCount self count }
+        ensures { handed (answer_number result.answer) result.builder ≡ with_loop_count self count }
     {
         if 15 < count {
             return SetFrame {
@@ -227,7 +227,7 @@ impl FrameBuilder {
 
     // Sets the frequency, or InvalidFrequency for one above 511.
     pub fn frequency_hz(self, freq_hz: u16) -> SetFrame
-        ensures { handed (answerNumber result.answer) result.builder ≡ withFrequency self freq_hz }
+        ensures { handed (answer_number result.answer) result.builder ≡ with_frequency self freq_hz }
     {
         if 511 < freq_hz {
             return SetFrame {
@@ -247,7 +247,7 @@ impl FrameBuilder {
 
     // The frame of the fields set so far.
     pub fn build(self) -> Frame
-        ensures { result ≡ builtFrame self }
+        ensures { result ≡ built_frame self }
     {
         let id = self.snippet_id;
         let gain = self.gain;
@@ -292,7 +292,7 @@ impl FrameBuilder {
 
     // The Rust's defaults.
     fn plain(number: u8) -> FrameBuilder
-        ensures { result ≡ plainFrame number }
+        ensures { result ≡ plain_frame number }
     {
         FrameBuilder::with(
             number,
@@ -311,7 +311,7 @@ impl FrameBuilder {
         loop_count: LoopCount,
         frequency: Frequency,
     ) -> FrameBuilder
-        ensures { result ≡ frameWith number gain timebase loop_count frequency }
+        ensures { result ≡ frame_with number gain timebase loop_count frequency }
     {
         FrameBuilder {
             snippet_id: number,
@@ -325,7 +325,7 @@ impl FrameBuilder {
 
 // A loop count, 0 if absent; only its low four bits count.
 fn loop_code(c: LoopCount) -> u8
-    ensures { result % 16 ≡ onLoop c 0 (λ k. k % 16) }
+    ensures { result % 16 ≡ on_loop c 0 (λ k. k % 16) }
 {
     match c {
         LoopCount::Absent => 0,
@@ -339,7 +339,7 @@ impl FrameBuilder {
     // One number of 48 bits: the snippet's number in bits 7..0, the gain's code in 15..8, the timebase's in 23..16, the
     // loop count in 31..24 (255 if absent), the frequency in 47..32 (65535 if absent).
     pub fn word(self) -> u64
-        ensures value { result ≡ frameWord self }
+        ensures value { result ≡ frame_word self }
         ensures upper_bound { result < 2 ^ 48 }
     {
         let gain = self.gain;
@@ -357,7 +357,7 @@ impl FrameBuilder {
 
 // A loop count, 255 if absent.
 fn loop_byte(k: LoopCount) -> u8
-    ensures { result ≡ onLoop k 255 (λ n. n) }
+    ensures { result ≡ on_loop k 255 (λ n. n) }
 {
     match k {
         LoopCount::Absent => 255,
@@ -367,7 +367,7 @@ fn loop_byte(k: LoopCount) -> u8
 
 // A frequency, 65535 if absent.
 fn frequency_word(f: Frequency) -> u16
-    ensures { result ≡ onFrequency f 65535 (λ n. n) }
+    ensures { result ≡ on_frequency f 65535 (λ n. n) }
 {
     match f {
         Frequency::Absent => 65535,
@@ -379,9 +379,9 @@ fn frequency_word(f: Frequency) -> u16
 
 impl FrameBuilder {
     // The first frame of the bytes from an index on, or NotAnImage.
-    #[tactic(auto, unfolding(crate::specs::Read::readFrame))]
+    #[tactic(auto, unfolding(crate::specs::Read::read_frame))]
     pub fn read(bytes: &[u8], at: usize) -> FrameRead
-        ensures { readTold result ≡ firstFrame (drop at bytes.now) }
+        ensures { read_told result ≡ first_frame (drop at bytes.now) }
     {
         if bytes.len() <= at {
             return FrameRead::Refused(Error::NotAnImage);
@@ -403,7 +403,7 @@ impl FrameBuilder {
     // A second byte says whether a third follows; bit 2 clear and bit 1 set is made by no builder.
     fn read_second(bytes: &[u8], at: usize, a: u8, b: u8) -> FrameRead
         requires { at + 2 ≤ length bytes.now }
-        ensures { readTold result ≡ secondAt bytes.now at a b }
+        ensures { read_told result ≡ second_at bytes.now at a b }
     {
         if bits::present_in(b) < 1 {
             if bits::high_in(b) < 1 {
@@ -418,7 +418,7 @@ impl FrameBuilder {
     }
 
     fn one_byte(a: u8) -> FrameBuilder
-        ensures { result ≡ oneByte a }
+        ensures { result ≡ one_byte a }
     {
         FrameBuilder::fields(
             a,
@@ -429,7 +429,7 @@ impl FrameBuilder {
     }
 
     fn two_bytes(a: u8, b: u8) -> FrameBuilder
-        ensures { result ≡ twoBytes a b }
+        ensures { result ≡ two_bytes a b }
     {
         FrameBuilder::fields(
             a,
@@ -440,7 +440,7 @@ impl FrameBuilder {
     }
 
     fn three_bytes(a: u8, b: u8, c: u8) -> FrameBuilder
-        ensures { result ≡ threeBytes a b c }
+        ensures { result ≡ three_bytes a b c }
     {
         FrameBuilder::fields(
             a,
@@ -452,7 +452,7 @@ impl FrameBuilder {
 
     // Gain and timebase from the first byte, the other fields as given.
     fn fields(a: u8, id: u8, loop_count: LoopCount, frequency: Frequency) -> FrameBuilder
-        ensures { result ≡ fieldsIn a id loop_count frequency }
+        ensures { result ≡ fields_in a id loop_count frequency }
     {
         let gain = Gain::from_code(bits::gain_in(a));
         let timebase = Timebase::from_code(bits::timebase_in(a));

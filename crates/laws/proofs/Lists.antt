@@ -11,8 +11,8 @@ use lib.Seq.{take_all, take-length}
 use Rattle.laws.specs.Bytes.{All, Bytes}
 
 -- a list shows no more than its length
-pub take-shown : {A : Type 0} (l : List A) (n k : ℕ) → k ≡ min n (length l) → take k l ≡ take n l
-take-shown {A} l n k e = ap (λ (m : ℕ). take m l) e ∙ go (dec_le n (length l)) where
+pub take_shown : {A : Type 0} (l : List A) (n k : ℕ) → k ≡ min n (length l) → take k l ≡ take n l
+take_shown {A} l n k e = ap (λ (m : ℕ). take m l) e ∙ go (dec_le n (length l)) where
   go : Dec (n ≤ length l) → take (min n (length l)) l ≡ take n l
   go (yes h) = ap (λ (m : ℕ). take m l) (min-eq_left h)
   go (no h) =
@@ -21,23 +21,23 @@ take-shown {A} l n k e = ap (λ (m : ℕ). take m l) e ∙ go (dec_le n (length 
 
 -- a count n of what a list shows, k of its elements or all where it has fewer
 module _ {A : Type 0} (l : List A) (k n : ℕ) (e : n ≡ length (take k l)) where
-  pub shown-fits : n ≤ length l
-  shown-fits = omega (arith, e ∙ length-take k l)
+  pub shown_fits : n ≤ length l
+  shown_fits = omega (arith, e ∙ length-take k l)
 
-  pub shown-length : n ≡ length (take n l)
-  shown-length = simp length-take (omega (arith, e ∙ length-take k l))
+  pub shown_length : n ≡ length (take n l)
+  shown_length = simp length-take (omega (arith, e ∙ length-take k l))
 
-  pub shown-part : take n l ≡ take k l
-  shown-part = take-shown l k n (e ∙ length-take k l)
+  pub shown_part : take n l ≡ take k l
+  shown_part = take_shown l k n (e ∙ length-take k l)
 
 -- what is known of a field that is an array of structs stands at a `map` of it
-pub length-of-map : (X Y : Type 0) (f : X → Y) (l : List X) (n : ℕ) → length (map f l) ≡ n → length l ≡ n
-length-of-map X Y f l n e = sym (length-map l f) ∙ e
+pub length_of_map : (X Y : Type 0) (f : X → Y) (l : List X) (n : ℕ) → length (map f l) ≡ n → length l ≡ n
+length_of_map X Y f l n e = sym (length-map l f) ∙ e
 
 -- what is below 256 everywhere is a list of bytes
-pub bytesOf : (l : List ℕ) → ((i : ℕ) → get_or l i 0 < 256) → Bytes l
-bytesOf [] h = tt
-bytesOf (b ∷ l) h = (h 0, bytesOf l (λ i. h (suc i)))
+pub bytes_of : (l : List ℕ) → ((i : ℕ) → get_or l i 0 < 256) → Bytes l
+bytes_of [] h = tt
+bytes_of (b ∷ l) h = (h 0, bytes_of l (λ i. h (suc i)))
 
 -- ---- what holds of each element
 

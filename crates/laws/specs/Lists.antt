@@ -11,6 +11,6 @@ abbrev pub at : List ℕ → ℕ → ℕ
 at l i = get_or l i 0
 
 -- the low k bytes of a number, the lowest first
-abbrev pub lowBytes : ℕ → ℕ → List ℕ
-lowBytes zero n = []
-lowBytes (suc k) n = n % 256 ∷ lowBytes k (n / 256)
+abbrev pub low_bytes : ℕ → ℕ → List ℕ
+low_bytes zero n = []
+low_bytes (suc k) n = n % 256 ∷ low_bytes k (n / 256)

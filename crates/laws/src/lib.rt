@@ -6,9 +6,9 @@
 
 ghost use Rattle.std.specs.Prelude.{◌≡◌, min, ◌<◌, length};
 ghost use Rattle.errors.specs.Told.{gives};
-ghost use Rattle.errors.specs.Number.{encodedTold};
+ghost use Rattle.errors.specs.Number.{encoded_told};
 ghost use Rattle.laws.specs.Copied.{copied, placed};
-ghost use Rattle.laws.specs.Whole.{whole, wholeOut, lengthOf};
+ghost use Rattle.laws.specs.Whole.{whole, whole_out, length_of};
 
 use errors::{Encoded, Error};
 
@@ -35,8 +35,8 @@ pub fn copy_into(buffer: &mut [u8], bytes: &[u8]) -> usize
 
 // Copies all bytes, or none where the buffer is shorter.
 pub fn copy_whole(buffer: &mut [u8], bytes: &[u8]) -> Encoded
-    ensures result_value { encodedTold result ≡ lengthOf (whole buffer.old (gives bytes.now)) }
-    ensures buffer_after { buffer.new ≡ wholeOut buffer.old (gives bytes.now) }
+    ensures result_value { encoded_told result ≡ length_of (whole buffer.old (gives bytes.now)) }
+    ensures buffer_after { buffer.new ≡ whole_out buffer.old (gives bytes.now) }
 {
     if buffer.len() < bytes.len() {
         return Encoded::Refused(Error::BufferTooShort);

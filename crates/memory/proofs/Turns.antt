@@ -7,25 +7,25 @@ use native.Mathlib.Numerals.{add-one}
 use native.Mathlib.Omega.{arith}
 use lib.ListN.{length, take, drop, get_or, length-append, length-take, length-drop, length-set, length-map, drop_of_length-le, get_or-map}
 use lib.Seq.{drop-cons, get_or-take}
-use Rattle.laws.proofs.Lists.{shown-part}
+use Rattle.laws.proofs.Lists.{shown_part}
 use Rattle.laws.specs.Lists.{joined}
-use Rattle.memory.specs.Laid.{withLaid, laid, HasRoom}
+use Rattle.memory.specs.Laid.{with_laid, laid, HasRoom}
 
 -- as many items as are asked for
 pub took : {A : Type 0} (f : A → List ℕ) (l : List A) (n m : ℕ) → length l ≡ m → n ≤ m → length (map f (take n l)) ≡ n
 took f l n m e h = simp (length-map, length-take, e) (omega arith)
 
 -- the next item
-pub next-item : {A : Type 0} (f : A → List ℕ) (l : List A) (n m i : ℕ) (d : A) → length l ≡ m → n ≤ m → i < n
+pub next_item : {A : Type 0} (f : A → List ℕ) (l : List A) (n m i : ℕ) (d : A) → length l ≡ m → n ≤ m → i < n
     → drop i (map f (take n l)) ≡ f (get_or l i d) ∷ drop (i + 1) (map f (take n l))
-next-item f l n m i d e h g =
+next_item f l n m i d e h g =
     let k : length (map f (take n l)) ≡ n = took f l n m e h in
     rw (add-one) (drop-cons (map f (take n l)) i (f d) (omega arith))
     ∙ ap (λ (x : List ℕ). x ∷ drop (i + 1) (map f (take n l))) (get_or-map f (take n l) i d ∙ ap f (get_or-take n l i d g))
 
-joined-next : (items : List (List ℕ)) (i : ℕ) (x : List ℕ) → drop i items ≡ x ∷ drop (i + 1) items
+joined_next : (items : List (List ℕ)) (i : ℕ) (x : List ℕ) → drop i items ≡ x ∷ drop (i + 1) items
     → length (joined (drop i items)) ≡ length x + length (joined (drop (i + 1) items))
-joined-next items i x d = ap (λ (l : List (List ℕ)). length (joined l)) d ∙ length-append x (joined (drop (i + 1) items))
+joined_next items i x d = ap (λ (l : List (List ℕ)). length (joined l)) d ∙ length-append x (joined (drop (i + 1) items))
 
 -- ---- the items' lengths, summed
 
@@ -39,16 +39,16 @@ pub record Summed {A : Type 0} (f : A → List ℕ) (m : ℕ) (l : List A) (n mo
 
 module _ {A : Type 0} {f : A → List ℕ} {m : ℕ} {l : List A} {n most sum i : ℕ} (s : Summed f m l n most sum i) where
   -- one element more, with its length
-  pub summed-more : i < n → (d : A) {k : ℕ} → (k ≡ length (f (get_or l i d))) × (k ≤ most) → Summed f m l n most (sum + k) (i + 1)
-  summed-more g d p =
-      let j = joined-next (map f (take n l)) i (f (get_or l i d)) (next-item f l n m i d s.held s.few g) in
+  pub summed_more : i < n → (d : A) {k : ℕ} → (k ≡ length (f (get_or l i d))) × (k ≤ most) → Summed f m l n most (sum + k) (i + 1)
+  summed_more g d p =
+      let j = joined_next (map f (take n l)) i (f (get_or l i d)) (next_item f l n m i d s.held s.few g) in
       record { held = s.held; few = s.few; counted = omega arith; rest = omega (arith, s.rest, p.0); bound = omega (arith, s.bound, p.1) }
 
 -- ---- the items put into an image
 
 -- an item that fits leaves the image's length
-pub length-with : (image : List ℕ) (pointer at : ℕ) (xs : List ℕ) → at + length xs ≤ length image → length (withLaid image pointer at xs) ≡ length image
-length-with image pointer at xs h = simp (length-append, length-take, length-drop, length-set) (omega arith)
+pub length_with : (image : List ℕ) (pointer at : ℕ) (xs : List ℕ) → at + length xs ≤ length image → length (with_laid image pointer at xs) ≡ length image
+length_with image pointer at xs h = simp (length-append, length-take, length-drop, length-set) (omega arith)
 
 -- an element's bytes: the first `count` of all
 abbrev cut : {A : Type 0} → (A → List ℕ) → (A → ℕ) → A → List ℕ
@@ -71,36 +71,36 @@ module _ {A : Type 0} {all : A → List ℕ} {count : A → ℕ} {m : ℕ} {l : 
 
   -- one element more: the first k of the bytes b
   module _ (g : i < n) (d : A) {k : ℕ} {b : List ℕ} (p : k ≡ length (cut all count (get_or l i d))) (q : b ≡ all (get_or l i d)) where
-    next-bytes : drop i items ≡ take k b ∷ drop (i + 1) items
-    next-bytes =
-        rw (ap (take k) q ∙ shown-part (all (get_or l i d)) (count (get_or l i d)) k p) (next-item (cut all count) l n m i d s.held s.room.0 g)
+    next_bytes : drop i items ≡ take k b ∷ drop (i + 1) items
+    next_bytes =
+        rw (ap (take k) q ∙ shown_part (all (get_or l i d)) (count (get_or l i d)) k p) (next_item (cut all count) l n m i d s.held s.room.0 g)
 
-    pub putting-fits : (length image ≡ 100) × (pointer + i < next) × (next + length (take k b) ≤ 100)
-    putting-fits = (
+    pub putting_fits : (length image ≡ 100) × (pointer + i < next) × (next + length (take k b) ≤ 100)
+    putting_fits = (
       s.long,
       omega (arith, s.room.2, s.behind),
-      omega (arith, joined-next items i (take k b) next-bytes, s.rest, s.room.3),
+      omega (arith, joined_next items i (take k b) next_bytes, s.rest, s.room.3),
     )
 
-    pub putting-more : {image' : List ℕ} {next' : ℕ} → (next' ≡ next + length (take k b)) × (image' ≡ withLaid image (pointer + i) next (take k b))
+    pub putting_more : {image' : List ℕ} {next' : ℕ} → (next' ≡ next + length (take k b)) × (image' ≡ with_laid image (pointer + i) next (take k b))
         → Putting all count m l n image₀ pointer at image' next' (i + 1)
     unfolding laid
-    putting-more {image'} {next'} r =
-        let j = joined-next items i (take k b) next-bytes in
+    putting_more {image'} {next'} r =
+        let j = joined_next items i (take k b) next_bytes in
         let z : pointer + (i + 1) ≡ suc (pointer + i) = omega arith in
         record {
           held = s.held;
           room = s.room;
           counted = omega arith;
-          long = ap length r.1 ∙ length-with image (pointer + i) next (take k b) (omega (arith, s.long, putting-fits.2)) ∙ s.long;
+          long = ap length r.1 ∙ length_with image (pointer + i) next (take k b) (omega (arith, s.long, putting_fits.2)) ∙ s.long;
           behind = omega (arith, s.behind, r.0);
           rest = omega (arith, s.rest, r.0);
-          whole = s.whole ∙ ap (laid image (pointer + i) next) next-bytes ∙ rw (z, r.1, r.0);
+          whole = s.whole ∙ ap (laid image (pointer + i) next) next_bytes ∙ rw (z, r.1, r.0);
         }
 
-  pub putting-all : n ≤ i → (next ≡ at + length (joined items)) × (image ≡ laid image₀ pointer at items)
+  pub putting_all : n ≤ i → (next ≡ at + length (joined items)) × (image ≡ laid image₀ pointer at items)
   unfolding laid
-  putting-all g =
+  putting_all g =
       let k = took (cut all count) l n m s.held s.room.0 in
       let d : drop i items ≡ [] = drop_of_length-le items {i = i} (omega arith) in
       let z : length (joined (drop i items)) ≡ 0 = ap (λ (x : List (List ℕ)). length (joined x)) d in

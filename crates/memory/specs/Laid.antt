@@ -5,13 +5,13 @@ use Rattle.laws.specs.Copied.{over}
 use Rattle.laws.specs.Lists.{joined}
 
 -- an item's end pointer at one index, and its bytes from another on
-abbrev pub withLaid : List ℕ → ℕ → ℕ → List ℕ → List ℕ
-withLaid image pointer at bytes = over (set image pointer (at + length bytes - 1)) at bytes
+abbrev pub with_laid : List ℕ → ℕ → ℕ → List ℕ → List ℕ
+with_laid image pointer at bytes = over (set image pointer (at + length bytes - 1)) at bytes
 
 -- the items in turn
 unfoldable pub laid : List ℕ → ℕ → ℕ → List (List ℕ) → List ℕ
 laid image pointer at [] = image
-laid image pointer at (x ∷ xs) = laid (withLaid image pointer at x) (suc pointer) (at + length x) xs
+laid image pointer at (x ∷ xs) = laid (with_laid image pointer at x) (suc pointer) (at + length x) xs
 
 -- n items, of m at most, fit in a hundred bytes: their end pointers from an index on, their bytes from a later one on
 abbrev pub HasRoom : ℕ → ℕ → List ℕ → ℕ → ℕ → List (List ℕ) → Type 0

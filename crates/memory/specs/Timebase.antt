@@ -4,9 +4,9 @@ use Rattle.std.specs.Prelude.{ℕ, [], ◌∷◌, get_or}
 use Rattle.memory.specs.declared.WaveformMemoryTimebase.{WaveformMemoryTimebase}
 use Rattle.memory.specs.declared.WaveformMemoryTimebase.TheVariants.{TIMEBASE_544_2176_4352_8704, TIMEBASE_136_544_2176_4352}
 
-abbrev pub timebaseBit : WaveformMemoryTimebase → ℕ
-timebaseBit TIMEBASE_544_2176_4352_8704 = 0
-timebaseBit TIMEBASE_136_544_2176_4352 = 1
+abbrev pub timebase_bit : WaveformMemoryTimebase → ℕ
+timebase_bit TIMEBASE_544_2176_4352_8704 = 0
+timebase_bit TIMEBASE_136_544_2176_4352 = 1
 
-abbrev pub memoryTimebaseAt : ℕ → WaveformMemoryTimebase
-memoryTimebaseAt code = get_or (TIMEBASE_544_2176_4352_8704 ∷ []) code TIMEBASE_136_544_2176_4352
+abbrev pub memory_timebase_at : ℕ → WaveformMemoryTimebase
+memory_timebase_at code = get_or (TIMEBASE_544_2176_4352_8704 ∷ []) code TIMEBASE_136_544_2176_4352

@@ -6,14 +6,14 @@
 
 ghost use Rattle.std.specs.Prelude.{◌≡◌, map, ◌+◌, ◌*◌, ◌≤◌, ◌<◌, min, ltb, length, take};
 ghost use Rattle.laws.specs.Lists.{joined};
-ghost use Rattle.errors.specs.Number.{answerNumber};
+ghost use Rattle.errors.specs.Number.{answer_number};
 ghost use Rattle.errors.specs.Told.{handed, built};
-ghost use Rattle.snippet.specs.Snippet.{snippetBytes};
-ghost use Rattle.sequence.specs.Sequence.{sequenceBytes};
-ghost use Rattle.memory.specs.Image.{imageBytes};
-ghost use Rattle.memory.specs.Laid.{withLaid, laid, HasRoom, ImageFits};
-ghost use Rattle.memory.specs.Memory.{snippetItems, sequenceItems, newMemory, withSnippet, withSequence, builtMemory, noMemory, loaded};
-ghost use Rattle.memory.specs.Timebase.{timebaseBit, memoryTimebaseAt};
+ghost use Rattle.snippet.specs.Snippet.{snippet_bytes};
+ghost use Rattle.sequence.specs.Sequence.{sequence_bytes};
+ghost use Rattle.memory.specs.Image.{image_bytes};
+ghost use Rattle.memory.specs.Laid.{with_laid, laid, HasRoom, ImageFits};
+ghost use Rattle.memory.specs.Memory.{snippet_items, sequence_items, new_memory, with_snippet, with_sequence, built_memory, no_memory, loaded};
+ghost use Rattle.memory.specs.Timebase.{timebase_bit, memory_timebase_at};
 
 use errors::{Answer, Error};
 use sequence::{Sequence, SequenceBuilder};
@@ -79,7 +79,7 @@ impl WaveformMemory {
         num_snippets: u8,
         num_sequences: u8,
     ) -> LoadedMemory
-        ensures { handed (answerNumber result.answer) result.memory ≡ loaded «data» len num_snippets num_sequences }
+        ensures { handed (answer_number result.answer) result.memory ≡ loaded «data» len num_snippets num_sequences }
     {
         if MAX_MEMORY_SIZE < len as usize {
             let none = no_memory();
@@ -139,7 +139,7 @@ impl WaveformMemory {
 impl WaveformMemoryTimebase {
     // The bit that `set_timebase` sends.
     pub fn code(self) -> u8
-        ensures { result ≡ timebaseBit self }
+        ensures { result ≡ timebase_bit self }
     {
         match self {
             WaveformMemoryTimebase::TIMEBASE_544_2176_4352_8704 => 0,
@@ -149,7 +149,7 @@ impl WaveformMemoryTimebase {
 
     // A code past the last counts as the last.
     pub fn from_code(code: u8) -> WaveformMemoryTimebase
-        ensures { result ≡ memoryTimebaseAt code }
+        ensures { result ≡ memory_timebase_at code }
     {
         match code {
             0 => WaveformMemoryTimebase::TIMEBASE_544_2176_4352_8704,
@@ -161,7 +161,7 @@ impl WaveformMemoryTimebase {
 impl WaveformMemoryBuilder {
     // A builder that holds nothing.
     pub fn new(acceleration_enabled: bool) -> WaveformMemoryBuilder
-        ensures { result ≡ newMemory acceleration_enabled }
+        ensures { result ≡ new_memory acceleration_enabled }
     {
         let snippet = SnippetBuilder::new().build();
         let s = snippet.snippet;
@@ -180,7 +180,7 @@ impl WaveformMemoryBuilder {
 
     // Appends a snippet, or TooManySnippets for a 16th.
     pub fn add_snippet(self, snippet: Snippet) -> AddedItem
-        ensures { handed (answerNumber result.answer) result.builder ≡ withSnippet self snippet }
+        ensures { handed (answer_number result.answer) result.builder ≡ with_snippet self snippet }
     {
         let n = self.num_snippets as usize;
         if MAX_SNIPPETS <= n {
@@ -200,14 +200,14 @@ impl WaveformMemoryBuilder {
 
     // The number of the next snippet, from 1.
     pub fn next_snippet_id(self) -> u8
-        ensures { result ≡ length (snippetItems self) + 1 }
+        ensures { result ≡ length (snippet_items self) + 1 }
     {
         least(self.num_snippets, MAX_SNIPPETS) as u8 + 1
     }
 
     // Appends a sequence, or TooManySequences for a 17th.
     pub fn add_sequence(self, sequence: Sequence) -> AddedItem
-        ensures { handed (answerNumber result.answer) result.builder ≡ withSequence self sequence }
+        ensures { handed (answer_number result.answer) result.builder ≡ with_sequence self sequence }
     {
         let n = self.num_sequences as usize;
         if MAX_SEQUENCES <= n {
@@ -227,14 +227,14 @@ impl WaveformMemoryBuilder {
 
     // The number of the next sequence, from 0.
     pub fn next_sequence_id(self) -> u8
-        ensures { result ≡ length (sequenceItems self) }
+        ensures { result ≡ length (sequence_items self) }
     {
         least(self.num_sequences, MAX_SEQUENCES) as u8
     }
 
     // Tests no snippets, no sequences, then the size.
     pub fn build(self) -> BuiltMemory
-        ensures { built (answerNumber result.answer) result.memory result.builder ≡ builtMemory self }
+        ensures { built (answer_number result.answer) result.memory result.builder ≡ built_memory self }
     {
         let s = least(self.num_snippets, MAX_SNIPPETS);
         let q = least(self.num_sequences, MAX_SEQUENCES);
@@ -280,7 +280,7 @@ impl WaveformMemoryBuilder {
 
 // What stands in an answer where there is no memory.
 fn no_memory() -> WaveformMemory
-    ensures { result ≡ noMemory }
+    ensures { result ≡ no_memory }
 {
     WaveformMemory {
         data: [0u8; MAX_MEMORY_SIZE],
@@ -300,7 +300,7 @@ fn least(count: u8, most: usize) -> usize
 
 // How many bytes a snippet takes, sixteen at most.
 fn snippet_len(snippet: Snippet) -> usize
-    ensures value { result ≡ length (snippetBytes snippet) }
+    ensures value { result ≡ length (snippet_bytes snippet) }
     ensures upper_bound { result ≤ 16 }
 {
     snippet.byte_len()
@@ -308,7 +308,7 @@ fn snippet_len(snippet: Snippet) -> usize
 
 // How many bytes a sequence takes, 96 at most.
 fn sequence_len(sequence: Sequence) -> usize
-    ensures value { result ≡ length (sequenceBytes sequence) }
+    ensures value { result ≡ length (sequence_bytes sequence) }
     ensures upper_bound { result ≤ 96 }
 {
     sequence.byte_len()
@@ -317,7 +317,7 @@ fn sequence_len(sequence: Sequence) -> usize
 // How many bytes the first n snippets take.
 fn snippets_len(snippets: [Snippet; MAX_SNIPPETS], n: usize) -> usize
     requires { n ≤ 15 }
-    ensures value { result ≡ length (joined (map snippetBytes (take n snippets))) }
+    ensures value { result ≡ length (joined (map snippet_bytes (take n snippets))) }
     ensures upper_bound { result ≤ 16 * n }
 {
     let mut sum = 0usize;
@@ -332,7 +332,7 @@ fn snippets_len(snippets: [Snippet; MAX_SNIPPETS], n: usize) -> usize
 // How many bytes the first n sequences take.
 fn sequences_len(sequences: [Sequence; MAX_SEQUENCES], n: usize) -> usize
     requires { n ≤ 16 }
-    ensures value { result ≡ length (joined (map sequenceBytes (take n sequences))) }
+    ensures value { result ≡ length (joined (map sequence_bytes (take n sequences))) }
     ensures upper_bound { result ≤ 96 * n }
 {
     let mut sum = 0usize;
@@ -351,8 +351,8 @@ fn image_of(
     sequences: [Sequence; MAX_SEQUENCES],
     q: usize,
 ) -> [u8; MAX_MEMORY_SIZE]
-    requires { ImageFits s q (map snippetBytes (take s snippets)) (map sequenceBytes (take q sequences)) }
-    ensures { result ≡ imageBytes (map snippetBytes (take s snippets)) (map sequenceBytes (take q sequences)) }
+    requires { ImageFits s q (map snippet_bytes (take s snippets)) (map sequence_bytes (take q sequences)) }
+    ensures { result ≡ image_bytes (map snippet_bytes (take s snippets)) (map sequence_bytes (take q sequences)) }
 {
     let mut image = [0u8; MAX_MEMORY_SIZE];
     image[0] = s as u8;
@@ -370,9 +370,9 @@ fn put_snippets(
     pointer: usize,
     at: usize,
 ) -> usize
-    requires { HasRoom 15 n image.old pointer at (map snippetBytes (take n snippets)) }
-    ensures value { result ≡ at + length (joined (map snippetBytes (take n snippets))) }
-    ensures image_after { image.new ≡ laid image.old pointer at (map snippetBytes (take n snippets)) }
+    requires { HasRoom 15 n image.old pointer at (map snippet_bytes (take n snippets)) }
+    ensures value { result ≡ at + length (joined (map snippet_bytes (take n snippets))) }
+    ensures image_after { image.new ≡ laid image.old pointer at (map snippet_bytes (take n snippets)) }
 {
     let mut next = at;
     let mut i = 0usize;
@@ -394,9 +394,9 @@ fn put_sequences(
     pointer: usize,
     at: usize,
 ) -> usize
-    requires { HasRoom 16 n image.old pointer at (map sequenceBytes (take n sequences)) }
-    ensures value { result ≡ at + length (joined (map sequenceBytes (take n sequences))) }
-    ensures image_after { image.new ≡ laid image.old pointer at (map sequenceBytes (take n sequences)) }
+    requires { HasRoom 16 n image.old pointer at (map sequence_bytes (take n sequences)) }
+    ensures value { result ≡ at + length (joined (map sequence_bytes (take n sequences))) }
+    ensures image_after { image.new ≡ laid image.old pointer at (map sequence_bytes (take n sequences)) }
 {
     let mut next = at;
     let mut i = 0usize;
@@ -414,7 +414,7 @@ fn put_sequences(
 fn put(image: &mut [u8], pointer: usize, at: usize, bytes: &[u8]) -> usize
     requires { (length image.old ≡ 100) × (pointer < at) × (at + length bytes.now ≤ 100) }
     ensures value { result ≡ at + length bytes.now }
-    ensures image_after { image.new ≡ withLaid image.old pointer at bytes.now }
+    ensures image_after { image.new ≡ with_laid image.old pointer at bytes.now }
 {
     let next = at + bytes.len();
     image[pointer] = (next - 1) as u8;

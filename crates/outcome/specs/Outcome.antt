@@ -1,11 +1,11 @@
 -- What a session gives in the end, and what an answer makes of the record lent with it: document 01, 'Exchanges'; document 02, CR 10.
 use Rattle.std.specs.Prelude.{ℕ, ◌+◌, ◌*◌, Bool, cond, ◌&&◌, List, [], ◌∷◌, eqb, get_or}
 use Rattle.laws.specs.Lists.{at}
-use Rattle.config.specs.Codes.{variantCode}
-use Rattle.exchange.specs.State.{isSession, countIn, lastIn, completed, readCount, purposeIn, recordIn}
+use Rattle.config.specs.Codes.{variant_code}
+use Rattle.exchange.specs.State.{is_session, count_in, last_in, completed, read_count, purpose_in, record_in}
 use Rattle.exchange.specs.Turn.{Report}
 use Rattle.da728x.specs.declared.DA728x.{DA728x}
-use Rattle.da728x.specs.Record.{recordAt}
+use Rattle.da728x.specs.Record.{record_at}
 use Rattle.outcome.specs.declared.Change.{Change}
 use Rattle.outcome.specs.declared.Change.TheVariants.{Same, To, Sequences}
 use Rattle.outcome.specs.declared.Outcome.{Outcome}
@@ -15,58 +15,58 @@ use Rattle.outcome.specs.declared.Outcome.{Outcome}
 -- one with the settings, one with the address and the image's number of sequences.
 
 -- bytes as one number, the first highest
-abbrev pub bigEndian : ℕ → List ℕ → ℕ
-bigEndian n [] = n
-bigEndian n (b ∷ bytes) = bigEndian (256 * n + b) bytes
+abbrev pub big_endian : ℕ → List ℕ → ℕ
+big_endian n [] = n
+big_endian n (b ∷ bytes) = big_endian (256 * n + b) bytes
 
 -- settings go to a record of the chip that they were sent to, and change nothing else of it; that another record stays is ours, since the
 -- Rust's `self` can be no other
-abbrev pub isChipOf : DA728x → DA728x → Bool
-isChipOf next r = eqb next.address r.address && eqb (variantCode next.variant) (variantCode r.variant)
+abbrev pub is_chip_of : DA728x → DA728x → Bool
+is_chip_of next r = eqb next.address r.address && eqb (variant_code next.variant) (variant_code r.variant)
 
 abbrev pub settling : DA728x → DA728x → Change
-settling next r = cond (isChipOf next r) (To (record { address = r.address; variant = r.variant; settings = next.settings; sequences = r.sequences })) Same
+settling next r = cond (is_chip_of next r) (To (record { address = r.address; variant = r.variant; settings = next.settings; sequences = r.sequences })) Same
 
-abbrev pub forUpload : ℕ
-forUpload = 6
+abbrev pub for_upload : ℕ
+for_upload = 6
 
 -- the start of an upload: "zero .. from the first exchange of any upload". From the start on is ours: of the calls that are lent the record it is the
 -- last before that exchange is on the bus; where the lent bytes are no session, none will be made
 abbrev pub zeroing : List ℕ → Change
-zeroing st = cond (isSession st) (Sequences 0) Same
+zeroing st = cond (is_session st) (Sequences 0) Same
 
 -- as many sequences as are said, for a record of the address where the upload goes; that another record stays is ours
 abbrev pub counting : DA728x → ℕ → DA728x → Change
 counting next n r = cond (eqb next.address r.address) (Sequences n) Same
 
 -- the last success of a session, by what it is for; "Settings are stored only after the last"
-abbrev pub changeFor : ℕ → DA728x → DA728x → Change
-changeFor purpose next r = get_or (Same ∷ To next ∷ settling next r ∷ Same ∷ Same ∷ Same ∷ counting next next.sequences r ∷ []) purpose Same
+abbrev pub change_for : ℕ → DA728x → DA728x → Change
+change_for purpose next r = get_or (Same ∷ To next ∷ settling next r ∷ Same ∷ Same ∷ Same ∷ counting next next.sequences r ∷ []) purpose Same
 
 -- any other answer that is taken: "until its last succeeds, so an upload that ends in 17 leaves zero"
-abbrev pub changeBefore : ℕ → DA728x → DA728x → Change
-changeBefore purpose next r = cond (eqb purpose forUpload) (counting next 0 r) Same
+abbrev pub change_before : ℕ → DA728x → DA728x → Change
+change_before purpose next r = cond (eqb purpose for_upload) (counting next 0 r) Same
 
 -- what an answer does to the record lent with it, where the session is `st` afterwards: one that is refused with 19 does nothing
-unfoldable pub changeBy : List ℕ → Report → DA728x → Change
-changeBy st t r =
-    let next = recordAt (recordIn st) in
-    cond (isSession st)
-    (cond (t.ended && eqb t.number 0) (changeFor (purposeIn st) next r) (cond (eqb t.number 19) Same (changeBefore (purposeIn st) next r))) Same
+unfoldable pub change_by : List ℕ → Report → DA728x → Change
+change_by st t r =
+    let next = record_at (record_in st) in
+    cond (is_session st)
+    (cond (t.ended && eqb t.number 0) (change_for (purpose_in st) next r) (cond (eqb t.number 19) Same (change_before (purpose_in st) next r))) Same
 
 -- a record with so many sequences
-abbrev pub withSequences : DA728x → ℕ → DA728x
-withSequences r n = record { address = r.address; variant = r.variant; settings = r.settings; sequences = n }
+abbrev pub with_sequences : DA728x → ℕ → DA728x
+with_sequences r n = record { address = r.address; variant = r.variant; settings = r.settings; sequences = n }
 
-abbrev pub recordBy : DA728x → Change → DA728x
-recordBy r Same = r
-recordBy r (To next) = next
-recordBy r (Sequences n) = withSequences r n
+abbrev pub record_by : DA728x → Change → DA728x
+record_by r Same = r
+record_by r (To next) = next
+record_by r (Sequences n) = with_sequences r n
 
 -- what the operation answers
-abbrev pub valueIn : List ℕ → ℕ
-valueIn st = get_or (0 ∷ 0 ∷ 0 ∷ lastIn st ∷ bigEndian 0 (at st 5 ∷ at st 4 ∷ lastIn st ∷ []) ∷ readCount st ∷ []) (purposeIn st) 0
+abbrev pub value_in : List ℕ → ℕ
+value_in st = get_or (0 ∷ 0 ∷ 0 ∷ last_in st ∷ big_endian 0 (at st 5 ∷ at st 4 ∷ last_in st ∷ []) ∷ read_count st ∷ []) (purpose_in st) 0
 
 -- "The count of exchanges made stands in every session result"
-unfoldable pub outcomeOf : List ℕ → Outcome
-outcomeOf st = record { made = countIn st; completed = completed st; value = cond (completed st) (valueIn st) 0 }
+unfoldable pub outcome_of : List ℕ → Outcome
+outcome_of st = record { made = count_in st; completed = completed st; value = cond (completed st) (value_in st) 0 }

@@ -4,9 +4,9 @@
 #![tactic(auto)]
 
 ghost use Rattle.std.specs.Prelude.{min, ◌≡◌, cond, ◌&&◌, ◌||◌, [], ◌∷◌, eqb, length};
-ghost use Rattle.exchange.specs.State.{isSession, completed, purposeIn, recordIn};
-ghost use Rattle.exchange.specs.Turn.{turnReport};
-ghost use Rattle.da728x.specs.Record.{recordAt};
+ghost use Rattle.exchange.specs.State.{is_session, completed, purpose_in, record_in};
+ghost use Rattle.exchange.specs.Turn.{turn_report};
+ghost use Rattle.da728x.specs.Record.{record_at};
 ghost use Rattle.outcome.specs.Outcome as spec;
 
 use da728x::DA728x;
@@ -49,7 +49,7 @@ pub struct Outcome {
 
 // The record after a change.
 pub fn changed(driver: DA728x, change: Change) -> DA728x
-    ensures { result ≡ spec.recordBy driver change }
+    ensures { result ≡ spec.record_by driver change }
 {
     match change {
         Change::Same => driver,
@@ -60,7 +60,7 @@ pub fn changed(driver: DA728x, change: Change) -> DA728x
 
 // The record with so many sequences.
 fn with_sequences(driver: DA728x, sequences: u8) -> DA728x
-    ensures { result ≡ spec.withSequences driver sequences }
+    ensures { result ≡ spec.with_sequences driver sequences }
 {
     let variant = driver.variant;
     let settings = driver.settings;
@@ -76,7 +76,7 @@ fn with_sequences(driver: DA728x, sequences: u8) -> DA728x
 // (proofs/Changes.antt, `unchanged`).
 pub fn may_change(session: &[u8], turn: Turn) -> bool
     ensures { result
-        ≡ (turn.ended && (isSession session.now && (eqb (purposeIn session.now) 1 || eqb (purposeIn session.now) 2))) }
+        ≡ (turn.ended && (is_session session.now && (eqb (purpose_in session.now) 1 || eqb (purpose_in session.now) 2))) }
 {
     if turn.ended {
         if session.len() == exchange::SESSION_SIZE {
@@ -97,7 +97,7 @@ fn has_record(purpose: u8) -> bool
 }
 
 pub fn is_upload(session: &[u8]) -> bool
-    ensures { result ≡ isSession session.now && eqb (purposeIn session.now) spec.forUpload }
+    ensures { result ≡ is_session session.now && eqb (purpose_in session.now) spec.for_upload }
 {
     if session.len() == exchange::SESSION_SIZE {
         return session[exchange::PURPOSE] == UPLOAD;
@@ -116,9 +116,9 @@ pub fn zeroing(session: &[u8]) -> Change
 }
 
 // What an answer that gave this turn makes of the record that was lent with it; the session is as the answer left it.
-#[tactic(auto, unfolding(crate::specs::Outcome::changeBy))]
+#[tactic(auto, unfolding(crate::specs::Outcome::change_by))]
 pub fn change_by(driver: DA728x, session: &[u8], turn: Turn) -> Change
-    ensures { result ≡ spec.changeBy session.now (turnReport turn) driver }
+    ensures { result ≡ spec.change_by session.now (turn_report turn) driver }
 {
     let answer = turn.answer;
     let number = answer.number();
@@ -138,7 +138,7 @@ pub fn change_by(driver: DA728x, session: &[u8], turn: Turn) -> Change
 // The last success.
 fn change_for(driver: DA728x, session: &[u8]) -> Change
     requires { length session.now ≡ 280 }
-    ensures { result ≡ spec.changeFor (purposeIn session.now) (recordAt (recordIn session.now)) driver }
+    ensures { result ≡ spec.change_for (purpose_in session.now) (record_at (record_in session.now)) driver }
 {
     match session[exchange::PURPOSE] {
         NEW => Change::To(carried(session)),
@@ -154,7 +154,7 @@ fn change_for(driver: DA728x, session: &[u8]) -> Change
 // Any other answer that was taken.
 fn change_before(driver: DA728x, session: &[u8]) -> Change
     requires { length session.now ≡ 280 }
-    ensures { result ≡ spec.changeBefore (purposeIn session.now) (recordAt (recordIn session.now)) driver }
+    ensures { result ≡ spec.change_before (purpose_in session.now) (record_at (record_in session.now)) driver }
 {
     if session[exchange::PURPOSE] == UPLOAD {
         return count(carried(session), 0, driver);
@@ -165,7 +165,7 @@ fn change_before(driver: DA728x, session: &[u8]) -> Change
 // The record that a session carries.
 fn carried(session: &[u8]) -> DA728x
     requires { length session.now ≡ 280 }
-    ensures { result ≡ recordAt (recordIn session.now) }
+    ensures { result ≡ record_at (record_in session.now) }
 {
     DA728x::from_bytes(&session[exchange::RECORD..exchange::PLAN])
 }
@@ -198,7 +198,7 @@ fn count(next: DA728x, sequences: u8, driver: DA728x) -> Change
 }
 
 fn is_chip_of(next: DA728x, driver: DA728x) -> bool
-    ensures { result ≡ spec.isChipOf next driver }
+    ensures { result ≡ spec.is_chip_of next driver }
 {
     let variant = driver.variant;
     let sent_to = next.variant;
@@ -210,9 +210,9 @@ fn is_chip_of(next: DA728x, driver: DA728x) -> bool
 
 // ---- what a session came to
 
-#[tactic(auto, unfolding(crate::specs::Outcome::outcomeOf))]
+#[tactic(auto, unfolding(crate::specs::Outcome::outcome_of))]
 pub fn result(session: &[u8]) -> Outcome
-    ensures { result ≡ spec.outcomeOf session.now }
+    ensures { result ≡ spec.outcome_of session.now }
 {
     Outcome {
         made: exchange::made(session),
@@ -224,7 +224,7 @@ pub fn result(session: &[u8]) -> Outcome
 // What the operation answers; 0 until every exchange was made.
 #[tactic(auto, unfolding(exchange::specs::State::completed))]
 fn answer_of(session: &[u8]) -> u32
-    ensures { result ≡ cond (completed session.now) (spec.valueIn session.now) 0 }
+    ensures { result ≡ cond (completed session.now) (spec.value_in session.now) 0 }
 {
     if session.len() == exchange::SESSION_SIZE {
         if exchange::is_completed(session) {
@@ -236,7 +236,7 @@ fn answer_of(session: &[u8]) -> u32
 
 fn value(session: &[u8]) -> u32
     requires { length session.now ≡ 280 }
-    ensures { result ≡ spec.valueIn session.now }
+    ensures { result ≡ spec.value_in session.now }
 {
     let last = session[exchange::LAST];
     match session[exchange::PURPOSE] {
@@ -258,7 +258,7 @@ fn one(b: u8) -> u32
 }
 
 fn three(a: u8, b: u8, c: u8) -> u32
-    ensures { result ≡ spec.bigEndian 0 (a ∷ b ∷ c ∷ []) }
+    ensures { result ≡ spec.big_endian 0 (a ∷ b ∷ c ∷ []) }
 {
     256 * (256 * (a as u32) + b as u32) + c as u32
 }

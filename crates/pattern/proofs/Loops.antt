@@ -17,39 +17,39 @@ use Rattle.frame.specs.declared.Frequency.{Frequency}
 use Rattle.frame.specs.declared.Frequency.TheVariants as Frequency
 use Rattle.frame.specs.declared.FrameBuilder.{FrameBuilder}
 use Rattle.frame.specs.Agreement.{FrameAdmitted}
-use Rattle.frame.specs.Builder.{frameWith}
+use Rattle.frame.specs.Builder.{frame_with}
 use Rattle.frame.proofs.Canon.{canon}
-use Rattle.frame.proofs.Parts.{absentIsZero, written}
+use Rattle.frame.proofs.Parts.{absent_is_zero, written}
 use Rattle.content.specs.Content.{Content}
 use Rattle.content.proofs.Admits.{SequenceAdmitted}
-use Rattle.content.specs.ReadImage.{readImage}
+use Rattle.content.specs.ReadImage.{read_image}
 use Rattle.laws.proofs.Lists.{all_map}
 use Rattle.content.proofs.Codec.{some_inj}
-use Rattle.content.proofs.Images.{image-codec}
+use Rattle.content.proofs.Images.{image_codec}
 use Rattle.content.proofs.Sameness.{canonical}
 use Rattle.pattern.specs.Demand.{LoopAsRead}
 
 module _ (n : ℕ) (g : Gain) (t : Timebase) where
-  loop-written : (k : LoopCount) (q : Frequency) → n ≤ 15 → LoopAsRead (frameWith n g t (written (absentIsZero n q) k) q)
-  loop-written (LoopCount.Given k) Frequency.Absent h = refl
-  loop-written (LoopCount.Given k) (Frequency.Given f) h = refl
-  loop-written LoopCount.Absent (Frequency.Given f) h = refl
-  loop-written LoopCount.Absent Frequency.Absent h = go (leb 8 n) refl where
-    go : (z : Bool) → leb 8 n ≡ z → LoopAsRead (frameWith n g t (written z LoopCount.Absent) Frequency.Absent)
+  loop_written : (k : LoopCount) (q : Frequency) → n ≤ 15 → LoopAsRead (frame_with n g t (written (absent_is_zero n q) k) q)
+  loop_written (LoopCount.Given k) Frequency.Absent h = refl
+  loop_written (LoopCount.Given k) (Frequency.Given f) h = refl
+  loop_written LoopCount.Absent (Frequency.Given f) h = refl
+  loop_written LoopCount.Absent Frequency.Absent h = go (leb 8 n) refl where
+    go : (z : Bool) → leb 8 n ≡ z → LoopAsRead (frame_with n g t (written z LoopCount.Absent) Frequency.Absent)
     go true e = refl
     go false e = let l = leb-false 8 n e in sym (lt-leb 8 (n % 16) (omega arith))
 
-loop-canon : (f : FrameBuilder) → FrameAdmitted f → LoopAsRead (canon f)
+loop_canon : (f : FrameBuilder) → FrameAdmitted f → LoopAsRead (canon f)
 unfolding canon
-loop-canon f h = loop-written f.snippet_id f.gain f.timebase f.loop_count f.frequency h.numberFits
+loop_canon f h = loop_written f.snippet_id f.gain f.timebase f.loop_count f.frequency h.number_fits
 
-loops-canonical : (qs : List (List FrameBuilder)) → All SequenceAdmitted qs → All (All LoopAsRead) (map (map canon) qs)
-loops-canonical qs h = all_map (All LoopAsRead) (map canon) (λ fs s. all_map LoopAsRead canon loop-canon fs s.each) qs h
+loops_canonical : (qs : List (List FrameBuilder)) → All SequenceAdmitted qs → All (All LoopAsRead) (map (map canon) qs)
+loops_canonical qs h = all_map (All LoopAsRead) (map canon) (λ fs s. all_map LoopAsRead canon loop_canon fs s.each) qs h
 
 -- what is read is what its own image is read back to
-pub loops-read : (l : List ℕ) → Bytes l → (c : Content) → readImage l ≡ some c → All (All LoopAsRead) c.sequences
+pub loops_read : (l : List ℕ) → Bytes l → (c : Content) → read_image l ≡ some c → All (All LoopAsRead) c.sequences
 unfolding canonical
-loops-read l h c e =
-    let (a, w) = image-codec.sound l c h e in
-    let r : canonical c ≡ c = some_inj (sym (image-codec.complete c a) ∙ ap readImage w ∙ e) in
-    subst (λ (d : Content). All (All LoopAsRead) d.sequences) r (loops-canonical c.sequences a.sequences.each)
+loops_read l h c e =
+    let (a, w) = image_codec.sound l c h e in
+    let r : canonical c ≡ c = some_inj (sym (image_codec.complete c a) ∙ ap read_image w ∙ e) in
+    subst (λ (d : Content). All (All LoopAsRead) d.sequences) r (loops_canonical c.sequences a.sequences.each)

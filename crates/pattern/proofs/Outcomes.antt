@@ -22,9 +22,9 @@ Outcome n new old = ((n ≡ 0) × new) ⊎ ((0 < n) × old)
 module _ {B K X : Type 0} (step : B → K → Handed B) (adds : K → X) (P : B → List X → Type 0)
     (one : (b : B) (xs : List X) (k : K) → P b xs → Outcome (step b k).number (P (step b k).builder (xs ++ (adds k ∷ []))) (P (step b k).builder xs)) where
   -- what holds of a builder and what it held before holds after a list of calls
-  pub all-calls : (ks : List K) (b : B) (xs : List X) → P b xs → P (ran step b ks) (xs ++ held step adds b ks)
-  all-calls [] b xs h = subst (P b) (sym (append-nil xs)) h
-  all-calls (k ∷ ks) b xs h = go (λ ys p. all-calls ks (step b k).builder ys p) (one b xs k h) where
+  pub all_calls : (ks : List K) (b : B) (xs : List X) → P b xs → P (ran step b ks) (xs ++ held step adds b ks)
+  all_calls [] b xs h = subst (P b) (sym (append-nil xs)) h
+  all_calls (k ∷ ks) b xs h = go (λ ys p. all_calls ks (step b k).builder ys p) (one b xs k h) where
     go : ((ys : List X) → P (step b k).builder ys → P (ran step (step b k).builder ks) (ys ++ held step adds (step b k).builder ks))
         → Outcome (step b k).number (P (step b k).builder (xs ++ (adds k ∷ []))) (P (step b k).builder xs)
         → P (ran step (step b k).builder ks) (xs ++ cond (ltb 0 (step b k).number) (held step adds (step b k).builder ks) (adds k ∷ held step adds (step b k).builder ks))

@@ -16,7 +16,7 @@ use Rattle.errors.specs.Told.{Told, gives, Handed}
 use Rattle.snippet.specs.declared.SnippetBuilder.{SnippetBuilder}
 use Rattle.snippet.specs.Point.{PointAdmitted}
 use Rattle.snippet.specs.Point as made
-use Rattle.snippet.specs.Snippet.{newSnippet, withMade}
+use Rattle.snippet.specs.Snippet.{new_snippet, with_made}
 use Rattle.frame.specs.declared.Gain.{Gain}
 use Rattle.frame.specs.declared.Timebase.{Timebase}
 use Rattle.frame.specs.declared.LoopCount.{LoopCount}
@@ -26,27 +26,27 @@ use Rattle.frame.specs.declared.Frequency.TheVariants as Frequency
 use Rattle.frame.specs.declared.FrameBuilder.{FrameBuilder}
 use Rattle.frame.specs.Agreement.{FrameAdmitted}
 use Rattle.frame.proofs.Parts.{LoopAdmitted, FrequencyAdmitted}
-use Rattle.frame.specs.Builder.{frameWith, plainFrame}
-use Rattle.frame.specs.Frame.{bytesOf, frameBytes, builtFrame}
+use Rattle.frame.specs.Builder.{frame_with, plain_frame}
+use Rattle.frame.specs.Frame.{bytes_of, frame_bytes, built_frame}
 use Rattle.sequence.specs.declared.SequenceBuilder.{SequenceBuilder}
-use Rattle.sequence.specs.Sequence.{newSequence}
+use Rattle.sequence.specs.Sequence.{new_sequence}
 use Rattle.memory.specs.declared.WaveformMemoryBuilder.{WaveformMemoryBuilder}
-use Rattle.memory.specs.Image.{imageSize}
-use Rattle.memory.specs.Memory.{newMemory, imageNumber, builtMemory}
+use Rattle.memory.specs.Image.{image_size}
+use Rattle.memory.specs.Memory.{new_memory, image_number, built_memory}
 use Rattle.memory.proofs.Images.{joined_length}
-use Rattle.content.specs.Content.{Point, Content, pointBytes, framesBytes, Admitted}
+use Rattle.content.specs.Content.{Point, Content, point_bytes, frames_bytes, Admitted}
 use Rattle.content.proofs.Admits.{SnippetAdmitted, SequenceAdmitted}
 use Rattle.content.proofs.Points.{Good}
 use Rattle.content.proofs.Sequences.{long}
-use Rattle.pattern.specs.Calls.{ran, held, SnippetCall, ramp, step, snippetStep, addedPoint, pointsFrom, FrameCall, gain, timebase, loopCount, frequencyHz, Begin, new, silence, begunBy, FrameCalls, numberOf, frameFrom, sequenceStep, framesFrom, snippetFrom, sequenceFrom, MemoryCall, addSnippet, addSequence, memoryStep, contentFrom, builtFrom}
-use Rattle.pattern.proofs.Items.{frameRan, withMadeFrame, Item, points, frames, addedItem, snippetsOf, sequencesOf, contentOf, content-held}
+use Rattle.pattern.specs.Calls.{ran, held, SnippetCall, ramp, step, snippet_step, added_point, points_from, FrameCall, gain, timebase, loop_count, frequency_hz, Begin, new, silence, begun_by, FrameCalls, number_of, frame_from, sequence_step, frames_from, snippet_from, sequence_from, MemoryCall, add_snippet, add_sequence, memory_step, content_from, built_from}
+use Rattle.pattern.proofs.Items.{frame_ran, with_made_frame, Item, points, frames, added_item, snippets_of, sequences_of, content_of, content_held}
 use Rattle.pattern.proofs.Outcomes.{Outcome}
 use Rattle.pattern.proofs.Snippets as snippet
-use Rattle.pattern.proofs.Frames.{built-bytes, fieldsAfter, ran-fields}
+use Rattle.pattern.proofs.Frames.{built_bytes, fields_after, ran_fields}
 use Rattle.pattern.proofs.Sequences as sequence
-use Rattle.pattern.proofs.Sequences.{frames-append}
+use Rattle.pattern.proofs.Sequences.{frames_append}
 use Rattle.pattern.proofs.Memories as memory
-use Rattle.pattern.proofs.Memories.{snippets-append, sequences-append}
+use Rattle.pattern.proofs.Memories.{snippets_append, sequences_append}
 
 -- ---- any builder
 
@@ -72,9 +72,9 @@ module _ {B K X : Type 0} (step' : B → K → Handed B) (adds : K → X) (P : B
         (ap₂ (λ (z : X) (zs : List X). z ∷ zs) t.1 (rest (subst (λ (z : X). P (step' b (call y)).builder (xs ++ (z ∷ []))) t.1 w.1)))
     go rest (inr w) = let z = t.0 in absurd (omega (arith, w.0))
 
-all-last : {A : Type 0} (P : A → Type 0) (xs : List A) (x : A) → All P (xs ++ (x ∷ [])) → P x
-all-last P [] x h = h.0
-all-last P (y ∷ xs) x h = all-last P xs x h.1
+all_last : {A : Type 0} (P : A → Type 0) (xs : List A) (x : A) → All P (xs ++ (x ∷ [])) → P x
+all_last P [] x h = h.0
+all_last P (y ∷ xs) x h = all_last P xs x h.1
 
 -- ---- snippets
 
@@ -85,229 +85,229 @@ abbrev called : Bool → ℕ → ℕ → SnippetCall
 called true t a = ramp t a
 called false t a = step t a
 
-abbrev pub pointCall : Point → SnippetCall
-pointCall p = called p.ramp p.timebases p.amplitude
+abbrev pub point_call : Point → SnippetCall
+point_call p = called p.ramp p.timebases p.amplitude
 
-points-less : (xs ys : List Point) → PointsFit (xs ++ ys) → PointsFit xs
-points-less xs ys f = (let n = length-append xs ys in omega (arith, f.0), all_left Good xs ys f.1)
+points_less : (xs ys : List Point) → PointsFit (xs ++ ys) → PointsFit xs
+points_less xs ys f = (let n = length-append xs ys in omega (arith, f.0), all_left Good xs ys f.1)
 
-made-number : (b : SnippetBuilder) (r : Bool) (t a : ℕ) → PointAdmitted t a → b.len < 16 → (withMade b (made.point r t a)).number ≡ 0
-made-number b r t a g l = simp (le-ltb _ _ g.shortest, le-ltb _ _ g.longest, le-ltb _ _ g.strongest, lt-leb _ _ l)
+made_number : (b : SnippetBuilder) (r : Bool) (t a : ℕ) → PointAdmitted t a → b.len < 16 → (with_made b (made.point r t a)).number ≡ 0
+made_number b r t a g l = simp (le-ltb _ _ g.shortest, le-ltb _ _ g.longest, le-ltb _ _ g.strongest, lt-leb _ _ l)
 
-called-taken : (b : SnippetBuilder) (r : Bool) (t a : ℕ) → PointAdmitted t a → b.len < 16
-    → ((snippetStep b (called r t a)).number ≡ 0) × (addedPoint (called r t a) ≡ record { ramp = r; timebases = t; amplitude = a })
-called-taken b true t a g l = (made-number b true t a g l, refl)
-called-taken b false t a g l = (made-number b false t a g l, refl)
+called_taken : (b : SnippetBuilder) (r : Bool) (t a : ℕ) → PointAdmitted t a → b.len < 16
+    → ((snippet_step b (called r t a)).number ≡ 0) × (added_point (called r t a) ≡ record { ramp = r; timebases = t; amplitude = a })
+called_taken b true t a g l = (made_number b true t a g l, refl)
+called_taken b false t a g l = (made_number b false t a g l, refl)
 
-point-taken : (b : SnippetBuilder) (ps : List Point) (p : Point) → snippet.Holds b ps → PointsFit (ps ++ (p ∷ []))
-    → ((snippetStep b (pointCall p)).number ≡ 0) × (addedPoint (pointCall p) ≡ p)
-point-taken b ps p h f =
-    called-taken b p.ramp p.timebases p.amplitude (all-last Good ps p f.1)
+point_taken : (b : SnippetBuilder) (ps : List Point) (p : Point) → snippet.Holds b ps → PointsFit (ps ++ (p ∷ []))
+    → ((snippet_step b (point_call p)).number ≡ 0) × (added_point (point_call p) ≡ p)
+point_taken b ps p h f =
+    called_taken b p.ramp p.timebases p.amplitude (all_last Good ps p f.1)
     (let n = length-append ps (p ∷ []) in let c = h.shows.counted in omega (arith, f.0))
 
-pub points-reached : (ps : List Point) → PointsFit ps → pointsFrom (map pointCall ps) ≡ ps
-points-reached ps f = all_held snippetStep addedPoint snippet.Holds snippet.one-call pointCall PointsFit points-less point-taken ps newSnippet [] snippet.none-held f
+pub points_reached : (ps : List Point) → PointsFit ps → points_from (map point_call ps) ≡ ps
+points_reached ps f = all_held snippet_step added_point snippet.Holds snippet.one_call point_call PointsFit points_less point_taken ps new_snippet [] snippet.none_held f
 
 -- ---- frames
 
-abbrev loopCalls : LoopCount → List FrameCall
-loopCalls LoopCount.Absent = []
-loopCalls (LoopCount.Given k) = loopCount k ∷ []
+abbrev loop_calls : LoopCount → List FrameCall
+loop_calls LoopCount.Absent = []
+loop_calls (LoopCount.Given k) = loop_count k ∷ []
 
-abbrev frequencyCalls : Frequency → List FrameCall
-frequencyCalls Frequency.Absent = []
-frequencyCalls (Frequency.Given f) = frequencyHz f ∷ []
+abbrev frequency_calls : Frequency → List FrameCall
+frequency_calls Frequency.Absent = []
+frequency_calls (Frequency.Given f) = frequency_hz f ∷ []
 
-abbrev beginOf : ℕ → Begin
-beginOf zero = silence
-beginOf (suc n) = new (suc n)
+abbrev begin_of : ℕ → Begin
+begin_of zero = silence
+begin_of (suc n) = new (suc n)
 
-abbrev frameCallOf : ℕ → Gain → Timebase → LoopCount → Frequency → FrameCalls
-frameCallOf n g t l q = record { begin = beginOf n; calls = gain g ∷ timebase t ∷ (loopCalls l ++ frequencyCalls q) }
+abbrev frame_call_of : ℕ → Gain → Timebase → LoopCount → Frequency → FrameCalls
+frame_call_of n g t l q = record { begin = begin_of n; calls = gain g ∷ timebase t ∷ (loop_calls l ++ frequency_calls q) }
 
-abbrev pub frameCall : FrameBuilder → FrameCalls
-frameCall f = frameCallOf f.snippet_id f.gain f.timebase f.loop_count f.frequency
+abbrev pub frame_call : FrameBuilder → FrameCalls
+frame_call f = frame_call_of f.snippet_id f.gain f.timebase f.loop_count f.frequency
 
-number-back : (n : ℕ) → numberOf (beginOf n) ≡ n
-number-back zero = refl
-number-back (suc n) = refl
+number_back : (n : ℕ) → number_of (begin_of n) ≡ n
+number_back zero = refl
+number_back (suc n) = refl
 
-begun-back : (n : ℕ) → n ≤ 15 → begunBy (beginOf n) ≡ gives (plainFrame n)
-begun-back zero h = refl
-begun-back (suc n) h = simp (le-ltb (suc n) 1 (omega arith), le-ltb 15 (suc n) h)
+begun_back : (n : ℕ) → n ≤ 15 → begun_by (begin_of n) ≡ gives (plain_frame n)
+begun_back zero h = refl
+begun_back (suc n) h = simp (le-ltb (suc n) 1 (omega arith), le-ltb 15 (suc n) h)
 
 frame_back : (n : ℕ) (g : Gain) (t : Timebase) (l : LoopCount) (q : Frequency) → LoopAdmitted l → FrequencyAdmitted q
-    → frameFrom (frameCallOf n g t l q) ≡ frameWith n g t l q
-frame_back n g t LoopCount.Absent Frequency.Absent hl hq = simp (number-back n)
-frame_back n g t LoopCount.Absent (Frequency.Given f) hl hq = simp (number-back n, le-ltb 511 f hq)
-frame_back n g t (LoopCount.Given k) Frequency.Absent hl hq = simp (number-back n, le-ltb 15 k hl)
-frame_back n g t (LoopCount.Given k) (Frequency.Given f) hl hq = simp (number-back n, le-ltb 15 k hl, le-ltb 511 f hq)
+    → frame_from (frame_call_of n g t l q) ≡ frame_with n g t l q
+frame_back n g t LoopCount.Absent Frequency.Absent hl hq = simp (number_back n)
+frame_back n g t LoopCount.Absent (Frequency.Given f) hl hq = simp (number_back n, le-ltb 511 f hq)
+frame_back n g t (LoopCount.Given k) Frequency.Absent hl hq = simp (number_back n, le-ltb 15 k hl)
+frame_back n g t (LoopCount.Given k) (Frequency.Given f) hl hq = simp (number_back n, le-ltb 15 k hl, le-ltb 511 f hq)
 
 -- the builder after the calls has the fields that the calls say
-ran-plain : (n : ℕ) (ks : List FrameCall) (b : Begin) → numberOf b ≡ n → frameRan (plainFrame n) ks ≡ frameFrom (record { begin = b; calls = ks })
-ran-plain n ks b e = ran-fields ks (plainFrame n) ∙ ap (λ (m : ℕ). fieldsAfter (plainFrame m) ks) (sym e)
+ran_plain : (n : ℕ) (ks : List FrameCall) (b : Begin) → number_of b ≡ n → frame_ran (plain_frame n) ks ≡ frame_from (record { begin = b; calls = ks })
+ran_plain n ks b e = ran_fields ks (plain_frame n) ∙ ap (λ (m : ℕ). fields_after (plain_frame m) ks) (sym e)
 
 abbrev pub FramesFit : List FrameBuilder → Type 0
-FramesFit fs = (length (framesBytes fs) ≤ 96) × (length fs ≤ 32) × All FrameAdmitted fs
+FramesFit fs = (length (frames_bytes fs) ≤ 96) × (length fs ≤ 32) × All FrameAdmitted fs
 
-frames-less : (xs ys : List FrameBuilder) → FramesFit (xs ++ ys) → FramesFit xs
-frames-less xs ys f = (
-  let n = ap length (frames-append xs ys) ∙ length-append (framesBytes xs) (framesBytes ys) in omega (arith, f.0),
+frames_less : (xs ys : List FrameBuilder) → FramesFit (xs ++ ys) → FramesFit xs
+frames_less xs ys f = (
+  let n = ap length (frames_append xs ys) ∙ length-append (frames_bytes xs) (frames_bytes ys) in omega (arith, f.0),
   let n = length-append xs ys in omega (arith, f.1),
   all_left FrameAdmitted xs ys f.2,
 )
 
-made-taken : (b : SequenceBuilder) (m : FrameCalls) (o : Told FrameBuilder) (g : FrameBuilder) → o ≡ gives g
-    → b.len + length (frameBytes (builtFrame (frameRan g m.calls))) ≤ 96 → b.frame_count < 32
-    → (withMadeFrame b m.calls o).number ≡ 0
-made-taken b m o g e p q =
-    subst (λ (u : Told FrameBuilder). (withMadeFrame b m.calls u).number ≡ 0) (sym e) (simp (le-ltb _ _ p, lt-leb _ _ q))
+made_taken : (b : SequenceBuilder) (m : FrameCalls) (o : Told FrameBuilder) (g : FrameBuilder) → o ≡ gives g
+    → b.len + length (frame_bytes (built_frame (frame_ran g m.calls))) ≤ 96 → b.frame_count < 32
+    → (with_made_frame b m.calls o).number ≡ 0
+made_taken b m o g e p q =
+    subst (λ (u : Told FrameBuilder). (with_made_frame b m.calls u).number ≡ 0) (sym e) (simp (le-ltb _ _ p, lt-leb _ _ q))
 
-frame-taken : (b : SequenceBuilder) (fs : List FrameBuilder) (f : FrameBuilder) → sequence.Holds b fs → FramesFit (fs ++ (f ∷ []))
-    → ((sequenceStep b (frameCall f)).number ≡ 0) × (frameFrom (frameCall f) ≡ f)
-frame-taken b fs f h w =
-    let a = all-last FrameAdmitted fs f w.2 in
-    let back = frame_back f.snippet_id f.gain f.timebase f.loop_count f.frequency a.loopFits a.frequencyFits in
-    let begins = begun-back f.snippet_id a.numberFits in
-    let plain = plainFrame f.snippet_id in
-    let bytes : frameBytes (builtFrame (frameRan plain (frameCall f).calls)) ≡ bytesOf f =
-    built-bytes (frameRan plain (frameCall f).calls) ∙ ap bytesOf (ran-plain f.snippet_id (frameCall f).calls (frameCall f).begin (number-back f.snippet_id) ∙ back) in
-    let n = ap length (frames-append fs (f ∷ [])) ∙ length-append (framesBytes fs) (framesBytes (f ∷ [])) in
+frame_taken : (b : SequenceBuilder) (fs : List FrameBuilder) (f : FrameBuilder) → sequence.Holds b fs → FramesFit (fs ++ (f ∷ []))
+    → ((sequence_step b (frame_call f)).number ≡ 0) × (frame_from (frame_call f) ≡ f)
+frame_taken b fs f h w =
+    let a = all_last FrameAdmitted fs f w.2 in
+    let back = frame_back f.snippet_id f.gain f.timebase f.loop_count f.frequency a.loop_fits a.frequency_fits in
+    let begins = begun_back f.snippet_id a.number_fits in
+    let plain = plain_frame f.snippet_id in
+    let bytes : frame_bytes (built_frame (frame_ran plain (frame_call f).calls)) ≡ bytes_of f =
+    built_bytes (frame_ran plain (frame_call f).calls) ∙ ap bytes_of (ran_plain f.snippet_id (frame_call f).calls (frame_call f).begin (number_back f.snippet_id) ∙ back) in
+    let n = ap length (frames_append fs (f ∷ [])) ∙ length-append (frames_bytes fs) (frames_bytes (f ∷ [])) in
     let m = length-append fs (f ∷ []) in
-    let k = length-append (bytesOf f) [] in
-    let le : length (frameBytes (builtFrame (frameRan plain (frameCall f).calls))) ≡ length (bytesOf f) = ap length bytes in (
-      made-taken b (frameCall f) (begunBy (frameCall f).begin) plain begins (omega (arith, w.0, h.counted)) (omega (arith, w.1, h.frames)),
+    let k = length-append (bytes_of f) [] in
+    let le : length (frame_bytes (built_frame (frame_ran plain (frame_call f).calls))) ≡ length (bytes_of f) = ap length bytes in (
+      made_taken b (frame_call f) (begun_by (frame_call f).begin) plain begins (omega (arith, w.0, h.counted)) (omega (arith, w.1, h.frames)),
       back,
     )
 
-pub frames-reached : (fs : List FrameBuilder) → FramesFit fs → framesFrom (map frameCall fs) ≡ fs
-frames-reached fs f = all_held sequenceStep frameFrom sequence.Holds sequence.one-call frameCall FramesFit frames-less frame-taken fs newSequence [] sequence.none-held f
+pub frames_reached : (fs : List FrameBuilder) → FramesFit fs → frames_from (map frame_call fs) ≡ fs
+frames_reached fs f = all_held sequence_step frame_from sequence.Holds sequence.one_call frame_call FramesFit frames_less frame_taken fs new_sequence [] sequence.none_held f
 
 -- ---- items
 
 abbrev Short : List FrameBuilder → Type 0
-Short fs = length (framesBytes fs) ≤ 96
+Short fs = length (frames_bytes fs) ≤ 96
 
 record ItemsFit (is : List Item) : Type 0 where
-  fewSnippets : length (snippetsOf is) ≤ 15
-  snippet : All SnippetAdmitted (snippetsOf is)
-  fewSequences : length (sequencesOf is) ≤ 16
-  sequence : All SequenceAdmitted (sequencesOf is)
-  short : All Short (sequencesOf is)
+  few_snippets : length (snippets_of is) ≤ 15
+  snippet : All SnippetAdmitted (snippets_of is)
+  few_sequences : length (sequences_of is) ≤ 16
+  sequence : All SequenceAdmitted (sequences_of is)
+  short : All Short (sequences_of is)
 
-items-less : (xs ys : List Item) → ItemsFit (xs ++ ys) → ItemsFit xs
-items-less xs ys f =
-    let s = snippets-append xs ys in
-    let q = sequences-append xs ys in
+items_less : (xs ys : List Item) → ItemsFit (xs ++ ys) → ItemsFit xs
+items_less xs ys f =
+    let s = snippets_append xs ys in
+    let q = sequences_append xs ys in
     record {
-      fewSnippets = let n = ap length s ∙ length-append (snippetsOf xs) (snippetsOf ys) in omega (arith, f.fewSnippets);
-      snippet = all_left SnippetAdmitted (snippetsOf xs) (snippetsOf ys) (subst (All SnippetAdmitted) s f.snippet);
-      fewSequences = let n = ap length q ∙ length-append (sequencesOf xs) (sequencesOf ys) in omega (arith, f.fewSequences);
-      sequence = all_left SequenceAdmitted (sequencesOf xs) (sequencesOf ys) (subst (All SequenceAdmitted) q f.sequence);
-      short = all_left Short (sequencesOf xs) (sequencesOf ys) (subst (All Short) q f.short);
+      few_snippets = let n = ap length s ∙ length-append (snippets_of xs) (snippets_of ys) in omega (arith, f.few_snippets);
+      snippet = all_left SnippetAdmitted (snippets_of xs) (snippets_of ys) (subst (All SnippetAdmitted) s f.snippet);
+      few_sequences = let n = ap length q ∙ length-append (sequences_of xs) (sequences_of ys) in omega (arith, f.few_sequences);
+      sequence = all_left SequenceAdmitted (sequences_of xs) (sequences_of ys) (subst (All SequenceAdmitted) q f.sequence);
+      short = all_left Short (sequences_of xs) (sequences_of ys) (subst (All Short) q f.short);
     }
 
-abbrev itemCall : Item → MemoryCall
-itemCall (points ps) = addSnippet (map pointCall ps)
-itemCall (frames fs) = addSequence (map frameCall fs)
+abbrev item_call : Item → MemoryCall
+item_call (points ps) = add_snippet (map point_call ps)
+item_call (frames fs) = add_sequence (map frame_call fs)
 
-item-taken : (b : WaveformMemoryBuilder) (is : List Item) (i : Item) → memory.Holds b is → ItemsFit (is ++ (i ∷ []))
-    → ((memoryStep b (itemCall i)).number ≡ 0) × (addedItem (itemCall i) ≡ i)
-item-taken b is (points ps) h w =
-    let e = snippets-append is (points ps ∷ []) in
-    let a = all-last SnippetAdmitted (snippetsOf is) ps (subst (All SnippetAdmitted) e w.snippet) in
-    let back = points-reached ps (a.few, a.each) in
-    let held = snippet.snippet-holds (map pointCall ps) in
-    let n : length (pointsFrom (map pointCall ps)) ≡ length ps = ap length back in
-    let p : 1 ≤ (snippetFrom (map pointCall ps)).len = omega (arith, held.shows.counted, a.nonempty) in
-    let m = ap length e ∙ length-append (snippetsOf is) (ps ∷ []) in
-    let q : b.num_snippets < 15 = omega (arith, w.fewSnippets, h.snippets.counted) in
+item_taken : (b : WaveformMemoryBuilder) (is : List Item) (i : Item) → memory.Holds b is → ItemsFit (is ++ (i ∷ []))
+    → ((memory_step b (item_call i)).number ≡ 0) × (added_item (item_call i) ≡ i)
+item_taken b is (points ps) h w =
+    let e = snippets_append is (points ps ∷ []) in
+    let a = all_last SnippetAdmitted (snippets_of is) ps (subst (All SnippetAdmitted) e w.snippet) in
+    let back = points_reached ps (a.few, a.each) in
+    let held = snippet.snippet_holds (map point_call ps) in
+    let n : length (points_from (map point_call ps)) ≡ length ps = ap length back in
+    let p : 1 ≤ (snippet_from (map point_call ps)).len = omega (arith, held.shows.counted, a.nonempty) in
+    let m = ap length e ∙ length-append (snippets_of is) (ps ∷ []) in
+    let q : b.num_snippets < 15 = omega (arith, w.few_snippets, h.snippets.counted) in
     (simp (le-ltb _ _ p, lt-leb _ _ q), ap points back)
-item-taken b is (frames fs) h w =
-    let e = sequences-append is (frames fs ∷ []) in
-    let a = all-last SequenceAdmitted (sequencesOf is) fs (subst (All SequenceAdmitted) e w.sequence) in
-    let back = frames-reached fs (all-last Short (sequencesOf is) fs (subst (All Short) e w.short), a.few, a.each) in
-    let held = sequence.sequence-holds (map frameCall fs) in
-    let n : length (framesBytes (framesFrom (map frameCall fs))) ≡ length (framesBytes fs) = ap (λ (l : List FrameBuilder). length (framesBytes l)) back in
-    let p : 1 ≤ (sequenceFrom (map frameCall fs)).len = omega (arith, held.counted, long fs a.nonempty) in
-    let m = ap length e ∙ length-append (sequencesOf is) (fs ∷ []) in
-    let q : b.num_sequences < 16 = omega (arith, w.fewSequences, h.sequences.counted) in
+item_taken b is (frames fs) h w =
+    let e = sequences_append is (frames fs ∷ []) in
+    let a = all_last SequenceAdmitted (sequences_of is) fs (subst (All SequenceAdmitted) e w.sequence) in
+    let back = frames_reached fs (all_last Short (sequences_of is) fs (subst (All Short) e w.short), a.few, a.each) in
+    let held = sequence.sequence_holds (map frame_call fs) in
+    let n : length (frames_bytes (frames_from (map frame_call fs))) ≡ length (frames_bytes fs) = ap (λ (l : List FrameBuilder). length (frames_bytes l)) back in
+    let p : 1 ≤ (sequence_from (map frame_call fs)).len = omega (arith, held.counted, long fs a.nonempty) in
+    let m = ap length e ∙ length-append (sequences_of is) (fs ∷ []) in
+    let q : b.num_sequences < 16 = omega (arith, w.few_sequences, h.sequences.counted) in
     (simp (le-ltb _ _ p, lt-leb _ _ q), ap frames back)
 
-items-reached : (is : List Item) → ItemsFit is → held memoryStep addedItem (newMemory false) (map itemCall is) ≡ is
-items-reached is f = all_held memoryStep addedItem memory.Holds memory.one-call itemCall ItemsFit items-less item-taken is (newMemory false) [] (memory.none-held false) f
+items_reached : (is : List Item) → ItemsFit is → held memory_step added_item (new_memory false) (map item_call is) ≡ is
+items_reached is f = all_held memory_step added_item memory.Holds memory.one_call item_call ItemsFit items_less item_taken is (new_memory false) [] (memory.none_held false) f
 
 -- ---- the whole
 
-snippets-of-points : (ss : List (List Point)) → snippetsOf (map points ss) ≡ ss
-snippets-of-points [] = refl
-snippets-of-points (ps ∷ ss) = ap (λ (l : List (List Point)). ps ∷ l) (snippets-of-points ss)
+snippets_of_points : (ss : List (List Point)) → snippets_of (map points ss) ≡ ss
+snippets_of_points [] = refl
+snippets_of_points (ps ∷ ss) = ap (λ (l : List (List Point)). ps ∷ l) (snippets_of_points ss)
 
-snippets-of-frames : (qs : List (List FrameBuilder)) → snippetsOf (map frames qs) ≡ []
-snippets-of-frames [] = refl
-snippets-of-frames (fs ∷ qs) = snippets-of-frames qs
+snippets_of_frames : (qs : List (List FrameBuilder)) → snippets_of (map frames qs) ≡ []
+snippets_of_frames [] = refl
+snippets_of_frames (fs ∷ qs) = snippets_of_frames qs
 
-sequences-of-points : (ss : List (List Point)) → sequencesOf (map points ss) ≡ []
-sequences-of-points [] = refl
-sequences-of-points (ps ∷ ss) = sequences-of-points ss
+sequences_of_points : (ss : List (List Point)) → sequences_of (map points ss) ≡ []
+sequences_of_points [] = refl
+sequences_of_points (ps ∷ ss) = sequences_of_points ss
 
-sequences-of-frames : (qs : List (List FrameBuilder)) → sequencesOf (map frames qs) ≡ qs
-sequences-of-frames [] = refl
-sequences-of-frames (fs ∷ qs) = ap (λ (l : List (List FrameBuilder)). fs ∷ l) (sequences-of-frames qs)
+sequences_of_frames : (qs : List (List FrameBuilder)) → sequences_of (map frames qs) ≡ qs
+sequences_of_frames [] = refl
+sequences_of_frames (fs ∷ qs) = ap (λ (l : List (List FrameBuilder)). fs ∷ l) (sequences_of_frames qs)
 
-abbrev itemsOf : Content → List Item
-itemsOf c = map points c.snippets ++ map frames c.sequences
+abbrev items_of : Content → List Item
+items_of c = map points c.snippets ++ map frames c.sequences
 
-snippets-back : (c : Content) → snippetsOf (itemsOf c) ≡ c.snippets
-snippets-back c =
-    snippets-append (map points c.snippets) (map frames c.sequences)
-    ∙ ap₂ (λ (u v : List (List Point)). u ++ v) (snippets-of-points c.snippets) (snippets-of-frames c.sequences)
+snippets_back : (c : Content) → snippets_of (items_of c) ≡ c.snippets
+snippets_back c =
+    snippets_append (map points c.snippets) (map frames c.sequences)
+    ∙ ap₂ (λ (u v : List (List Point)). u ++ v) (snippets_of_points c.snippets) (snippets_of_frames c.sequences)
     ∙ append-nil c.snippets
 
-sequences-back : (c : Content) → sequencesOf (itemsOf c) ≡ c.sequences
-sequences-back c =
-    sequences-append (map points c.snippets) (map frames c.sequences)
-    ∙ ap₂ (λ (u v : List (List FrameBuilder)). u ++ v) (sequences-of-points c.snippets) (sequences-of-frames c.sequences)
+sequences_back : (c : Content) → sequences_of (items_of c) ≡ c.sequences
+sequences_back c =
+    sequences_append (map points c.snippets) (map frames c.sequences)
+    ∙ ap₂ (λ (u v : List (List FrameBuilder)). u ++ v) (sequences_of_points c.snippets) (sequences_of_frames c.sequences)
 
-all_short : (qs : List (List FrameBuilder)) → length (joined (map framesBytes qs)) ≤ 96 → All Short qs
+all_short : (qs : List (List FrameBuilder)) → length (joined (map frames_bytes qs)) ≤ 96 → All Short qs
 all_short [] h = tt
 all_short (fs ∷ qs) h =
-    let n = length-append (framesBytes fs) (joined (map framesBytes qs)) in
+    let n = length-append (frames_bytes fs) (joined (map frames_bytes qs)) in
     (omega (arith, h), all_short qs (omega (arith, h)))
 
-fits-items : (c : Content) → Admitted c → ItemsFit (itemsOf c)
-fits-items c a =
-    let j = joined_length (map pointBytes c.snippets) (map framesBytes c.sequences) in
-    let ns = length-map c.snippets pointBytes in
-    let nq = length-map c.sequences framesBytes in
-    let data' : length (joined (map framesBytes c.sequences)) ≤ 96 = omega (arith, a.fits, a.snippets.nonempty, a.sequences.nonempty) in
+fits_items : (c : Content) → Admitted c → ItemsFit (items_of c)
+fits_items c a =
+    let j = joined_length (map point_bytes c.snippets) (map frames_bytes c.sequences) in
+    let ns = length-map c.snippets point_bytes in
+    let nq = length-map c.sequences frames_bytes in
+    let data' : length (joined (map frames_bytes c.sequences)) ≤ 96 = omega (arith, a.fits, a.snippets.nonempty, a.sequences.nonempty) in
     record {
-      fewSnippets = let n = ap length (snippets-back c) in omega (arith, a.snippets.few);
-      snippet = subst (All SnippetAdmitted) (sym (snippets-back c)) a.snippets.each;
-      fewSequences = let n = ap length (sequences-back c) in omega (arith, a.sequences.few);
-      sequence = subst (All SequenceAdmitted) (sym (sequences-back c)) a.sequences.each;
-      short = subst (All Short) (sym (sequences-back c)) (all_short c.sequences data');
+      few_snippets = let n = ap length (snippets_back c) in omega (arith, a.snippets.few);
+      snippet = subst (All SnippetAdmitted) (sym (snippets_back c)) a.snippets.each;
+      few_sequences = let n = ap length (sequences_back c) in omega (arith, a.sequences.few);
+      sequence = subst (All SequenceAdmitted) (sym (sequences_back c)) a.sequences.each;
+      short = subst (All Short) (sym (sequences_back c)) (all_short c.sequences data');
     }
 
-abbrev pub callsOf : Content → List MemoryCall
-callsOf c = map itemCall (itemsOf c)
+abbrev pub calls_of : Content → List MemoryCall
+calls_of c = map item_call (items_of c)
 
-pub content-reached : (c : Content) → Admitted c → contentFrom false (callsOf c) ≡ c
-content-reached c a =
-    sym (content-held false (callsOf c))
-    ∙ ap contentOf (items-reached (itemsOf c) (fits-items c a))
-    ∙ ap₂ (λ (s : List (List Point)) (q : List (List FrameBuilder)). record { snippets = s; sequences = q }) (snippets-back c) (sequences-back c)
+pub content_reached : (c : Content) → Admitted c → content_from false (calls_of c) ≡ c
+content_reached c a =
+    sym (content_held false (calls_of c))
+    ∙ ap content_of (items_reached (items_of c) (fits_items c a))
+    ∙ ap₂ (λ (s : List (List Point)) (q : List (List FrameBuilder)). record { snippets = s; sequences = q }) (snippets_back c) (sequences_back c)
 
-number-zero : (ss qs : List (List ℕ)) → 1 ≤ length ss → 1 ≤ length qs → imageSize ss qs ≤ 100 → imageNumber ss qs ≡ 0
-number-zero ss qs p q r = simp (le-ltb _ _ p, le-ltb _ _ q, le-ltb _ _ r)
+number_zero : (ss qs : List (List ℕ)) → 1 ≤ length ss → 1 ≤ length qs → image_size ss qs ≤ 100 → image_number ss qs ≡ 0
+number_zero ss qs p q r = simp (le-ltb _ _ p, le-ltb _ _ q, le-ltb _ _ r)
 
-pub built-reached : (c : Content) → Admitted c → (builtFrom false (callsOf c)).number ≡ 0
-unfolding builtMemory
-built-reached c a =
-    let h = memory.memory-holds false (callsOf c) in
-    let e = content-held false (callsOf c) ∙ content-reached c a in
-    let ns = length-map c.snippets pointBytes in
-    let nq = length-map c.sequences framesBytes in
-    ap₂ imageNumber h.snippets.shown h.sequences.shown
-    ∙ ap (λ (d : Content). imageNumber (map pointBytes d.snippets) (map framesBytes d.sequences)) e
-    ∙ number-zero (map pointBytes c.snippets) (map framesBytes c.sequences) (omega (arith, a.snippets.nonempty)) (omega (arith, a.sequences.nonempty)) a.fits
+pub built_reached : (c : Content) → Admitted c → (built_from false (calls_of c)).number ≡ 0
+unfolding built_memory
+built_reached c a =
+    let h = memory.memory_holds false (calls_of c) in
+    let e = content_held false (calls_of c) ∙ content_reached c a in
+    let ns = length-map c.snippets point_bytes in
+    let nq = length-map c.sequences frames_bytes in
+    ap₂ image_number h.snippets.shown h.sequences.shown
+    ∙ ap (λ (d : Content). image_number (map point_bytes d.snippets) (map frames_bytes d.sequences)) e
+    ∙ number_zero (map point_bytes c.snippets) (map frames_bytes c.sequences) (omega (arith, a.snippets.nonempty)) (omega (arith, a.sequences.nonempty)) a.fits

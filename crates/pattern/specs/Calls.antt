@@ -3,10 +3,10 @@
 use Rattle.std.specs.Prelude.{ℕ, ◌%◌, Bool, true, false, cond, List, [], ◌∷◌, ltb}
 use Rattle.std.proofs.Math.Option.{Option, none, some}
 use Rattle.laws.specs.Lists.{joined}
-use Rattle.errors.specs.Told.{Told, gives, onTold, Handed, refused, Built}
+use Rattle.errors.specs.Told.{Told, gives, on_told, Handed, refused, Built}
 use Rattle.snippet.specs.declared.SnippetBuilder.{SnippetBuilder}
 use Rattle.snippet.specs.Point as made
-use Rattle.snippet.specs.Snippet.{newSnippet, withMade, builtSnippet}
+use Rattle.snippet.specs.Snippet.{new_snippet, with_made, built_snippet}
 use Rattle.frame.specs.declared.Gain.{Gain}
 use Rattle.frame.specs.declared.Gain.TheVariants.{Full}
 use Rattle.frame.specs.declared.Timebase.{Timebase}
@@ -16,15 +16,15 @@ use Rattle.frame.specs.declared.LoopCount.TheVariants as LoopCount
 use Rattle.frame.specs.declared.Frequency.{Frequency}
 use Rattle.frame.specs.declared.Frequency.TheVariants as Frequency
 use Rattle.frame.specs.declared.FrameBuilder.{FrameBuilder}
-use Rattle.frame.specs.Builder.{frameWith, silentFrame, newFrame, withGain, withTimebase, withLoopCount, withFrequency}
-use Rattle.frame.specs.Frame.{builtFrame}
+use Rattle.frame.specs.Builder.{frame_with, silent_frame, new_frame, with_gain, with_timebase, with_loop_count, with_frequency}
+use Rattle.frame.specs.Frame.{built_frame}
 use Rattle.sequence.specs.declared.SequenceBuilder.{SequenceBuilder}
-use Rattle.sequence.specs.Sequence.{newSequence, withFrame, builtSequence}
+use Rattle.sequence.specs.Sequence.{new_sequence, with_frame, built_sequence}
 use Rattle.memory.specs.declared.WaveformMemory.{WaveformMemory}
 use Rattle.memory.specs.declared.WaveformMemoryBuilder.{WaveformMemoryBuilder}
-use Rattle.memory.specs.Memory.{newMemory, withSnippet, withSequence, builtMemory}
+use Rattle.memory.specs.Memory.{new_memory, with_snippet, with_sequence, built_memory}
 use Rattle.content.specs.Content.{Point, Content}
-use Rattle.content.specs.ReadImage.{onOption, pointIn}
+use Rattle.content.specs.ReadImage.{on_option, point_in}
 
 -- ---- any builder B with calls K, each of which adds an X when it is accepted
 
@@ -35,9 +35,9 @@ module _ {B K : Type 0} (step : B → K → Handed B) where
   ran b (k ∷ ks) = ran (step b k).builder ks
 
   -- the answer to each call: 0 where it is accepted, else the number of its refusal
-  abbrev pub answersTo : B → List K → List ℕ
-  answersTo b [] = []
-  answersTo b (k ∷ ks) = (step b k).number ∷ answersTo (step b k).builder ks
+  abbrev pub answers_to : B → List K → List ℕ
+  answers_to b [] = []
+  answers_to b (k ∷ ks) = (step b k).number ∷ answers_to (step b k).builder ks
 
 module _ {B K X : Type 0} (step : B → K → Handed B) (adds : K → X) where
   -- "An item holds what its accepted calls added, in order; a refused call adds nothing"
@@ -54,119 +54,119 @@ pub data SnippetCall : Type 0 where
   point : ℕ → SnippetCall
 
 -- the byte that it asks for
-abbrev pub madeBy : SnippetCall → Told ℕ
-madeBy (ramp t a) = made.point true t a
-madeBy (step t a) = made.point false t a
-madeBy (point x) = gives (x % 256)
+abbrev pub made_by : SnippetCall → Told ℕ
+made_by (ramp t a) = made.point true t a
+made_by (step t a) = made.point false t a
+made_by (point x) = gives (x % 256)
 
-abbrev pub snippetStep : SnippetBuilder → SnippetCall → Handed SnippetBuilder
-snippetStep b k = withMade b (madeBy k)
+abbrev pub snippet_step : SnippetBuilder → SnippetCall → Handed SnippetBuilder
+snippet_step b k = with_made b (made_by k)
 
-abbrev pub addedPoint : SnippetCall → Point
-addedPoint (ramp t a) = record { ramp = true; timebases = t; amplitude = a }
-addedPoint (step t a) = record { ramp = false; timebases = t; amplitude = a }
-addedPoint (point x) = pointIn (x % 256)
+abbrev pub added_point : SnippetCall → Point
+added_point (ramp t a) = record { ramp = true; timebases = t; amplitude = a }
+added_point (step t a) = record { ramp = false; timebases = t; amplitude = a }
+added_point (point x) = point_in (x % 256)
 
-abbrev pub snippetFrom : List SnippetCall → SnippetBuilder
-snippetFrom ks = ran snippetStep newSnippet ks
+abbrev pub snippet_from : List SnippetCall → SnippetBuilder
+snippet_from ks = ran snippet_step new_snippet ks
 
-abbrev pub pointsFrom : List SnippetCall → List Point
-pointsFrom ks = held snippetStep addedPoint newSnippet ks
+abbrev pub points_from : List SnippetCall → List Point
+points_from ks = held snippet_step added_point new_snippet ks
 
 -- ---- a frame
 
 pub data FrameCall : Type 0 where
   gain : Gain → FrameCall
   timebase : Timebase → FrameCall
-  loopCount : ℕ → FrameCall
-  frequencyHz : ℕ → FrameCall
+  loop_count : ℕ → FrameCall
+  frequency_hz : ℕ → FrameCall
 
-abbrev pub frameStep : FrameBuilder → FrameCall → Handed FrameBuilder
-frameStep b (gain g) = record { number = 0; builder = withGain b g }
-frameStep b (timebase t) = record { number = 0; builder = withTimebase b t }
-frameStep b (loopCount k) = withLoopCount b k
-frameStep b (frequencyHz f) = withFrequency b f
+abbrev pub frame_step : FrameBuilder → FrameCall → Handed FrameBuilder
+frame_step b (gain g) = record { number = 0; builder = with_gain b g }
+frame_step b (timebase t) = record { number = 0; builder = with_timebase b t }
+frame_step b (loop_count k) = with_loop_count b k
+frame_step b (frequency_hz f) = with_frequency b f
 
 -- begun by `new` or `silence`
 pub data Begin : Type 0 where
   new : ℕ → Begin
   silence : Begin
 
-abbrev pub begunBy : Begin → Told FrameBuilder
-begunBy (new n) = newFrame n
-begunBy silence = gives silentFrame
+abbrev pub begun_by : Begin → Told FrameBuilder
+begun_by (new n) = new_frame n
+begun_by silence = gives silent_frame
 
 pub record FrameCalls : Type 0 where
   pub begin : Begin
   pub calls : List FrameCall
 
 -- the answer to a call on a frame: where `new` was refused, that refusal
-abbrev pub frameCalled : FrameCalls → FrameCall → ℕ
-frameCalled m k = onTold (begunBy m.begin) (λ f. (frameStep (ran frameStep f m.calls) k).number) (λ n. n)
+abbrev pub frame_called : FrameCalls → FrameCall → ℕ
+frame_called m k = on_told (begun_by m.begin) (λ f. (frame_step (ran frame_step f m.calls) k).number) (λ n. n)
 
 -- "A frame's field is what the last accepted call that sets it gave, else the Rust's default"
-abbrev pub numberOf : Begin → ℕ
-numberOf (new n) = n
-numberOf silence = 0
+abbrev pub number_of : Begin → ℕ
+number_of (new n) = n
+number_of silence = 0
 
 -- what a call sets: gain, timebase, loop count (accepted up to 15), frequency (accepted up to 511)
 abbrev pub sets : FrameCall → Option Gain × Option Timebase × Option LoopCount × Option Frequency
 sets (gain g) = (some g, none, none, none)
 sets (timebase t) = (none, some t, none, none)
-sets (loopCount k) = (none, none, cond (ltb 15 k) none (some (LoopCount.Given k)), none)
-sets (frequencyHz f) = (none, none, none, cond (ltb 511 f) none (some (Frequency.Given f)))
+sets (loop_count k) = (none, none, cond (ltb 15 k) none (some (LoopCount.Given k)), none)
+sets (frequency_hz f) = (none, none, none, cond (ltb 511 f) none (some (Frequency.Given f)))
 
 -- the last that the calls set in one field, else the default
-abbrev pub lastSet : {A : Type 0} → (FrameCall → Option A) → A → List FrameCall → A
-lastSet field a [] = a
-lastSet field a (k ∷ ks) = lastSet field (onOption (field k) a (λ x. x)) ks
+abbrev pub last_set : {A : Type 0} → (FrameCall → Option A) → A → List FrameCall → A
+last_set field a [] = a
+last_set field a (k ∷ ks) = last_set field (on_option (field k) a (λ x. x)) ks
 
-abbrev pub frameFrom : FrameCalls → FrameBuilder
-frameFrom m =
-    frameWith (numberOf m.begin) (lastSet (λ k. (sets k).0) Full m.calls) (lastSet (λ k. (sets k).1) Ms5_44 m.calls)
-    (lastSet (λ k. (sets k).2) LoopCount.Absent m.calls) (lastSet (λ k. (sets k).3) Frequency.Absent m.calls)
+abbrev pub frame_from : FrameCalls → FrameBuilder
+frame_from m =
+    frame_with (number_of m.begin) (last_set (λ k. (sets k).0) Full m.calls) (last_set (λ k. (sets k).1) Ms5_44 m.calls)
+    (last_set (λ k. (sets k).2) LoopCount.Absent m.calls) (last_set (λ k. (sets k).3) Frequency.Absent m.calls)
 
 -- ---- a sequence: each call adds the frame that its own calls make; where `new` was refused there is no frame to add
 
-abbrev pub sequenceStep : SequenceBuilder → FrameCalls → Handed SequenceBuilder
-sequenceStep b m = onTold (begunBy m.begin) (λ f. withFrame b (builtFrame (ran frameStep f m.calls))) (λ n. refused n b)
+abbrev pub sequence_step : SequenceBuilder → FrameCalls → Handed SequenceBuilder
+sequence_step b m = on_told (begun_by m.begin) (λ f. with_frame b (built_frame (ran frame_step f m.calls))) (λ n. refused n b)
 
-abbrev pub sequenceFrom : List FrameCalls → SequenceBuilder
-sequenceFrom ms = ran sequenceStep newSequence ms
+abbrev pub sequence_from : List FrameCalls → SequenceBuilder
+sequence_from ms = ran sequence_step new_sequence ms
 
-abbrev pub framesFrom : List FrameCalls → List FrameBuilder
-framesFrom ms = held sequenceStep frameFrom newSequence ms
+abbrev pub frames_from : List FrameCalls → List FrameBuilder
+frames_from ms = held sequence_step frame_from new_sequence ms
 
 -- ---- an image: each call adds the item that its own calls build; where `build` refuses there is no item to add
 
 pub data MemoryCall : Type 0 where
-  addSnippet : List SnippetCall → MemoryCall
-  addSequence : List FrameCalls → MemoryCall
+  add_snippet : List SnippetCall → MemoryCall
+  add_sequence : List FrameCalls → MemoryCall
 
-abbrev pub withBuilt : {B I S : Type 0} → (B → I → Handed B) → B → Built I S → Handed B
-withBuilt add b r = cond (ltb 0 r.number) (refused r.number b) (add b r.item)
+abbrev pub with_built : {B I S : Type 0} → (B → I → Handed B) → B → Built I S → Handed B
+with_built add b r = cond (ltb 0 r.number) (refused r.number b) (add b r.item)
 
-abbrev pub memoryStep : WaveformMemoryBuilder → MemoryCall → Handed WaveformMemoryBuilder
-memoryStep b (addSnippet ks) = withBuilt withSnippet b (builtSnippet (snippetFrom ks))
-memoryStep b (addSequence ms) = withBuilt withSequence b (builtSequence (sequenceFrom ms))
+abbrev pub memory_step : WaveformMemoryBuilder → MemoryCall → Handed WaveformMemoryBuilder
+memory_step b (add_snippet ks) = with_built with_snippet b (built_snippet (snippet_from ks))
+memory_step b (add_sequence ms) = with_built with_sequence b (built_sequence (sequence_from ms))
 
-abbrev pub addedSnippets : MemoryCall → List (List Point)
-addedSnippets (addSnippet ks) = pointsFrom ks ∷ []
-addedSnippets (addSequence ms) = []
+abbrev pub added_snippets : MemoryCall → List (List Point)
+added_snippets (add_snippet ks) = points_from ks ∷ []
+added_snippets (add_sequence ms) = []
 
-abbrev pub addedSequences : MemoryCall → List (List FrameBuilder)
-addedSequences (addSnippet ks) = []
-addedSequences (addSequence ms) = framesFrom ms ∷ []
+abbrev pub added_sequences : MemoryCall → List (List FrameBuilder)
+added_sequences (add_snippet ks) = []
+added_sequences (add_sequence ms) = frames_from ms ∷ []
 
 -- the memory builder after the calls, begun with either acceleration flag, and the content that they added
-abbrev pub memoryFrom : Bool → List MemoryCall → WaveformMemoryBuilder
-memoryFrom acceleration ks = ran memoryStep (newMemory acceleration) ks
+abbrev pub memory_from : Bool → List MemoryCall → WaveformMemoryBuilder
+memory_from acceleration ks = ran memory_step (new_memory acceleration) ks
 
-abbrev pub contentFrom : Bool → List MemoryCall → Content
-contentFrom acceleration ks =
-    let b = newMemory acceleration in
-    record { snippets = joined (held memoryStep addedSnippets b ks); sequences = joined (held memoryStep addedSequences b ks) }
+abbrev pub content_from : Bool → List MemoryCall → Content
+content_from acceleration ks =
+    let b = new_memory acceleration in
+    record { snippets = joined (held memory_step added_snippets b ks); sequences = joined (held memory_step added_sequences b ks) }
 
 -- what building then answers
-abbrev pub builtFrom : Bool → List MemoryCall → Built WaveformMemory WaveformMemoryBuilder
-builtFrom acceleration ks = builtMemory (memoryFrom acceleration ks)
+abbrev pub built_from : Bool → List MemoryCall → Built WaveformMemory WaveformMemoryBuilder
+built_from acceleration ks = built_memory (memory_from acceleration ks)

@@ -15,66 +15,66 @@ use Rattle.config.specs.declared.Trigger.TheVariants as trigger
 use Rattle.config.specs.declared.DrivingMode.{DrivingMode}
 use Rattle.config.specs.declared.DrivingMode.TheVariants.{FREQUENCY_TRACK, WIDEBAND, CUSTOM_WAVEFORM}
 use Rattle.checks.specs.Checks.{etwm}
-use Rattle.plans.specs.Configure.{featureSteps, limitSteps, calibrationSteps, pidSteps, frequencySteps, rapidStopSteps, phaseSteps, customSteps, drivingSteps, gpiSteps, givenSteps, triggerSteps, configureSteps}
+use Rattle.plans.specs.Configure.{feature_steps, limit_steps, calibration_steps, pid_steps, frequency_steps, rapid_stop_steps, phase_steps, custom_steps, driving_steps, gpi_steps, given_steps, trigger_steps, configure_steps}
 
 -- ---- parts of a fixed number
 
-pub features : (a : ActuatorConfig) (d : DeviceConfig) → length (featureSteps a d) ≡ 4
-unfolding featureSteps
+pub features : (a : ActuatorConfig) (d : DeviceConfig) → length (feature_steps a d) ≡ 4
+unfolding feature_steps
 features a d = refl
 
-pub limits : (a : ActuatorConfig) → length (limitSteps a) ≡ 3
-unfolding limitSteps
+pub limits : (a : ActuatorConfig) → length (limit_steps a) ≡ 3
+unfolding limit_steps
 limits a = refl
 
-pub calibration : (a : ActuatorConfig) → length (calibrationSteps a) ≡ 3
-unfolding calibrationSteps
+pub calibration : (a : ActuatorConfig) → length (calibration_steps a) ≡ 3
+unfolding calibration_steps
 calibration a = refl
 
-pub frequency : (hz : ℕ) → length (frequencySteps hz) ≡ 2
-unfolding frequencySteps
+pub frequency : (hz : ℕ) → length (frequency_steps hz) ≡ 2
+unfolding frequency_steps
 frequency hz = refl
 
-pub rapid-stop : length rapidStopSteps ≡ 2
-unfolding rapidStopSteps
-rapid-stop = refl
+pub rapid_stop : length rapid_stop_steps ≡ 2
+unfolding rapid_stop_steps
+rapid_stop = refl
 
 -- ---- parts of at most as many
 
-pub pid-words : (p : Pid) → length (pidSteps p) ≤ 4
-unfolding pidSteps
-pid-words pid.Absent = omega arith
-pid-words (pid.Given kp ki) = omega arith
+pub pid_words : (p : Pid) → length (pid_steps p) ≤ 4
+unfolding pid_steps
+pid_words pid.Absent = omega arith
+pid_words (pid.Given kp ki) = omega arith
 
-pub driving : (m : DrivingMode) → length (drivingSteps m) ≤ 4
-unfolding drivingSteps phaseSteps customSteps
+pub driving : (m : DrivingMode) → length (driving_steps m) ≤ 4
+unfolding driving_steps phase_steps custom_steps
 driving FREQUENCY_TRACK = omega arith
 driving WIDEBAND = omega arith
 driving CUSTOM_WAVEFORM = omega arith
 
-gpi : (digit : String) (t : Trigger) → length (gpiSteps digit t) ≤ 1
-unfolding gpiSteps
+gpi : (digit : String) (t : Trigger) → length (gpi_steps digit t) ≤ 1
+unfolding gpi_steps
 gpi digit trigger.Absent = omega arith
 gpi digit (trigger.Given t) = omega arith
 
-given : (s t u : Trigger) → length (givenSteps s t u) ≤ 3
-unfolding givenSteps
+given : (s t u : Trigger) → length (given_steps s t u) ≤ 3
+unfolding given_steps
 given s t u = simp length-append (omega (arith, gpi "0" s, gpi "1" t, gpi "2" u))
 
-pub triggers : (d : DeviceConfig) → length (triggerSteps d) ≤ 3
-unfolding triggerSteps
+pub triggers : (d : DeviceConfig) → length (trigger_steps d) ≤ 3
+unfolding trigger_steps
 triggers d = go (etwm d.operation_mode) where
-  go : (b : Bool) → length (cond b (givenSteps d.gpi_trigger_0 d.gpi_trigger_1 d.gpi_trigger_2) []) ≤ 3
+  go : (b : Bool) → length (cond b (given_steps d.gpi_trigger_0 d.gpi_trigger_1 d.gpi_trigger_2) []) ≤ 3
   go true = given d.gpi_trigger_0 d.gpi_trigger_1 d.gpi_trigger_2
   go false = omega arith
 
 -- ---- all
 
 module _ (a : ActuatorConfig) (d : DeviceConfig) where
-  pub at_least : 14 ≤ length (configureSteps a d)
-  at_least = simp (length-append, features, limits, calibration, frequency, rapid-stop) (omega arith)
+  pub at_least : 14 ≤ length (configure_steps a d)
+  at_least = simp (length-append, features, limits, calibration, frequency, rapid_stop) (omega arith)
 
-  pub at_most : length (configureSteps a d) ≤ 25
+  pub at_most : length (configure_steps a d) ≤ 25
   at_most =
-      simp (length-append, features, limits, calibration, frequency, rapid-stop)
-      (omega (arith, pid-words a.pid_Kp_Ki, driving d.driving_mode, triggers d))
+      simp (length-append, features, limits, calibration, frequency, rapid_stop)
+      (omega (arith, pid_words a.pid_Kp_Ki, driving d.driving_mode, triggers d))

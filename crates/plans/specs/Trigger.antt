@@ -16,58 +16,58 @@ use Rattle.config.specs.declared.TriggerMode.{TriggerMode}
 use Rattle.config.specs.declared.TriggerMode.TheVariants.{SingleSequence, MultiSequence}
 use Rattle.config.specs.declared.TriggerPolarity.{TriggerPolarity}
 use Rattle.config.specs.declared.TriggerPolarity.TheVariants.{Rising, Falling, Both}
-use Rattle.config.specs.Codes.{triggerModeAt}
+use Rattle.config.specs.Codes.{trigger_mode_at}
 use Rattle.exchange.specs.declared.Step.{Step}
 use Rattle.exchange.specs.declared.Step.TheVariants.{Write}
-use Rattle.exchange.specs.Steps.{exchangeFor}
-use Rattle.plans.specs.Configure.{gpiByte, configureSteps}
+use Rattle.exchange.specs.Steps.{exchange_for}
+use Rattle.plans.specs.Configure.{gpi_byte, configure_steps}
 
-abbrev pub modeBit : TriggerMode → ℕ
-modeBit SingleSequence = 0
-modeBit MultiSequence = 1
+abbrev pub mode_bit : TriggerMode → ℕ
+mode_bit SingleSequence = 0
+mode_bit MultiSequence = 1
 
 -- in config.rs's order
-abbrev pub polarityBits : TriggerPolarity → ℕ
-polarityBits Rising = 0
-polarityBits Falling = 1
-polarityBits Both = 2
+abbrev pub polarity_bits : TriggerPolarity → ℕ
+polarity_bits Rising = 0
+polarity_bits Falling = 1
+polarity_bits Both = 2
 
 -- of the GPI register with this digit in its names
 pub record TriggerByte (digit : String) : Type 0 where
   -- the polarity in bits 0 and 1, the mode in bit 2, the sequence number's low four bits in bits 3 to 6
-  pub bits : (t : TriggerConfig) → gpiByte digit t ≡ polarityBits t.polarity + 4 * modeBit t.mode + 8 * (t.sequence_id % 16)
+  pub bits : (t : TriggerConfig) → gpi_byte digit t ≡ polarity_bits t.polarity + 4 * mode_bit t.mode + 8 * (t.sequence_id % 16)
   -- so two triggers with numbers up to 15 give the same byte exactly when number, polarity and mode are equal
   pub same : (t u : TriggerConfig) → t.sequence_id ≤ 15 → u.sequence_id ≤ 15
-      → (gpiByte digit t ≡ gpiByte digit u) ↔ ((t.sequence_id ≡ u.sequence_id) × (t.polarity ≡ u.polarity) × (t.mode ≡ u.mode))
+      → (gpi_byte digit t ≡ gpi_byte digit u) ↔ ((t.sequence_id ≡ u.sequence_id) × (t.polarity ≡ u.polarity) × (t.mode ≡ u.mode))
 
 -- the settings with no trigger, and not in ETWM mode
 abbrev pub untriggered : DeviceConfig → DeviceConfig
 untriggered d = record d { operation_mode = INACTIVE; gpi_trigger_0 = Absent; gpi_trigger_1 = Absent; gpi_trigger_2 = Absent }
 
 -- steps of ETWM mode alone
-abbrev pub inEtwm : OperationMode → List Step → List Step
-inEtwm ETWM_MODE steps = steps
-inEtwm other steps = []
+abbrev pub in_etwm : OperationMode → List Step → List Step
+in_etwm ETWM_MODE steps = steps
+in_etwm other steps = []
 
 -- a register's address gets the byte of a trigger that is given
 abbrev pub gets : ℕ → String → config.Trigger → List Step
 gets address digit Absent = []
-gets address digit (Given t) = Write address (gpiByte digit t) ∷ []
+gets address digit (Given t) = Write address (gpi_byte digit t) ∷ []
 
 -- whether what a step sends begins with the address of a GPI register
-abbrev pub toGpi : Step → Bool
-toGpi s = let register = at (exchangeFor 0 0 [] s).bytes 0 in leb 0x29 register && leb register 0x2B
+abbrev pub to_gpi : Step → Bool
+to_gpi s = let register = at (exchange_for 0 0 [] s).bytes 0 in leb 0x29 register && leb register 0x2B
 
 pub record Trigger : Type 0 where
   -- GPI_0_CTL, GPI_1_CTL and GPI_2_CTL
   pub bytes : All TriggerByte ("0" ∷ "1" ∷ "2" ∷ [])
   -- of a settings byte, all above 1 count as 1
-  pub code : (byte : ℕ) → modeBit (triggerModeAt byte) ≡ min byte 1
+  pub code : (byte : ℕ) → mode_bit (trigger_mode_at byte) ≡ min byte 1
   -- triggers and ETWM mode change none of the other steps; behind these, in ETWM mode alone, each trigger that is given has its byte written to its own register
-  pub writes : (a : ActuatorConfig) (d : DeviceConfig) → configureSteps a d
-      ≡ configureSteps a (untriggered d) ++ inEtwm d.operation_mode (gets 0x29 "0" d.gpi_trigger_0 ++ (gets 0x2A "1" d.gpi_trigger_1 ++ gets 0x2B "2" d.gpi_trigger_2))
+  pub writes : (a : ActuatorConfig) (d : DeviceConfig) → configure_steps a d
+      ≡ configure_steps a (untriggered d) ++ in_etwm d.operation_mode (gets 0x29 "0" d.gpi_trigger_0 ++ (gets 0x2A "1" d.gpi_trigger_1 ++ gets 0x2B "2" d.gpi_trigger_2))
   -- such a step sends the address and the byte, whatever was read
   pub sent : (chip last register byte : ℕ) (image : List ℕ)
-      → exchangeFor chip last image (Write register byte) ≡ record { address = chip; bytes = register ∷ byte ∷ replicate 31 0; len = 2; wanted = 0 }
+      → exchange_for chip last image (Write register byte) ≡ record { address = chip; bytes = register ∷ byte ∷ replicate 31 0; len = 2; wanted = 0 }
   -- and no other step goes to the three registers
-  pub only : (a : ActuatorConfig) (d : DeviceConfig) → filter toGpi (configureSteps a (untriggered d)) ≡ []
+  pub only : (a : ActuatorConfig) (d : DeviceConfig) → filter to_gpi (configure_steps a (untriggered d)) ≡ []

@@ -6,14 +6,14 @@
 #![tactic(auto)]
 
 ghost use Rattle.std.specs.Prelude.{◌≡◌, ◌&&◌};
-ghost use Rattle.exchange.specs.State.{pushed, pushedAll};
+ghost use Rattle.exchange.specs.State.{pushed, pushed_all};
 ghost use Rattle.exchange.specs.declared.Step.TheVariants.{Write, Read, Update};
 ghost use Rattle.config.specs.declared.DrivingMode.TheVariants.{CUSTOM_WAVEFORM};
 ghost use Rattle.config.specs.declared.Pid.TheVariants.{Given};
-ghost use Rattle.config.specs.Codes.{triggerModeCode};
-ghost use Rattle.field.specs.Field.{codeOf};
+ghost use Rattle.config.specs.Codes.{trigger_mode_code};
+ghost use Rattle.field.specs.Field.{code_of};
 ghost use Rattle.checks.specs.Checks.{tracking};
-ghost use Rattle.plans.specs.Configure.{accelerates, topCfg1, featureSteps, limitSteps, calibrationSteps, pidSteps, frequencySteps, rapidStopSteps, phaseSteps, customSteps, drivingSteps, gpiByte, gpiSteps, givenSteps, triggerSteps, configureSteps};
+ghost use Rattle.plans.specs.Configure.{accelerates, top_cfg1, feature_steps, limit_steps, calibration_steps, pid_steps, frequency_steps, rapid_stop_steps, phase_steps, custom_steps, driving_steps, gpi_byte, gpi_steps, given_steps, trigger_steps, configure_steps};
 
 use config::{ActuatorConfig, DeviceConfig, DrivingMode, Pid, Trigger, TriggerConfig, TriggerMode};
 use exchange::Step;
@@ -24,7 +24,7 @@ use registers_trigger::{FRQ_PHASE_L, GPI_0_CTL, GPI_1_CTL, GPI_2_CTL, TOP_CFG5};
 
 // Everything that `configure` does, once its checks have passed.
 pub fn configure(session: &mut [u8], a: ActuatorConfig, d: DeviceConfig)
-    ensures { session.new ≡ pushedAll session.old (configureSteps a d) }
+    ensures { session.new ≡ pushed_all session.old (configure_steps a d) }
 {
     let pid_Kp_Ki = a.pid_Kp_Ki;
     let driving_mode = d.driving_mode;
@@ -39,9 +39,9 @@ pub fn configure(session: &mut [u8], a: ActuatorConfig, d: DeviceConfig)
 }
 
 // The period of a frequency, as `set_frequency` writes it too.
-#[tactic(auto, unfolding(crate::specs::Configure::frequencySteps))]
+#[tactic(auto, unfolding(crate::specs::Configure::frequency_steps))]
 pub fn frequency(session: &mut [u8], hz: u16)
-    ensures { session.new ≡ pushedAll session.old (frequencySteps hz) }
+    ensures { session.new ≡ pushed_all session.old (frequency_steps hz) }
 {
     let word = convert::period(hz);
     let frq_lra_per_l = FRQ_LRA_PER_L::new().with_LRA_PER_L(convert::low_part(word));
@@ -54,9 +54,9 @@ pub fn frequency(session: &mut [u8], hz: u16)
     );
 }
 
-#[tactic(auto, unfolding(crate::specs::Configure::featureSteps))]
+#[tactic(auto, unfolding(crate::specs::Configure::feature_steps))]
 fn features(session: &mut [u8], a: ActuatorConfig, d: DeviceConfig)
-    ensures { session.new ≡ pushedAll session.old (featureSteps a d) }
+    ensures { session.new ≡ pushed_all session.old (feature_steps a d) }
 {
     let top_cfg1 = top_cfg1(a, d);
     let accelerates = accelerates(d);
@@ -73,7 +73,7 @@ fn features(session: &mut [u8], a: ActuatorConfig, d: DeviceConfig)
 }
 
 fn top_cfg1(a: ActuatorConfig, d: DeviceConfig) -> u8
-    ensures { result ≡ topCfg1 a d }
+    ensures { result ≡ top_cfg1 a d }
 {
     let actuator_type = a.actuator_type;
     let driving_mode = d.driving_mode;
@@ -112,9 +112,9 @@ fn stops_rapidly(d: DeviceConfig) -> bool
     false
 }
 
-#[tactic(auto, unfolding(crate::specs::Configure::limitSteps))]
+#[tactic(auto, unfolding(crate::specs::Configure::limit_steps))]
 fn limits(session: &mut [u8], a: ActuatorConfig)
-    ensures { session.new ≡ pushedAll session.old (limitSteps a) }
+    ensures { session.new ≡ pushed_all session.old (limit_steps a) }
 {
     let actuator3 = ACTUATOR3::new().with_IMAX(convert::imax(a.max_current_mA));
     writes(
@@ -127,9 +127,9 @@ fn limits(session: &mut [u8], a: ActuatorConfig)
     write(session, Register::ACTUATOR3, actuator3.bits());
 }
 
-#[tactic(auto, unfolding(crate::specs::Configure::calibrationSteps))]
+#[tactic(auto, unfolding(crate::specs::Configure::calibration_steps))]
 fn calibration(session: &mut [u8], a: ActuatorConfig)
-    ensures { session.new ≡ pushedAll session.old (calibrationSteps a) }
+    ensures { session.new ≡ pushed_all session.old (calibration_steps a) }
 {
     let v2i = convert::v2i(a.impedance_mOhm, convert::imax(a.max_current_mA));
     let trim4 = convert::trim4(a.impedance_mOhm, a.inductance_uH);
@@ -143,9 +143,9 @@ fn calibration(session: &mut [u8], a: ActuatorConfig)
     write(session, Register::TRIM4, trim4.bits());
 }
 
-#[tactic(auto, unfolding(crate::specs::Configure::pidSteps))]
+#[tactic(auto, unfolding(crate::specs::Configure::pid_steps))]
 fn pid(session: &mut [u8], pid_Kp_Ki: Pid)
-    ensures { session.new ≡ pushedAll session.old (pidSteps pid_Kp_Ki) }
+    ensures { session.new ≡ pushed_all session.old (pid_steps pid_Kp_Ki) }
 {
     match pid_Kp_Ki {
         Pid::Absent => {}
@@ -153,9 +153,9 @@ fn pid(session: &mut [u8], pid_Kp_Ki: Pid)
     }
 }
 
-#[tactic(auto, unfolding(crate::specs::Configure::pidSteps))]
+#[tactic(auto, unfolding(crate::specs::Configure::pid_steps))]
 fn pid_words(session: &mut [u8], kp: u16, ki: u16)
-    ensures { session.new ≡ pushedAll session.old (pidSteps (Given kp ki)) }
+    ensures { session.new ≡ pushed_all session.old (pid_steps (Given kp ki)) }
 {
     writes(
         session,
@@ -174,9 +174,9 @@ fn pid_words(session: &mut [u8], kp: u16, ki: u16)
 }
 
 // RAPID_STOP_LIM is 7 where rapid stop is off.
-#[tactic(auto, unfolding(crate::specs::Configure::rapidStopSteps))]
+#[tactic(auto, unfolding(crate::specs::Configure::rapid_stop_steps))]
 fn rapid_stop(session: &mut [u8])
-    ensures { session.new ≡ pushedAll session.old rapidStopSteps }
+    ensures { session.new ≡ pushed_all session.old rapid_stop_steps }
 {
     update(
         session,
@@ -187,9 +187,9 @@ fn rapid_stop(session: &mut [u8])
     );
 }
 
-#[tactic(auto, unfolding(crate::specs::Configure::drivingSteps))]
+#[tactic(auto, unfolding(crate::specs::Configure::driving_steps))]
 fn driving(session: &mut [u8], driving_mode: DrivingMode)
-    ensures { session.new ≡ pushedAll session.old (drivingSteps driving_mode) }
+    ensures { session.new ≡ pushed_all session.old (driving_steps driving_mode) }
 {
     match driving_mode {
         DrivingMode::FREQUENCY_TRACK => {}
@@ -199,15 +199,15 @@ fn driving(session: &mut [u8], driving_mode: DrivingMode)
 }
 
 fn untracked(session: &mut [u8])
-    ensures { session.new ≡ pushedAll session.old (drivingSteps CUSTOM_WAVEFORM) }
+    ensures { session.new ≡ pushed_all session.old (driving_steps CUSTOM_WAVEFORM) }
 {
     phase(session);
     custom_waveform(session);
 }
 
-#[tactic(auto, unfolding(crate::specs::Configure::customSteps))]
+#[tactic(auto, unfolding(crate::specs::Configure::custom_steps))]
 fn custom_waveform(session: &mut [u8])
-    ensures { session.new ≡ pushedAll session.old customSteps }
+    ensures { session.new ≡ pushed_all session.old custom_steps }
 {
     let seq_ctl1 = SEQ_CTL1::new().with_WAVEGEN_MODE(true);
     let top_cfg4 = TOP_CFG4::new().with_V2I_FACTOR_FREEZE(true);
@@ -220,9 +220,9 @@ fn custom_waveform(session: &mut [u8])
     );
 }
 
-#[tactic(auto, unfolding(crate::specs::Configure::phaseSteps))]
+#[tactic(auto, unfolding(crate::specs::Configure::phase_steps))]
 fn phase(session: &mut [u8])
-    ensures { session.new ≡ pushedAll session.old phaseSteps }
+    ensures { session.new ≡ pushed_all session.old phase_steps }
 {
     let frq_phase_l = FRQ_PHASE_L::new()
         .with_DELAY_SHIFT_L(0)
@@ -236,9 +236,9 @@ fn phase(session: &mut [u8])
     );
 }
 
-#[tactic(auto, unfolding(crate::specs::Configure::triggerSteps))]
+#[tactic(auto, unfolding(crate::specs::Configure::trigger_steps))]
 fn triggers(session: &mut [u8], d: DeviceConfig)
-    ensures { session.new ≡ pushedAll session.old (triggerSteps d) }
+    ensures { session.new ≡ pushed_all session.old (trigger_steps d) }
 {
     let operation_mode = d.operation_mode;
     let gpi_trigger_0 = d.gpi_trigger_0;
@@ -250,16 +250,16 @@ fn triggers(session: &mut [u8], d: DeviceConfig)
 }
 
 fn gpis(session: &mut [u8], first: Trigger, second: Trigger, third: Trigger)
-    ensures { session.new ≡ pushedAll session.old (givenSteps first second third) }
+    ensures { session.new ≡ pushed_all session.old (given_steps first second third) }
 {
     trigger_0(session, first);
     trigger_1(session, second);
     trigger_2(session, third);
 }
 
-#[tactic(auto, unfolding(crate::specs::Configure::gpiSteps))]
+#[tactic(auto, unfolding(crate::specs::Configure::gpi_steps))]
 fn trigger_0(session: &mut [u8], trigger: Trigger)
-    ensures { session.new ≡ pushedAll session.old (gpiSteps "0" trigger) }
+    ensures { session.new ≡ pushed_all session.old (gpi_steps "0" trigger) }
 {
     match trigger {
         Trigger::Absent => {}
@@ -267,9 +267,9 @@ fn trigger_0(session: &mut [u8], trigger: Trigger)
     }
 }
 
-#[tactic(auto, unfolding(crate::specs::Configure::gpiByte))]
+#[tactic(auto, unfolding(crate::specs::Configure::gpi_byte))]
 fn gpi_0(t: TriggerConfig) -> u8
-    ensures { result ≡ gpiByte "0" t }
+    ensures { result ≡ gpi_byte "0" t }
 {
     let polarity = t.polarity;
     let gpi = GPI_0_CTL::new()
@@ -279,9 +279,9 @@ fn gpi_0(t: TriggerConfig) -> u8
     gpi.bits()
 }
 
-#[tactic(auto, unfolding(crate::specs::Configure::gpiSteps))]
+#[tactic(auto, unfolding(crate::specs::Configure::gpi_steps))]
 fn trigger_1(session: &mut [u8], trigger: Trigger)
-    ensures { session.new ≡ pushedAll session.old (gpiSteps "1" trigger) }
+    ensures { session.new ≡ pushed_all session.old (gpi_steps "1" trigger) }
 {
     match trigger {
         Trigger::Absent => {}
@@ -289,9 +289,9 @@ fn trigger_1(session: &mut [u8], trigger: Trigger)
     }
 }
 
-#[tactic(auto, unfolding(crate::specs::Configure::gpiByte))]
+#[tactic(auto, unfolding(crate::specs::Configure::gpi_byte))]
 fn gpi_1(t: TriggerConfig) -> u8
-    ensures { result ≡ gpiByte "1" t }
+    ensures { result ≡ gpi_byte "1" t }
 {
     let polarity = t.polarity;
     let gpi = GPI_1_CTL::new()
@@ -301,9 +301,9 @@ fn gpi_1(t: TriggerConfig) -> u8
     gpi.bits()
 }
 
-#[tactic(auto, unfolding(crate::specs::Configure::gpiSteps))]
+#[tactic(auto, unfolding(crate::specs::Configure::gpi_steps))]
 fn trigger_2(session: &mut [u8], trigger: Trigger)
-    ensures { session.new ≡ pushedAll session.old (gpiSteps "2" trigger) }
+    ensures { session.new ≡ pushed_all session.old (gpi_steps "2" trigger) }
 {
     match trigger {
         Trigger::Absent => {}
@@ -311,9 +311,9 @@ fn trigger_2(session: &mut [u8], trigger: Trigger)
     }
 }
 
-#[tactic(auto, unfolding(crate::specs::Configure::gpiByte))]
+#[tactic(auto, unfolding(crate::specs::Configure::gpi_byte))]
 fn gpi_2(t: TriggerConfig) -> u8
-    ensures { result ≡ gpiByte "2" t }
+    ensures { result ≡ gpi_byte "2" t }
 {
     let polarity = t.polarity;
     let gpi = GPI_2_CTL::new()
@@ -325,7 +325,7 @@ fn gpi_2(t: TriggerConfig) -> u8
 
 // The mode bit of a trigger.
 fn is_multi(mode: TriggerMode) -> bool
-    ensures { codeOf result ≡ triggerModeCode mode }
+    ensures { code_of result ≡ trigger_mode_code mode }
 {
     match mode {
         TriggerMode::SingleSequence => false,

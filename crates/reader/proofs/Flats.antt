@@ -10,8 +10,8 @@ use lib.Dec.{ltb}
 use lib.ListN.{length, take, drop, set, replicate, length-append}
 use lib.Seq.{take_at, drop_at, set-append_seam, append_snoc}
 use Rattle.laws.specs.Lists.{joined}
-use Rattle.memory.specs.Image.{endPointers}
-use Rattle.content.proofs.Items.{length-pointers}
+use Rattle.memory.specs.Image.{end_pointers}
+use Rattle.content.proofs.Items.{length_pointers}
 use Rattle.reader.specs.Reading.{parts, padded}
 
 pub record Flat (A : Type 0) : Type 0 where
@@ -24,9 +24,9 @@ module _ {A : Type 0} where
   abbrev pub push : Flat A → A → Flat A
   push o b = cond (ltb o.len 96) (record { items = set o.items o.len b; len = o.len + 1; ends = o.ends; count = o.count }) o
 
-  abbrev pub pushAll : Flat A → List A → Flat A
-  pushAll o [] = o
-  pushAll o (b ∷ bs) = pushAll (push o b) bs
+  abbrev pub push_all : Flat A → List A → Flat A
+  push_all o [] = o
+  push_all o (b ∷ bs) = push_all (push o b) bs
 
   abbrev pub close : ℕ → Flat A → Flat A
   close most o = cond (ltb o.count most) (record { items = o.items; len = o.len; ends = set o.ends o.count o.len; count = o.count + 1 }) o
@@ -35,26 +35,26 @@ module _ {A : Type 0} where
   joined_snoc [] x = append-nil x
   joined_snoc (y ∷ xs) x = ap (λ (l : List A). y ++ l) (joined_snoc xs x) ∙ sym (append_assoc y (joined xs) x)
 
-  ends_snoc : (xs : List (List A)) (p : ℕ) (x : List A) → endPointers p (xs ++ x ∷ []) ≡ endPointers p xs ++ (p + length (joined xs ++ x)) ∷ []
+  ends_snoc : (xs : List (List A)) (p : ℕ) (x : List A) → end_pointers p (xs ++ x ∷ []) ≡ end_pointers p xs ++ (p + length (joined xs ++ x)) ∷ []
   ends_snoc [] p x = refl
   ends_snoc (y ∷ xs) p x =
       let n : p + length y + length (joined xs ++ x) ≡ p + length (y ++ joined xs ++ x) =
       omega (arith, length-append (joined xs) x, length-append (y ++ joined xs) x, length-append y (joined xs)) in
-      ap (λ (l : List ℕ). (p + length y) ∷ l) (ends_snoc xs (p + length y) x ∙ ap (λ (k : ℕ). endPointers (p + length y) xs ++ k ∷ []) n)
+      ap (λ (l : List ℕ). (p + length y) ∷ l) (ends_snoc xs (p + length y) x ∙ ap (λ (k : ℕ). end_pointers (p + length y) xs ++ k ∷ []) n)
 
-  parts-joined : (xs : List (List A)) (pre : List A) (p : ℕ) (r : List A) → length pre ≡ p → parts p (endPointers p xs) (pre ++ (joined xs ++ r)) ≡ xs
-  parts-joined [] pre p r h = refl
-  parts-joined (x ∷ xs) pre p r h =
+  parts_joined : (xs : List (List A)) (pre : List A) (p : ℕ) (r : List A) → length pre ≡ p → parts p (end_pointers p xs) (pre ++ (joined xs ++ r)) ≡ xs
+  parts_joined [] pre p r h = refl
+  parts_joined (x ∷ xs) pre p r h =
       let n : length x ≡ p + length x - p = omega arith in
       let g : length (pre ++ x) ≡ p + length x = length-append pre x ∙ ap (λ (j : ℕ). j + length x) h in
       let e : pre ++ ((x ++ joined xs) ++ r) ≡ (pre ++ x) ++ (joined xs ++ r) = ap (λ (z : List A). pre ++ z) (append_assoc x (joined xs) r) ∙ sym (append_assoc pre x (joined xs ++ r)) in
       let u : take (p + length x - p) (drop p (pre ++ ((x ++ joined xs) ++ r))) ≡ x =
       ap (take (p + length x - p)) (drop_at pre ((x ++ joined xs) ++ r) p h ∙ append_assoc x (joined xs) r) ∙ take_at x (joined xs ++ r) (p + length x - p) n in
-      (λ i. u i ∷ parts (p + length x) (endPointers (p + length x) xs) (e i)) ∙ ap (λ (z : List (List A)). x ∷ z) (parts-joined xs (pre ++ x) (p + length x) r g)
+      (λ i. u i ∷ parts (p + length x) (end_pointers (p + length x) xs) (e i)) ∙ ap (λ (z : List (List A)). x ∷ z) (parts_joined xs (pre ++ x) (p + length x) r g)
 
   -- the next place of a list that has room
-  set-padded : (n : ℕ) (blank b : A) (l : List A) → length l < n → set (padded n blank l) (length l) b ≡ padded n blank (l ++ b ∷ [])
-  set-padded n blank b l h =
+  set_padded : (n : ℕ) (blank b : A) (l : List A) → length l < n → set (padded n blank l) (length l) b ≡ padded n blank (l ++ b ∷ [])
+  set_padded n blank b l h =
       let k : n - length l ≡ suc (n - length (l ++ b ∷ [])) = omega (arith, length-append l (b ∷ [])) in
       ap (λ (m : ℕ). set (l ++ replicate m blank) (length l) b) k
       ∙ set-append_seam l blank (replicate (n - length (l ++ b ∷ [])) blank) b
@@ -65,44 +65,44 @@ module _ {A : Type 0} (blank : A) where
   abbrev under : List A → List ℕ → ℕ → Flat A
   under l es n = record { items = padded 96 blank l; len = length l; ends = es; count = n }
 
-  abbrev pub flatOf : ℕ → List (List A) → Flat A
-  flatOf most xs = under (joined xs) (padded most 0 (endPointers 0 xs)) (length xs)
+  abbrev pub flat_of : ℕ → List (List A) → Flat A
+  flat_of most xs = under (joined xs) (padded most 0 (end_pointers 0 xs)) (length xs)
 
-  pushed : (x l : List A) (es : List ℕ) (n : ℕ) → length l + length x ≤ 96 → pushAll (under l es n) x ≡ under (l ++ x) es n
+  pushed : (x l : List A) (es : List ℕ) (n : ℕ) → length l + length x ≤ 96 → push_all (under l es n) x ≡ under (l ++ x) es n
   pushed [] l es n h = ap (λ (z : List A). under z es n) (sym (append-nil l))
   pushed (b ∷ x) l es n h =
       let o : Flat A = record { items = set (padded 96 blank l) (length l) b; len = length l + 1; ends = es; count = n } in
       let t : push (under l es n) b ≡ o = ap (λ (t : Bool). cond t o (under l es n)) (lt-ltb (length l) 96 (omega arith)) in
-      let s = set-padded 96 blank b l (omega arith) in
+      let s = set_padded 96 blank b l (omega arith) in
       let k = sym (length-append l (b ∷ [])) in
-      ap (λ (z : Flat A). pushAll z x) (t ∙ λ i. record { items = s i; len = k i; ends = es; count = n })
+      ap (λ (z : Flat A). push_all z x) (t ∙ λ i. record { items = s i; len = k i; ends = es; count = n })
       ∙ pushed x (l ++ b ∷ []) es n (omega (arith, length-append l (b ∷ [])))
       ∙ ap (λ (z : List A). under z es n) (append_snoc l b x)
 
   closed : (most : ℕ) (xs : List (List A)) (x : List A) → length xs < most
-      → close most (under (joined xs ++ x) (padded most 0 (endPointers 0 xs)) (length xs)) ≡ flatOf most (xs ++ x ∷ [])
+      → close most (under (joined xs ++ x) (padded most 0 (end_pointers 0 xs)) (length xs)) ≡ flat_of most (xs ++ x ∷ [])
   closed most xs x g =
       let l : List A = joined xs ++ x in
-      let n : length (endPointers 0 xs) ≡ length xs = length-pointers 0 xs in
+      let n : length (end_pointers 0 xs) ≡ length xs = length_pointers 0 xs in
       let v : length l ≡ 0 + length l = omega arith in
-      let s : set (padded most 0 (endPointers 0 xs)) (length xs) (length l) ≡ padded most 0 (endPointers 0 (xs ++ x ∷ [])) =
-      (λ i. set (padded most 0 (endPointers 0 xs)) (sym n i) (v i))
-      ∙ set-padded most 0 (0 + length l) (endPointers 0 xs) (omega arith)
+      let s : set (padded most 0 (end_pointers 0 xs)) (length xs) (length l) ≡ padded most 0 (end_pointers 0 (xs ++ x ∷ [])) =
+      (λ i. set (padded most 0 (end_pointers 0 xs)) (sym n i) (v i))
+      ∙ set_padded most 0 (0 + length l) (end_pointers 0 xs) (omega arith)
       ∙ ap (padded most 0) (sym (ends_snoc xs 0 x)) in
       let j = sym (joined_snoc xs x) in
       let c = sym (length-append xs (x ∷ [])) in
-      let o : Flat A = record { items = padded 96 blank l; len = length l; ends = set (padded most 0 (endPointers 0 xs)) (length xs) (length l); count = length xs + 1 } in
-      ap (λ (t : Bool). cond t o (under l (padded most 0 (endPointers 0 xs)) (length xs))) (lt-ltb (length xs) most g)
+      let o : Flat A = record { items = padded 96 blank l; len = length l; ends = set (padded most 0 (end_pointers 0 xs)) (length xs) (length l); count = length xs + 1 } in
+      ap (λ (t : Bool). cond t o (under l (padded most 0 (end_pointers 0 xs)) (length xs))) (lt-ltb (length xs) most g)
       ∙ λ i. under (j i) (s i) (c i)
 
   -- one more list
-  pub add-list : (most : ℕ) (xs : List (List A)) (x : List A) → length (joined xs) + length x ≤ 96 → length xs < most
-      → close most (pushAll (flatOf most xs) x) ≡ flatOf most (xs ++ x ∷ [])
-  add-list most xs x f g = ap (close most) (pushed x (joined xs) (padded most 0 (endPointers 0 xs)) (length xs) f) ∙ closed most xs x g
+  pub add_list : (most : ℕ) (xs : List (List A)) (x : List A) → length (joined xs) + length x ≤ 96 → length xs < most
+      → close most (push_all (flat_of most xs) x) ≡ flat_of most (xs ++ x ∷ [])
+  add_list most xs x f g = ap (close most) (pushed x (joined xs) (padded most 0 (end_pointers 0 xs)) (length xs) f) ∙ closed most xs x g
 
   -- its parts are the lists
-  pub shows : (most : ℕ) (o : Flat A) (xs : List (List A)) → o ≡ flatOf most xs → parts 0 (take o.count o.ends) o.items ≡ xs
+  pub shows : (most : ℕ) (o : Flat A) (xs : List (List A)) → o ≡ flat_of most xs → parts 0 (take o.count o.ends) o.items ≡ xs
   shows most o xs e =
       ap (λ (z : Flat A). parts 0 (take z.count z.ends) z.items) e
-      ∙ ap (λ (es : List ℕ). parts 0 es (padded 96 blank (joined xs))) (take_at (endPointers 0 xs) (replicate (most - length (endPointers 0 xs)) 0) (length xs) (length-pointers 0 xs))
-      ∙ parts-joined xs [] 0 (replicate (96 - length (joined xs)) blank) refl
+      ∙ ap (λ (es : List ℕ). parts 0 es (padded 96 blank (joined xs))) (take_at (end_pointers 0 xs) (replicate (most - length (end_pointers 0 xs)) 0) (length xs) (length_pointers 0 xs))
+      ∙ parts_joined xs [] 0 (replicate (96 - length (joined xs)) blank) refl

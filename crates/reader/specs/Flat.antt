@@ -6,25 +6,25 @@ use Rattle.reader.specs.declared.Points.{Points}
 use Rattle.reader.specs.declared.Frames.{Frames}
 
 -- one element more
-unfoldable pub pushPoint : Points → ℕ → Points
-pushPoint o b = cond (ltb o.len 96) (record { items = set o.items o.len b; len = o.len + 1; ends = o.ends; count = o.count }) o
+unfoldable pub push_point : Points → ℕ → Points
+push_point o b = cond (ltb o.len 96) (record { items = set o.items o.len b; len = o.len + 1; ends = o.ends; count = o.count }) o
 
-unfoldable pub pushFrame : Frames → FrameBuilder → Frames
-pushFrame o f = cond (ltb o.len 96) (record { items = set o.items o.len f; len = o.len + 1; ends = o.ends; count = o.count }) o
+unfoldable pub push_frame : Frames → FrameBuilder → Frames
+push_frame o f = cond (ltb o.len 96) (record { items = set o.items o.len f; len = o.len + 1; ends = o.ends; count = o.count }) o
 
-abbrev pub pushPoints : Points → List ℕ → Points
-pushPoints o [] = o
-pushPoints o (b ∷ bs) = pushPoints (pushPoint o b) bs
+abbrev pub push_points : Points → List ℕ → Points
+push_points o [] = o
+push_points o (b ∷ bs) = push_points (push_point o b) bs
 
 -- a list ends here
-unfoldable pub endSnippet : Points → Points
-endSnippet o =
+unfoldable pub end_snippet : Points → Points
+end_snippet o =
     cond (ltb o.count 15)
     (record { items = o.items; len = o.len; ends = set o.ends o.count o.len; count = o.count + 1 })
     o
 
-unfoldable pub endSequence : Frames → Frames
-endSequence o =
+unfoldable pub end_sequence : Frames → Frames
+end_sequence o =
     cond (ltb o.count 16)
     (record { items = o.items; len = o.len; ends = set o.ends o.count o.len; count = o.count + 1 })
     o

@@ -5,15 +5,15 @@ use Rattle.reader.specs.declared.items.Place.{Place}
 use Rattle.reader.specs.declared.items.Place.TheVariants as Place
 
 -- where the i-th list starts
-abbrev pub startIn : ℕ → List ℕ → ℕ → ℕ
-startIn from es zero = from
-startIn from es (suc i) = get_or es i 0
+abbrev pub start_in : ℕ → List ℕ → ℕ → ℕ
+start_in from es zero = from
+start_in from es (suc i) = get_or es i 0
 
-abbrev pub placeIn : ℕ → List ℕ → ℕ → ℕ → Option ℕ
-placeIn from [] i j = none
-placeIn from (e ∷ es) zero j = cond (ltb j (e - from)) (some (from + j)) none
-placeIn from (e ∷ es) (suc i) j = placeIn e es i j
+abbrev pub place_in : ℕ → List ℕ → ℕ → ℕ → Option ℕ
+place_in from [] i j = none
+place_in from (e ∷ es) zero j = cond (ltb j (e - from)) (some (from + j)) none
+place_in from (e ∷ es) (suc i) j = place_in e es i j
 
-abbrev pub placeTold : Place → Option ℕ
-placeTold (Place.At k) = some k
-placeTold Place.Nowhere = none
+abbrev pub place_told : Place → Option ℕ
+place_told (Place.At k) = some k
+place_told Place.Nowhere = none

@@ -6,9 +6,9 @@ use Rattle.laws.specs.Lists.{joined}
 use Rattle.errors.specs.declared.Answer.TheVariants as Answer
 use Rattle.errors.specs.declared.Error.TheVariants as Error
 use Rattle.frame.specs.declared.FrameBuilder.{FrameBuilder}
-use Rattle.frame.specs.Builder.{silentFrame}
-use Rattle.memory.specs.Image.{endPointers}
-use Rattle.content.specs.Content.{Content, pointBytes}
+use Rattle.frame.specs.Builder.{silent_frame}
+use Rattle.memory.specs.Image.{end_pointers}
+use Rattle.content.specs.Content.{Content, point_bytes}
 use Rattle.reader.specs.declared.Points.{Points}
 use Rattle.reader.specs.declared.Frames.{Frames}
 use Rattle.reader.specs.declared.Reading.{Reading}
@@ -19,19 +19,19 @@ parts from [] l = []
 parts from (e ∷ es) l = take (e - from) (drop from l) ∷ parts e es l
 
 -- the snippets' points by their bytes: items holds them, ends where each snippet ends
-abbrev pub snippetsIn : Points → List (List ℕ)
-snippetsIn p = parts 0 (take p.count p.ends) p.items
+abbrev pub snippets_in : Points → List (List ℕ)
+snippets_in p = parts 0 (take p.count p.ends) p.items
 
 -- the sequences' frames: items holds them, ends where each sequence ends
-abbrev pub sequencesIn : Frames → List (List FrameBuilder)
-sequencesIn f = parts 0 (take f.count f.ends) f.items
+abbrev pub sequences_in : Frames → List (List FrameBuilder)
+sequences_in f = parts 0 (take f.count f.ends) f.items
 
 -- no lists
-abbrev pub noPoints : Points
-noPoints = record { items = replicate 96 0; len = 0; ends = replicate 15 0; count = 0 }
+abbrev pub no_points : Points
+no_points = record { items = replicate 96 0; len = 0; ends = replicate 15 0; count = 0 }
 
-abbrev pub noFrames : Frames
-noFrames = record { items = replicate 96 silentFrame; len = 0; ends = replicate 16 0; count = 0 }
+abbrev pub no_frames : Frames
+no_frames = record { items = replicate 96 silent_frame; len = 0; ends = replicate 16 0; count = 0 }
 
 -- ---- the arrays of a reading
 
@@ -40,16 +40,16 @@ abbrev pub padded : {A : Type 0} → ℕ → A → List A → List A
 padded n blank l = l ++ replicate (n - length l) blank
 
 -- lists laid end to end, and the index behind each
-abbrev pub laidPoints : List (List ℕ) → Points
-laidPoints ls =
-    record { items = padded 96 0 (joined ls); len = length (joined ls); ends = padded 15 0 (endPointers 0 ls); count = length ls }
+abbrev pub laid_points : List (List ℕ) → Points
+laid_points ls =
+    record { items = padded 96 0 (joined ls); len = length (joined ls); ends = padded 15 0 (end_pointers 0 ls); count = length ls }
 
-abbrev pub laidFrames : List (List FrameBuilder) → Frames
-laidFrames ls =
-    record { items = padded 96 silentFrame (joined ls); len = length (joined ls); ends = padded 16 0 (endPointers 0 ls); count = length ls }
+abbrev pub laid_frames : List (List FrameBuilder) → Frames
+laid_frames ls =
+    record { items = padded 96 silent_frame (joined ls); len = length (joined ls); ends = padded 16 0 (end_pointers 0 ls); count = length ls }
 
 -- the lists of a content; what is refused holds none
-abbrev pub readingOf : Option Content → Reading
-readingOf none = record { answer = Answer.Refused Error.NotAnImage; snippets = laidPoints []; sequences = laidFrames [] }
-readingOf (some c) =
-    record { answer = Answer.Done; snippets = laidPoints (map pointBytes c.snippets); sequences = laidFrames c.sequences }
+abbrev pub reading_of : Option Content → Reading
+reading_of none = record { answer = Answer.Refused Error.NotAnImage; snippets = laid_points []; sequences = laid_frames [] }
+reading_of (some c) =
+    record { answer = Answer.Done; snippets = laid_points (map point_bytes c.snippets); sequences = laid_frames c.sequences }

@@ -1,33 +1,33 @@
--- The reader step by step, as the code goes: what the private functions' contracts cite. proofs/Whole.antt: it is `readImage`, laid out
--- as `readingOf` says.
+-- The reader step by step, as the code goes: what the private functions' contracts cite. proofs/Whole.antt: it is `read_image`, laid out
+-- as `reading_of` says.
 use Rattle.std.specs.Prelude.{ℕ, zero, suc, ◌+◌, ◌-◌, true, false, cond, ◌&&◌, List, [], ◌∷◌, ltb, leb, eqb, length, take, drop, get_or}
 use Rattle.std.proofs.Math.Option.{Option, none, some}
 use Rattle.errors.specs.declared.Answer.TheVariants as Answer
 use Rattle.errors.specs.Told.{Told, refuses}
-use Rattle.frame.specs.Read.{readFrame, Taken, firstFrame}
-use Rattle.content.specs.ReadImage.{andThen, allZero, countsFit}
+use Rattle.frame.specs.Read.{read_frame, Taken, first_frame}
+use Rattle.content.specs.ReadImage.{and_then, all_zero, counts_fit}
 use Rattle.reader.specs.declared.Points.{Points}
 use Rattle.reader.specs.declared.Frames.{Frames}
 use Rattle.reader.specs.declared.Reading.{Reading}
 use Rattle.reader.specs.declared.SnippetsRead.{SnippetsRead}
 use Rattle.reader.specs.declared.SequencesRead.{SequencesRead}
-use Rattle.reader.specs.Reading.{noPoints, noFrames, readingOf}
-use Rattle.reader.specs.Flat.{pushPoints, pushFrame, endSnippet, endSequence}
+use Rattle.reader.specs.Reading.{no_points, no_frames, reading_of}
+use Rattle.reader.specs.Flat.{push_points, push_frame, end_snippet, end_sequence}
 
 -- ---- one item
 
 -- at most k frames, up to the end of the bytes
-abbrev pub runFrames : ℕ → List ℕ → Frames → Option Frames
-runFrames zero [] o = some o
-runFrames zero (b ∷ bs) o = none
-runFrames (suc k) [] o = some o
-runFrames (suc k) (b ∷ bs) o = andThen (readFrame (b ∷ bs)) (λ p. runFrames k p.rest (pushFrame o p.frame))
+abbrev pub run_frames : ℕ → List ℕ → Frames → Option Frames
+run_frames zero [] o = some o
+run_frames zero (b ∷ bs) o = none
+run_frames (suc k) [] o = some o
+run_frames (suc k) (b ∷ bs) o = and_then (read_frame (b ∷ bs)) (λ p. run_frames k p.rest (push_frame o p.frame))
 
-unfoldable pub pushSnippet : List ℕ → Points → Option Points
-pushSnippet bs o = cond (leb 1 (length bs) && leb (length bs) 16) (some (endSnippet (pushPoints o bs))) none
+unfoldable pub push_snippet : List ℕ → Points → Option Points
+push_snippet bs o = cond (leb 1 (length bs) && leb (length bs) 16) (some (end_snippet (push_points o bs))) none
 
-unfoldable pub pushSequence : List ℕ → Frames → Option Frames
-pushSequence bs o = cond (leb 1 (length bs)) (andThen (runFrames 32 bs o) (λ f. some (endSequence f))) none
+unfoldable pub push_sequence : List ℕ → Frames → Option Frames
+push_sequence bs o = cond (leb 1 (length bs)) (and_then (run_frames 32 bs o) (λ f. some (end_sequence f))) none
 
 -- ---- the items that end at the pointers
 
@@ -43,60 +43,60 @@ item image p e = take (e - p) (drop (p + 1) image)
 module _ {S : Type 0} (step : List ℕ → S → Option S) (image : List ℕ) where
   abbrev pub walk : ℕ → List ℕ → S → Option (Walked S)
   walk p [] o = some (record { state = o; last = p })
-  walk p (e ∷ es) o = cond (ltb p e) (cond (ltb e (length image)) (andThen (step (item image p e) o) (λ o'. walk e es o')) none) none
+  walk p (e ∷ es) o = cond (ltb p e) (cond (ltb e (length image)) (and_then (step (item image p e) o) (λ o'. walk e es o')) none) none
 
-abbrev pub walkSnippets : List ℕ → ℕ → List ℕ → Points → Option (Walked Points)
-walkSnippets = walk pushSnippet
+abbrev pub walk_snippets : List ℕ → ℕ → List ℕ → Points → Option (Walked Points)
+walk_snippets = walk push_snippet
 
-abbrev pub noSnippets : SnippetsRead
-noSnippets = record { found = false; snippets = noPoints; last = 0 }
+abbrev pub no_snippets : SnippetsRead
+no_snippets = record { found = false; snippets = no_points; last = 0 }
 
-abbrev pub snippetsRead : Option (Walked Points) → SnippetsRead
-snippetsRead none = noSnippets
-snippetsRead (some w) = record { found = true; snippets = w.state; last = w.last }
+abbrev pub snippets_read : Option (Walked Points) → SnippetsRead
+snippets_read none = no_snippets
+snippets_read (some w) = record { found = true; snippets = w.state; last = w.last }
 
 -- the frame behind index p of a sequence that ends at index e, of which k frames were read
-abbrev pub nextFrame : List ℕ → ℕ → ℕ → ℕ → Told Taken
-nextFrame image p e k =
-    cond (ltb p e) (cond (ltb e (length image)) (cond (ltb k 32) (firstFrame (item image p e)) (refuses 18)) (refuses 18)) (refuses 18)
+abbrev pub next_frame : List ℕ → ℕ → ℕ → ℕ → Told Taken
+next_frame image p e k =
+    cond (ltb p e) (cond (ltb e (length image)) (cond (ltb k 32) (first_frame (item image p e)) (refuses 18)) (refuses 18)) (refuses 18)
 
-abbrev pub walkSequences : List ℕ → ℕ → List ℕ → Frames → Option (Walked Frames)
-walkSequences = walk pushSequence
+abbrev pub walk_sequences : List ℕ → ℕ → List ℕ → Frames → Option (Walked Frames)
+walk_sequences = walk push_sequence
 
-abbrev pub noSequences : SequencesRead
-noSequences = record { found = false; sequences = noFrames; last = 0 }
+abbrev pub no_sequences : SequencesRead
+no_sequences = record { found = false; sequences = no_frames; last = 0 }
 
-abbrev pub sequencesRead : Option (Walked Frames) → SequencesRead
-sequencesRead none = noSequences
-sequencesRead (some w) = record { found = true; sequences = w.state; last = w.last }
+abbrev pub sequences_read : Option (Walked Frames) → SequencesRead
+sequences_read none = no_sequences
+sequences_read (some w) = record { found = true; sequences = w.state; last = w.last }
 
 -- ---- the image
 
-abbrev pub noReading : Reading
-noReading = readingOf none
+abbrev pub no_reading : Reading
+no_reading = reading_of none
 
 -- all bytes after index last are zero
 abbrev pub finished : List ℕ → Points → Frames → ℕ → Reading
-finished image s q last = cond (allZero (drop (last + 1) image)) (record { answer = Answer.Done; snippets = s; sequences = q }) noReading
+finished image s q last = cond (all_zero (drop (last + 1) image)) (record { answer = Answer.Done; snippets = s; sequences = q }) no_reading
 
-abbrev pub sequencesThen : List ℕ → Points → Option (Walked Frames) → Reading
-sequencesThen image s none = noReading
-sequencesThen image s (some w) = finished image s w.state w.last
+abbrev pub sequences_then : List ℕ → Points → Option (Walked Frames) → Reading
+sequences_then image s none = no_reading
+sequences_then image s (some w) = finished image s w.state w.last
 
 -- q sequences, whose pointers stand from index at on
-unfoldable pub afterSnippets : List ℕ → ℕ → ℕ → Points → ℕ → Reading
-afterSnippets image at q s last = sequencesThen image s (walkSequences image last (take q (drop at image)) noFrames)
+unfoldable pub after_snippets : List ℕ → ℕ → ℕ → Points → ℕ → Reading
+after_snippets image at q s last = sequences_then image s (walk_sequences image last (take q (drop at image)) no_frames)
 
-abbrev pub snippetsThen : List ℕ → ℕ → ℕ → Option (Walked Points) → Reading
-snippetsThen image s q none = noReading
-snippetsThen image s q (some w) = afterSnippets image (2 + s) q w.state w.last
+abbrev pub snippets_then : List ℕ → ℕ → ℕ → Option (Walked Points) → Reading
+snippets_then image s q none = no_reading
+snippets_then image s q (some w) = after_snippets image (2 + s) q w.state w.last
 
 -- s snippets, then q sequences
-unfoldable pub afterCounts : List ℕ → ℕ → ℕ → Reading
-afterCounts image s q = snippetsThen image s q (walkSnippets image (1 + s + q) (take s (drop 2 image)) noPoints)
+unfoldable pub after_counts : List ℕ → ℕ → ℕ → Reading
+after_counts image s q = snippets_then image s q (walk_snippets image (1 + s + q) (take s (drop 2 image)) no_points)
 
 abbrev pub scanned : List ℕ → Reading
 scanned image =
     cond (eqb (length image) 100)
-    (cond (countsFit (get_or image 0 0) (get_or image 1 0)) (afterCounts image (get_or image 0 0) (get_or image 1 0)) noReading)
-    noReading
+    (cond (counts_fit (get_or image 0 0) (get_or image 1 0)) (after_counts image (get_or image 0 0) (get_or image 1 0)) no_reading)
+    no_reading

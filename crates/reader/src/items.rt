@@ -2,9 +2,9 @@
 // Proved: the j-th point of the i-th snippet and the j-th frame of the i-th sequence are those of the lists that the reader's contract
 // speaks of (specs/Items.antt), for any indexes.
 ghost use Rattle.std.specs.Prelude.{◌≡◌, ◌<◌, take, length};
-ghost use Rattle.reader.specs.Items.{element, pointAtTold, frameAtTold};
-ghost use Rattle.reader.specs.Reading.{snippetsIn, sequencesIn};
-ghost use Rattle.reader.specs.Places.{startIn, placeIn, placeTold};
+ghost use Rattle.reader.specs.Items.{element, point_at_told, frame_at_told};
+ghost use Rattle.reader.specs.Reading.{snippets_in, sequences_in};
+ghost use Rattle.reader.specs.Places.{start_in, place_in, place_told};
 
 use crate::{Frames, Points};
 use frame::FrameBuilder;
@@ -31,7 +31,7 @@ enum Place {
 
 // The j-th point of the i-th snippet, both counted from 0.
 pub fn point_at(points: Points, i: usize, j: usize) -> PointAt
-    ensures { pointAtTold result ≡ element (snippetsIn points) i j }
+    ensures { point_at_told result ≡ element (snippets_in points) i j }
 {
     let ends = points.ends;
     match find(&ends, points.count as usize, i, j) {
@@ -47,7 +47,7 @@ pub fn point_at(points: Points, i: usize, j: usize) -> PointAt
 
 // The j-th frame of the i-th sequence, both counted from 0.
 pub fn frame_at(frames: Frames, i: usize, j: usize) -> FrameAt
-    ensures { frameAtTold result ≡ element (sequencesIn frames) i j }
+    ensures { frame_at_told result ≡ element (sequences_in frames) i j }
 {
     let ends = frames.ends;
     match find(&ends, frames.count as usize, i, j) {
@@ -64,7 +64,7 @@ pub fn frame_at(frames: Frames, i: usize, j: usize) -> FrameAt
 
 // Where the j-th element of the i-th list stands, by the ends of the first `count` lists.
 fn find(ends: &[u8], count: usize, i: usize, j: usize) -> Place
-    ensures { placeTold result ≡ placeIn 0 (take count ends.now) i j }
+    ensures { place_told result ≡ place_in 0 (take count ends.now) i j }
 {
     if ends.len() <= i {
         return Place::Nowhere;
@@ -86,7 +86,7 @@ fn find(ends: &[u8], count: usize, i: usize, j: usize) -> Place
 // Where the i-th list starts: at the end of the one before.
 fn start(ends: &[u8], i: usize) -> usize
     requires { i < length ends.now }
-    ensures value { result ≡ startIn 0 ends.now i }
+    ensures value { result ≡ start_in 0 ends.now i }
     ensures upper_bound { result < 256 }
 {
     if i == 0 {

@@ -8,13 +8,13 @@
 pub mod items;
 
 ghost use Rattle.std.specs.Prelude.{◌≡◌, ◌+◌, ◌≤◌, ◌<◌, length, drop};
-ghost use Rattle.errors.specs.Number.{answerNumber};
-ghost use Rattle.content.specs.ReadImage.{onOption, readImage, countsFit, allZero};
-ghost use Rattle.reader.specs.Reading.{readingOf, noPoints, noFrames};
-ghost use Rattle.frame.specs.Read.{readTold};
-ghost use Rattle.reader.specs.Flat.{pushPoints, endSnippet};
-ghost use Rattle.reader.specs.Walk.{nextFrame, noSnippets, snippetsRead, walkSnippets, noSequences, sequencesRead, walkSequences};
-ghost use Rattle.reader.specs.Walk.{noReading, finished, afterSnippets, afterCounts, scanned};
+ghost use Rattle.errors.specs.Number.{answer_number};
+ghost use Rattle.content.specs.ReadImage.{on_option, read_image, counts_fit, all_zero};
+ghost use Rattle.reader.specs.Reading.{reading_of, no_points, no_frames};
+ghost use Rattle.frame.specs.Read.{read_told};
+ghost use Rattle.reader.specs.Flat.{push_points, end_snippet};
+ghost use Rattle.reader.specs.Walk.{next_frame, no_snippets, snippets_read, walk_snippets, no_sequences, sequences_read, walk_sequences};
+ghost use Rattle.reader.specs.Walk.{no_reading, finished, after_snippets, after_counts, scanned};
 
 use errors::{Answer, Error};
 use frame::{FrameBuilder, FrameRead};
@@ -64,7 +64,7 @@ struct SequencesRead {
 // ---- the lists
 
 fn no_points() -> Points
-    ensures { result ≡ noPoints }
+    ensures { result ≡ no_points }
 {
     Points {
         items: [0u8; 96],
@@ -75,7 +75,7 @@ fn no_points() -> Points
 }
 
 fn no_frames() -> Frames
-    ensures { result ≡ noFrames }
+    ensures { result ≡ no_frames }
 {
     let frame = FrameBuilder::silence();
     let items = [frame; 96];
@@ -89,7 +89,7 @@ fn no_frames() -> Frames
 
 // The points of one snippet more.
 fn push_points(lists: Points, bytes: &[u8]) -> Points
-    ensures { result ≡ pushPoints lists bytes.now }
+    ensures { result ≡ push_points lists bytes.now }
 {
     let mut out = lists;
     let mut i = 0usize;
@@ -105,7 +105,7 @@ fn push_points(lists: Points, bytes: &[u8]) -> Points
 }
 
 fn end_snippet(mut lists: Points) -> Points
-    ensures { result ≡ endSnippet lists }
+    ensures { result ≡ end_snippet lists }
 {
     let n = lists.count;
     if n < 15 {
@@ -120,7 +120,7 @@ fn end_snippet(mut lists: Points) -> Points
 // ---- the items that end at the pointers
 
 fn no_snippets() -> SnippetsRead
-    ensures { result ≡ noSnippets }
+    ensures { result ≡ no_snippets }
 {
     let snippets = no_points();
     SnippetsRead {
@@ -131,7 +131,7 @@ fn no_snippets() -> SnippetsRead
 }
 
 fn no_sequences() -> SequencesRead
-    ensures { result ≡ noSequences }
+    ensures { result ≡ no_sequences }
 {
     let sequences = no_frames();
     SequencesRead {
@@ -143,7 +143,7 @@ fn no_sequences() -> SequencesRead
 
 // The snippets that end at these indexes of the image; the byte before the first stands at `first`.
 fn read_snippets(image: &[u8], ends: &[u8], first: usize) -> SnippetsRead
-    ensures { result ≡ snippetsRead (walkSnippets image.now first ends.now noPoints) }
+    ensures { result ≡ snippets_read (walk_snippets image.now first ends.now no_points) }
 {
     let mut out = no_points();
     let mut before = first;
@@ -175,7 +175,7 @@ fn read_snippets(image: &[u8], ends: &[u8], first: usize) -> SnippetsRead
 // The sequences that end at these indexes of the image, a frame at each turn; the byte before the first stands at `first`. The lists are
 // changed in place: handing them to a function for each sequence copies 96 frames each time.
 fn read_sequences(image: &[u8], ends: &[u8], first: usize) -> SequencesRead
-    ensures { result ≡ sequencesRead (walkSequences image.now first ends.now noFrames) }
+    ensures { result ≡ sequences_read (walk_sequences image.now first ends.now no_frames) }
 {
     let mut out = no_frames();
     let mut last = first;
@@ -218,7 +218,7 @@ fn read_sequences(image: &[u8], ends: &[u8], first: usize) -> SequencesRead
 
 // The frame behind index `last` of a sequence that ends at `end`, of which k frames were read.
 fn next_frame(image: &[u8], last: usize, end: usize, k: usize) -> FrameRead
-    ensures { readTold result ≡ nextFrame image.now last end k }
+    ensures { read_told result ≡ next_frame image.now last end k }
 {
     if end <= last {
         return FrameRead::Refused(Error::NotAnImage);
@@ -237,7 +237,7 @@ fn next_frame(image: &[u8], last: usize, end: usize, k: usize) -> FrameRead
 // ---- the image
 
 fn refused() -> Reading
-    ensures { result ≡ noReading }
+    ensures { result ≡ no_reading }
 {
     let snippets = no_points();
     let sequences = no_frames();
@@ -250,7 +250,7 @@ fn refused() -> Reading
 
 // Whether all bytes from an index on are zero; past the end there are none.
 pub fn zero_from(image: &[u8], at: usize) -> bool
-    ensures { result ≡ allZero (drop at image.now) }
+    ensures { result ≡ all_zero (drop at image.now) }
 {
     let mut i = at;
     while i < image.len() {
@@ -279,7 +279,7 @@ fn finish(image: &[u8], snippets: Points, sequences: Frames, last: usize) -> Rea
 
 fn sequences_of(image: &[u8], at: usize, q: usize, snippets: Points, last: usize) -> Reading
     requires { (length image.now ≡ 100) × (at + q ≤ 100) × (last < 100) }
-    ensures { result ≡ afterSnippets image.now at q snippets last }
+    ensures { result ≡ after_snippets image.now at q snippets last }
 {
     let to = at + q;
     let r = read_sequences(image, &image[at..to], last);
@@ -293,7 +293,7 @@ fn sequences_of(image: &[u8], at: usize, q: usize, snippets: Points, last: usize
 
 fn snippets_of(image: &[u8], s: usize, q: usize) -> Reading
     requires { (length image.now ≡ 100) × (s ≤ 15) × (q ≤ 16) }
-    ensures { result ≡ afterCounts image.now s q }
+    ensures { result ≡ after_counts image.now s q }
 {
     let to = 2 + s;
     let r = read_snippets(image, &image[2..to], 1 + s + q);
@@ -307,7 +307,7 @@ fn snippets_of(image: &[u8], s: usize, q: usize) -> Reading
 
 // 1 to 15 snippets, 1 to 16 sequences.
 pub fn counts_fit(s: usize, q: usize) -> bool
-    ensures { result ≡ countsFit s q }
+    ensures { result ≡ counts_fit s q }
 {
     if s < 1 {
         return false;
@@ -337,8 +337,8 @@ fn scan(image: &[u8]) -> Reading
 
 // The lists whose image the bytes are, or NotAnImage. What no list shows, the bytes behind the lists, is as in a new array.
 pub fn read(image: &[u8]) -> Reading
-    ensures answer_value { answerNumber result.answer ≡ onOption (readImage image.now) 18 (λ _. 0) }
-    ensures value { result ≡ readingOf (readImage image.now) }
+    ensures answer_value { answer_number result.answer ≡ on_option (read_image image.now) 18 (λ _. 0) }
+    ensures value { result ≡ reading_of (read_image image.now) }
 {
     scan(image)
 }

@@ -2,18 +2,18 @@
 use Prim.Native.Nat.{ℕ, ◌^◌}
 use mathlib.Core.Option.{Option}
 use Rattle.frame.specs.declared.FrameBuilder.{FrameBuilder}
-use Rattle.frame.specs.Word.{frameWord}
-use Rattle.content.specs.Content.{Point, byteOf}
-use Rattle.content.specs.ReadImage.{onOption}
+use Rattle.frame.specs.Word.{frame_word}
+use Rattle.content.specs.Content.{Point, byte_of}
+use Rattle.content.specs.ReadImage.{on_option}
 
-abbrev pub absentPoint : ℕ
-absentPoint = 256
+abbrev pub absent_point : ℕ
+absent_point = 256
 
-abbrev pub pointCode : Option Point → ℕ
-pointCode o = onOption o absentPoint byteOf
+abbrev pub point_code : Option Point → ℕ
+point_code o = on_option o absent_point byte_of
 
-abbrev pub absentFrame : ℕ
-absentFrame = 2 ^ 48
+abbrev pub absent_frame : ℕ
+absent_frame = 2 ^ 48
 
-abbrev pub frameCode : Option FrameBuilder → ℕ
-frameCode o = onOption o absentFrame frameWord
+abbrev pub frame_code : Option FrameBuilder → ℕ
+frame_code o = on_option o absent_frame frame_word

@@ -7,84 +7,84 @@ use native.Mathlib.Omega.{arith}
 use lib.ListN.{length, take, drop}
 use lib.Seq.{take_at, drop_at}
 use Rattle.laws.specs.Bytes.{All}
-use Rattle.laws.specs.Lists.{lowBytes}
+use Rattle.laws.specs.Lists.{low_bytes}
 use Rattle.frame.specs.declared.LoopCount.{LoopCount}
 use Rattle.frame.specs.declared.Frequency.{Frequency}
 use Rattle.frame.specs.declared.FrameBuilder.{FrameBuilder}
 use Rattle.frame.specs.Agreement.{FrameAdmitted}
-use Rattle.frame.proofs.Parts.{loopByte, frequencyWord, LoopAdmitted, FrequencyAdmitted}
-use Rattle.frame.specs.Frame.{gainCode, timebaseCode}
-use Rattle.frame.specs.Read.{gainAt, timebaseAt}
-use Rattle.frame.specs.Word.{frameWord}
-use Rattle.frame.proofs.Reading.{gain-back, timebase-back}
-use Rattle.content.proofs.Codec.{cons-eq}
-use Rattle.readings.specs.Lists.{wordBytes, wordsBytes}
-use Rattle.readings.proofs.Laying.{word-length}
+use Rattle.frame.proofs.Parts.{loop_byte, frequency_word, LoopAdmitted, FrequencyAdmitted}
+use Rattle.frame.specs.Frame.{gain_code, timebase_code}
+use Rattle.frame.specs.Read.{gain_at, timebase_at}
+use Rattle.frame.specs.Word.{frame_word}
+use Rattle.frame.proofs.Reading.{gain_back, timebase_back}
+use Rattle.content.proofs.Codec.{cons_eq}
+use Rattle.readings.specs.Lists.{word_bytes, words_bytes}
+use Rattle.readings.proofs.Laying.{word_length}
 
 -- ---- the fields
 
-loop-small : (k : LoopCount) → LoopAdmitted k → loopByte k < 256
-loop-small LoopCount.Absent h = omega arith
-loop-small (LoopCount.Given k) h = omega arith
+loop_small : (k : LoopCount) → LoopAdmitted k → loop_byte k < 256
+loop_small LoopCount.Absent h = omega arith
+loop_small (LoopCount.Given k) h = omega arith
 
-frequency-small : (f : Frequency) → FrequencyAdmitted f → frequencyWord f < 65536
-frequency-small Frequency.Absent h = omega arith
-frequency-small (Frequency.Given f) h = omega arith
+frequency_small : (f : Frequency) → FrequencyAdmitted f → frequency_word f < 65536
+frequency_small Frequency.Absent h = omega arith
+frequency_small (Frequency.Given f) h = omega arith
 
-loop-told : (j k : LoopCount) → LoopAdmitted j → LoopAdmitted k → loopByte j ≡ loopByte k → j ≡ k
-loop-told LoopCount.Absent LoopCount.Absent h g e = refl
-loop-told LoopCount.Absent (LoopCount.Given k) h g e = absurd (omega arith)
-loop-told (LoopCount.Given j) LoopCount.Absent h g e = absurd (omega arith)
-loop-told (LoopCount.Given j) (LoopCount.Given k) h g e = ap LoopCount.Given e
+loop_told : (j k : LoopCount) → LoopAdmitted j → LoopAdmitted k → loop_byte j ≡ loop_byte k → j ≡ k
+loop_told LoopCount.Absent LoopCount.Absent h g e = refl
+loop_told LoopCount.Absent (LoopCount.Given k) h g e = absurd (omega arith)
+loop_told (LoopCount.Given j) LoopCount.Absent h g e = absurd (omega arith)
+loop_told (LoopCount.Given j) (LoopCount.Given k) h g e = ap LoopCount.Given e
 
-frequency-told : (a b : Frequency) → FrequencyAdmitted a → FrequencyAdmitted b → frequencyWord a ≡ frequencyWord b → a ≡ b
-frequency-told Frequency.Absent Frequency.Absent h g e = refl
-frequency-told Frequency.Absent (Frequency.Given b) h g e = absurd (omega arith)
-frequency-told (Frequency.Given a) Frequency.Absent h g e = absurd (omega arith)
-frequency-told (Frequency.Given a) (Frequency.Given b) h g e = ap Frequency.Given e
+frequency_told : (a b : Frequency) → FrequencyAdmitted a → FrequencyAdmitted b → frequency_word a ≡ frequency_word b → a ≡ b
+frequency_told Frequency.Absent Frequency.Absent h g e = refl
+frequency_told Frequency.Absent (Frequency.Given b) h g e = absurd (omega arith)
+frequency_told (Frequency.Given a) Frequency.Absent h g e = absurd (omega arith)
+frequency_told (Frequency.Given a) (Frequency.Given b) h g e = ap Frequency.Given e
 
 -- ---- a frame
 
-pub word_small : (f : FrameBuilder) → FrameAdmitted f → frameWord f < 2 ^ 48
+pub word_small : (f : FrameBuilder) → FrameAdmitted f → frame_word f < 2 ^ 48
 word_small f a =
-    omega (arith, a.numberFits, (gain-back f.gain).1, (timebase-back f.timebase).1, loop-small f.loop_count a.loopFits, frequency-small f.frequency a.frequencyFits)
+    omega (arith, a.number_fits, (gain_back f.gain).1, (timebase_back f.timebase).1, loop_small f.loop_count a.loop_fits, frequency_small f.frequency a.frequency_fits)
 
 -- two numbers by their low byte and the rest
 low : (a b x y : ℕ) → a < 256 → b < 256 → a + x * 256 ≡ b + y * 256 → (a ≡ b) × (x ≡ y)
 low a b x y h k e = (omega arith, omega arith)
 
-pub word-told : (f g : FrameBuilder) → FrameAdmitted f → FrameAdmitted g → frameWord f ≡ frameWord g → f ≡ g
-word-told f g a b e =
-    let gf = gain-back f.gain in
-    let gg = gain-back g.gain in
-    let tf = timebase-back f.timebase in
-    let tg = timebase-back g.timebase in
-    let r : FrameBuilder → ℕ = λ x. loopByte x.loop_count + frequencyWord x.frequency * 256 in
-    let s : FrameBuilder → ℕ = λ x. timebaseCode x.timebase + r x * 256 in
-    let t : FrameBuilder → ℕ = λ x. gainCode x.gain + s x * 256 in
-    let p = low f.snippet_id g.snippet_id (t f) (t g) (omega (arith, a.numberFits)) (omega (arith, b.numberFits)) (omega arith) in
-    let q = low (gainCode f.gain) (gainCode g.gain) (s f) (s g) (omega arith) (omega arith) p.1 in
-    let u = low (timebaseCode f.timebase) (timebaseCode g.timebase) (r f) (r g) (omega arith) (omega arith) q.1 in
-    let v = low (loopByte f.loop_count) (loopByte g.loop_count) (frequencyWord f.frequency) (frequencyWord g.frequency) (loop-small f.loop_count a.loopFits) (loop-small g.loop_count b.loopFits) u.1 in
-    let gains = sym gf.0 ∙ ap gainAt q.0 ∙ gg.0 in
-    let timebases = sym tf.0 ∙ ap timebaseAt u.0 ∙ tg.0 in
-    let loops = loop-told f.loop_count g.loop_count a.loopFits b.loopFits v.0 in
-    let frequencies = frequency-told f.frequency g.frequency a.frequencyFits b.frequencyFits v.1 in
+pub word_told : (f g : FrameBuilder) → FrameAdmitted f → FrameAdmitted g → frame_word f ≡ frame_word g → f ≡ g
+word_told f g a b e =
+    let gf = gain_back f.gain in
+    let gg = gain_back g.gain in
+    let tf = timebase_back f.timebase in
+    let tg = timebase_back g.timebase in
+    let r : FrameBuilder → ℕ = λ x. loop_byte x.loop_count + frequency_word x.frequency * 256 in
+    let s : FrameBuilder → ℕ = λ x. timebase_code x.timebase + r x * 256 in
+    let t : FrameBuilder → ℕ = λ x. gain_code x.gain + s x * 256 in
+    let p = low f.snippet_id g.snippet_id (t f) (t g) (omega (arith, a.number_fits)) (omega (arith, b.number_fits)) (omega arith) in
+    let q = low (gain_code f.gain) (gain_code g.gain) (s f) (s g) (omega arith) (omega arith) p.1 in
+    let u = low (timebase_code f.timebase) (timebase_code g.timebase) (r f) (r g) (omega arith) (omega arith) q.1 in
+    let v = low (loop_byte f.loop_count) (loop_byte g.loop_count) (frequency_word f.frequency) (frequency_word g.frequency) (loop_small f.loop_count a.loop_fits) (loop_small g.loop_count b.loop_fits) u.1 in
+    let gains = sym gf.0 ∙ ap gain_at q.0 ∙ gg.0 in
+    let timebases = sym tf.0 ∙ ap timebase_at u.0 ∙ tg.0 in
+    let loops = loop_told f.loop_count g.loop_count a.loop_fits b.loop_fits v.0 in
+    let frequencies = frequency_told f.frequency g.frequency a.frequency_fits b.frequency_fits v.1 in
     λ i. record { snippet_id = p.0 i; gain = gains i; timebase = timebases i; loop_count = loops i; frequency = frequencies i }
 
 -- ---- its bytes
 
-abbrev fromLow : List ℕ → ℕ
-fromLow [] = 0
-fromLow (b ∷ bs) = b + fromLow bs * 256
+abbrev from_low : List ℕ → ℕ
+from_low [] = 0
+from_low (b ∷ bs) = b + from_low bs * 256
 
 abbrev Below : ℕ → ℕ → Type 0
 Below zero n = n < 1
 Below (suc k) n = Below k (n / 256)
 
-low-back : (k n : ℕ) → Below k n → fromLow (lowBytes k n) ≡ n
-low-back zero n h = omega arith
-low-back (suc k) n h = let e = low-back k (n / 256) h in omega arith
+low_back : (k n : ℕ) → Below k n → from_low (low_bytes k n) ≡ n
+low_back zero n h = omega arith
+low_back (suc k) n h = let e = low_back k (n / 256) h in omega arith
 
 step : (n m : ℕ) → n < m * 256 → n / 256 < m
 step n m h = omega arith
@@ -92,17 +92,17 @@ step n m h = omega arith
 six : (n : ℕ) → n < 2 ^ 48 → Below 6 n
 six n h = step _ 1 (step _ (2 ^ 8) (step _ (2 ^ 16) (step _ (2 ^ 24) (step _ (2 ^ 32) (step n (2 ^ 40) h)))))
 
-bytes-told : (f g : FrameBuilder) → FrameAdmitted f → FrameAdmitted g → wordBytes f ≡ wordBytes g → f ≡ g
-unfolding wordBytes
-bytes-told f g a b e =
-    word-told f g a b
-    (sym (low-back 6 (frameWord f) (six (frameWord f) (word_small f a))) ∙ ap fromLow e ∙ low-back 6 (frameWord g) (six (frameWord g) (word_small g b)))
+bytes_told : (f g : FrameBuilder) → FrameAdmitted f → FrameAdmitted g → word_bytes f ≡ word_bytes g → f ≡ g
+unfolding word_bytes
+bytes_told f g a b e =
+    word_told f g a b
+    (sym (low_back 6 (frame_word f) (six (frame_word f) (word_small f a))) ∙ ap from_low e ∙ low_back 6 (frame_word g) (six (frame_word g) (word_small g b)))
 
-pub words-told : (fs gs : List FrameBuilder) → All FrameAdmitted fs → All FrameAdmitted gs → length fs ≡ length gs → wordsBytes fs ≡ wordsBytes gs → fs ≡ gs
-words-told [] [] a b n e = refl
-words-told [] (g ∷ gs) a b n e = absurd (omega arith)
-words-told (f ∷ fs) [] a b n e = absurd (omega arith)
-words-told (f ∷ fs) (g ∷ gs) a b n e =
-    let h : wordBytes f ≡ wordBytes g = sym (take_at (wordBytes f) (wordsBytes fs) 6 (word-length f)) ∙ ap (take 6) e ∙ take_at (wordBytes g) (wordsBytes gs) 6 (word-length g) in
-    let t : wordsBytes fs ≡ wordsBytes gs = sym (drop_at (wordBytes f) (wordsBytes fs) 6 (word-length f)) ∙ ap (drop 6) e ∙ drop_at (wordBytes g) (wordsBytes gs) 6 (word-length g) in
-    cons-eq (bytes-told f g a.0 b.0 h) (words-told fs gs a.1 b.1 (omega arith) t)
+pub words_told : (fs gs : List FrameBuilder) → All FrameAdmitted fs → All FrameAdmitted gs → length fs ≡ length gs → words_bytes fs ≡ words_bytes gs → fs ≡ gs
+words_told [] [] a b n e = refl
+words_told [] (g ∷ gs) a b n e = absurd (omega arith)
+words_told (f ∷ fs) [] a b n e = absurd (omega arith)
+words_told (f ∷ fs) (g ∷ gs) a b n e =
+    let h : word_bytes f ≡ word_bytes g = sym (take_at (word_bytes f) (words_bytes fs) 6 (word_length f)) ∙ ap (take 6) e ∙ take_at (word_bytes g) (words_bytes gs) 6 (word_length g) in
+    let t : words_bytes fs ≡ words_bytes gs = sym (drop_at (word_bytes f) (words_bytes fs) 6 (word_length f)) ∙ ap (drop 6) e ∙ drop_at (word_bytes g) (words_bytes gs) 6 (word_length g) in
+    cons_eq (bytes_told f g a.0 b.0 h) (words_told fs gs a.1 b.1 (omega arith) t)

@@ -3,8 +3,8 @@ use Rattle.std.specs.Prelude.{ℕ, List, ◌++◌, take}
 use Rattle.reader.specs.declared.Points.{Points}
 use Rattle.reader.specs.declared.Frames.{Frames}
 use Rattle.reader.specs.Reading.{padded}
-use Rattle.readings.specs.Lists.{wordsBytes}
+use Rattle.readings.specs.Lists.{words_bytes}
 
 -- the arrays of a reading
-abbrev pub laidBytes : Points → Frames → List ℕ
-laidBytes s q = s.items ++ s.ends ++ padded 576 0 (wordsBytes (take q.len q.items)) ++ q.ends
+abbrev pub laid_bytes : Points → Frames → List ℕ
+laid_bytes s q = s.items ++ s.ends ++ padded 576 0 (words_bytes (take q.len q.items)) ++ q.ends

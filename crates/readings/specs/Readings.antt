@@ -3,29 +3,29 @@
 use Rattle.std.specs.Prelude.{ℕ, ◌+◌, ◌*◌, ◌^◌, ◌<◌, length}
 use Rattle.std.proofs.Math.Option.{Option}
 use Rattle.errors.specs.Told.{Told, gives, refuses}
-use Rattle.frame.specs.Word.{frameWord}
-use Rattle.content.specs.Content.{Content, byteOf}
-use Rattle.content.specs.ReadImage.{onOption}
+use Rattle.frame.specs.Word.{frame_word}
+use Rattle.content.specs.Content.{Content, byte_of}
+use Rattle.content.specs.ReadImage.{on_option}
 use Rattle.reader.specs.Items.{element}
 
 -- 256 times the number of snippets and the number of sequences
-abbrev pub countsAnswer : Option Content → Told ℕ
-countsAnswer o = onOption o (refuses 18) (λ c. gives (length c.snippets * 256 + length c.sequences))
+abbrev pub counts_answer : Option Content → Told ℕ
+counts_answer o = on_option o (refuses 18) (λ c. gives (length c.snippets * 256 + length c.sequences))
 
 -- the byte of the j-th point of the i-th snippet, or above every byte where there is none
-abbrev pub pointAnswer : Option Content → ℕ → ℕ → Told ℕ
-pointAnswer o i j = onOption o (refuses 18) (λ c. gives (onOption (element c.snippets i j) 256 byteOf))
+abbrev pub point_answer : Option Content → ℕ → ℕ → Told ℕ
+point_answer o i j = on_option o (refuses 18) (λ c. gives (on_option (element c.snippets i j) 256 byte_of))
 
 -- the fields of the j-th frame of the i-th sequence as one number, or above every such number where there is none
-abbrev pub frameAnswer : Option Content → ℕ → ℕ → Told ℕ
-frameAnswer o i j = onOption o (refuses 18) (λ c. gives (onOption (element c.sequences i j) (2 ^ 48) frameWord))
+abbrev pub frame_answer : Option Content → ℕ → ℕ → Told ℕ
+frame_answer o i j = on_option o (refuses 18) (λ c. gives (on_option (element c.sequences i j) (2 ^ 48) frame_word))
 
 -- ---- as the private functions answer
 
 -- a byte, or that of no point
-abbrev pub byteCode : Option ℕ → ℕ
-byteCode o = onOption o 256 (λ b. b)
+abbrev pub byte_code : Option ℕ → ℕ
+byte_code o = on_option o 256 (λ b. b)
 
 -- what is there is a byte
 abbrev pub Small : Option ℕ → Type 0
-Small o = onOption o Unit (λ b. b < 256)
+Small o = on_option o Unit (λ b. b < 256)

@@ -3,35 +3,35 @@
 use Rattle.std.specs.Prelude.{◌≡◌, List, ◌++◌, ℕ, ◌<◌, ◌≤◌, length, drop}
 use Rattle.std.proofs.Math.Option.{Option, none, some}
 use Rattle.laws.specs.Bytes.{Bytes}
-use Rattle.laws.specs.Whole.{wholeOut}
+use Rattle.laws.specs.Whole.{whole_out}
 use Rattle.errors.specs.Packed.{packed, Room}
 use Rattle.errors.specs.Told.{Told, refuses}
 use Rattle.content.specs.Content.{Content}
-use Rattle.content.specs.ReadImage.{readImage}
-use Rattle.readings.specs.Readings.{countsAnswer, pointAnswer, frameAnswer}
-use Rattle.readings.specs.Lists.{listsOf, listsItem, listsAnswer}
+use Rattle.content.specs.ReadImage.{read_image}
+use Rattle.readings.specs.Readings.{counts_answer, point_answer, frame_answer}
+use Rattle.readings.specs.Lists.{lists_of, lists_item, lists_answer}
 
 -- what is answered of two slices is the same number
 abbrev pub Alike : ℕ → (Option Content → Told ℕ) → List ℕ → List ℕ → Type 0
-Alike bits answer l k = packed bits (answer (readImage l)) ≡ packed bits (answer (readImage k))
+Alike bits answer l k = packed bits (answer (read_image l)) ≡ packed bits (answer (read_image k))
 
 pub record ReadingsTold : Type 0 where
   -- each answer has room in its number, so that a refusal is told apart from every value (errors/proofs/Packed.antt)
-  pub counts : (l : List ℕ) → Bytes l → Room 16 (countsAnswer (readImage l))
-  pub point : (l : List ℕ) → Bytes l → (i j : ℕ) → Room 16 (pointAnswer (readImage l) i j)
-  pub frame : (l : List ℕ) → Bytes l → (i j : ℕ) → Room 56 (frameAnswer (readImage l) i j)
-  pub lists : (l : List ℕ) → Bytes l → (out : List ℕ) → Room 16 (listsAnswer out (readImage l))
+  pub counts : (l : List ℕ) → Bytes l → Room 16 (counts_answer (read_image l))
+  pub point : (l : List ℕ) → Bytes l → (i j : ℕ) → Room 16 (point_answer (read_image l) i j)
+  pub frame : (l : List ℕ) → Bytes l → (i j : ℕ) → Room 56 (frame_answer (read_image l) i j)
+  pub lists : (l : List ℕ) → Bytes l → (out : List ℕ) → Room 16 (lists_answer out (read_image l))
   -- item by item
-  pub readings : (l k : List ℕ) → Bytes l → Bytes k → Alike 16 countsAnswer l k → ((i j : ℕ) → Alike 16 (λ o. pointAnswer o i j) l k)
-      → ((i j : ℕ) → Alike 56 (λ o. frameAnswer o i j) l k) → readImage l ≡ readImage k
+  pub readings : (l k : List ℕ) → Bytes l → Bytes k → Alike 16 counts_answer l k → ((i j : ℕ) → Alike 16 (λ o. point_answer o i j) l k)
+      → ((i j : ℕ) → Alike 56 (λ o. frame_answer o i j) l k) → read_image l ≡ read_image k
   -- all lists at once, into a buffer that is long enough
-  pub listings : (l k out : List ℕ) → Bytes l → Bytes k → 703 ≤ length out → Alike 16 (listsAnswer out) l k
-      → wholeOut out (listsItem (readImage l)) ≡ wholeOut out (listsItem (readImage k)) → readImage l ≡ readImage k
+  pub listings : (l k out : List ℕ) → Bytes l → Bytes k → 703 ≤ length out → Alike 16 (lists_answer out) l k
+      → whole_out out (lists_item (read_image l)) ≡ whole_out out (lists_item (read_image k)) → read_image l ≡ read_image k
   -- the buffer and the answer then, in a shorter one, and where there is no image
-  pub listed : (l : List ℕ) → Bytes l → (out : List ℕ) (c : Content) → readImage l ≡ some c → 703 ≤ length out
-      → (listsAnswer out (some c) ≡ countsAnswer (some c)) × (wholeOut out (listsItem (some c)) ≡ listsOf c ++ drop 703 out)
-  pub short : (l : List ℕ) → Bytes l → (out : List ℕ) (c : Content) → readImage l ≡ some c → length out < 703
-      → (listsAnswer out (some c) ≡ refuses 24) × (wholeOut out (listsItem (some c)) ≡ out)
-  pub unread : (out : List ℕ) → (listsAnswer out none ≡ refuses 18) × (wholeOut out (listsItem none) ≡ out)
+  pub listed : (l : List ℕ) → Bytes l → (out : List ℕ) (c : Content) → read_image l ≡ some c → 703 ≤ length out
+      → (lists_answer out (some c) ≡ counts_answer (some c)) × (whole_out out (lists_item (some c)) ≡ lists_of c ++ drop 703 out)
+  pub short : (l : List ℕ) → Bytes l → (out : List ℕ) (c : Content) → read_image l ≡ some c → length out < 703
+      → (lists_answer out (some c) ≡ refuses 24) × (whole_out out (lists_item (some c)) ≡ out)
+  pub unread : (out : List ℕ) → (lists_answer out none ≡ refuses 18) × (whole_out out (lists_item none) ≡ out)
   -- nor is anything else told of it
-  pub refused : (countsAnswer none ≡ refuses 18) × ((i j : ℕ) → (pointAnswer none i j ≡ refuses 18) × (frameAnswer none i j ≡ refuses 18))
+  pub refused : (counts_answer none ≡ refuses 18) × ((i j : ℕ) → (point_answer none i j ≡ refuses 18) × (frame_answer none i j ≡ refuses 18))

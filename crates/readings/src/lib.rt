@@ -7,17 +7,17 @@
 
 ghost use Rattle.std.specs.Prelude.{◌≡◌, ◌≤◌, ◌<◌, ◌^◌, length, take, get_or};
 ghost use Rattle.std.proofs.Math.ListN.{get_elem?};
-ghost use Rattle.laws.specs.Whole.{wholeOut};
-ghost use Rattle.laws.specs.Lists.{lowBytes};
+ghost use Rattle.laws.specs.Whole.{whole_out};
+ghost use Rattle.laws.specs.Lists.{low_bytes};
 ghost use Rattle.errors.specs.Packed.{packed};
-ghost use Rattle.content.specs.ReadImage.{onOption, readImage, readFrames};
-ghost use Rattle.frame.specs.Word.{frameWord};
-ghost use Rattle.reader.specs.Items.{frameAtTold};
+ghost use Rattle.content.specs.ReadImage.{on_option, read_image, read_frames};
+ghost use Rattle.frame.specs.Word.{frame_word};
+ghost use Rattle.reader.specs.Items.{frame_at_told};
 ghost use Rattle.reader.specs.Reading.{padded};
-ghost use Rattle.readings.specs.InPlace.{present, itemFits, lastIn, indexTold, itemsFit, beforeItem, itemAt, NthFrame, FrameOf};
-ghost use Rattle.readings.specs.Readings.{countsAnswer, byteCode, Small, pointAnswer, frameAnswer};
-ghost use Rattle.readings.specs.Lists.{wordsBytes, listsItem, listsAnswer};
-ghost use Rattle.readings.specs.Laying.{laidBytes};
+ghost use Rattle.readings.specs.InPlace.{present, item_fits, last_in, index_told, items_fit, before_item, item_at, NthFrame, FrameOf};
+ghost use Rattle.readings.specs.Readings.{counts_answer, byte_code, Small, point_answer, frame_answer};
+ghost use Rattle.readings.specs.Lists.{words_bytes, lists_item, lists_answer};
+ghost use Rattle.readings.specs.Laying.{laid_bytes};
 
 use errors::Answer;
 use frame::{FrameBuilder, FrameRead};
@@ -55,7 +55,7 @@ const FRAME_ENDS: usize = 687;
 
 // 256 times the number of snippets and the number of sequences; 18 * 65536 for what is no image.
 pub fn counts(image: &[u8]) -> u32
-    ensures { result ≡ packed 16 (countsAnswer (readImage image.now)) }
+    ensures { result ≡ packed 16 (counts_answer (read_image image.now)) }
 {
     if is_image(image) {
         let s = byte(image, 0);
@@ -67,7 +67,7 @@ pub fn counts(image: &[u8]) -> u32
 
 // The byte of the j-th point of the i-th snippet, both counted from 0, or 256 where there is none; 18 * 65536 for what is no image.
 pub fn point(image: &[u8], i: usize, j: usize) -> u32
-    ensures { result ≡ packed 16 (pointAnswer (readImage image.now) i j) }
+    ensures { result ≡ packed 16 (point_answer (read_image image.now) i j) }
 {
     if is_image(image) {
         let s = byte(image, 0);
@@ -82,7 +82,7 @@ pub fn point(image: &[u8], i: usize, j: usize) -> u32
 // The fields of the j-th frame of the i-th sequence as one number, or 2 to the power of 48 where there is none; 18 times 2 to the power
 // of 56 for what is no image.
 pub fn frame(image: &[u8], i: usize, j: usize) -> u64
-    ensures { result ≡ packed 56 (frameAnswer (readImage image.now) i j) }
+    ensures { result ≡ packed 56 (frame_answer (read_image image.now) i j) }
 {
     if is_image(image) {
         let s = byte(image, 0);
@@ -98,8 +98,8 @@ pub fn frame(image: &[u8], i: usize, j: usize) -> u64
 // All lists of an image at once: the points' bytes and the ends of the snippets, six bytes for each frame and the ends of the sequences,
 // LISTS_SIZE bytes in all. Answers as `counts` does, or 24 * 65536 where they have no room; a refusal leaves the buffer.
 pub fn lists(image: &[u8], out: &mut [u8]) -> u32
-    ensures answer { result ≡ packed 16 (listsAnswer out.old (readImage image.now)) }
-    ensures buffer { out.new ≡ wholeOut out.old (listsItem (readImage image.now)) }
+    ensures answer { result ≡ packed 16 (lists_answer out.old (read_image image.now)) }
+    ensures buffer { out.new ≡ whole_out out.old (lists_item (read_image image.now)) }
 {
     let r = reader::read(image);
     let answer = r.answer;
@@ -121,7 +121,7 @@ pub fn lists(image: &[u8], out: &mut [u8]) -> u32
 // ---- all lists in bytes
 
 fn lay(snippets: Points, sequences: Frames) -> [u8; LISTS_SIZE]
-    ensures { result ≡ laidBytes snippets sequences }
+    ensures { result ≡ laid_bytes snippets sequences }
 {
     let mut out = [0u8; LISTS_SIZE];
     let points = snippets.items;
@@ -137,7 +137,7 @@ fn lay(snippets: Points, sequences: Frames) -> [u8; LISTS_SIZE]
 
 // The frames in use, six bytes each, then zeros.
 fn frame_bytes(frames: Frames) -> [u8; FRAMES_SIZE]
-    ensures { result ≡ padded 576 0 (wordsBytes (take frames.len frames.items)) }
+    ensures { result ≡ padded 576 0 (words_bytes (take frames.len frames.items)) }
 {
     let mut out = [0u8; FRAMES_SIZE];
     let n = frames.len as usize;
@@ -156,7 +156,7 @@ fn frame_bytes(frames: Frames) -> [u8; FRAMES_SIZE]
 
 // The six low bytes of a number, the lowest first.
 fn low_bytes(w: u64) -> [u8; 6]
-    ensures { result ≡ lowBytes 6 w }
+    ensures { result ≡ low_bytes 6 w }
 {
     let b = w / 256;
     let c = b / 256;
@@ -176,7 +176,7 @@ fn low_bytes(w: u64) -> [u8; 6]
 // ---- whether bytes are an image
 
 fn is_image(image: &[u8]) -> bool
-    ensures { result ≡ present (readImage image.now) }
+    ensures { result ≡ present (read_image image.now) }
 {
     if image.len() == 100 {
         let s = byte(image, 0);
@@ -192,7 +192,7 @@ fn is_image(image: &[u8]) -> bool
 // The snippets, then the sequences, and all bytes after the last are zero.
 fn items_fit(image: &[u8], s: usize, q: usize) -> bool
     requires { (length image.now ≡ 100) × (s ≤ 15) × (q ≤ 16) }
-    ensures { result ≡ itemsFit image.now s q }
+    ensures { result ≡ items_fit image.now s q }
 {
     let at = 2 + s;
     let to = at + q;
@@ -211,7 +211,7 @@ fn items_fit(image: &[u8], s: usize, q: usize) -> bool
 // stands at `first`.
 fn items_end(image: &[u8], ends: &[u8], first: usize, snippets: bool) -> usize
     requires { (0 < first) × (first < 256) }
-    ensures result_value { indexTold result ≡ lastIn snippets image.now first ends.now }
+    ensures result_value { index_told result ≡ last_in snippets image.now first ends.now }
     ensures upper_bound { result < 256 }
 {
     let mut last = first;
@@ -236,10 +236,10 @@ fn items_end(image: &[u8], ends: &[u8], first: usize, snippets: bool) -> usize
     last
 }
 
-#[tactic(auto, unfolding(crate::specs::InPlace::itemFits))]
+#[tactic(auto, unfolding(crate::specs::InPlace::item_fits))]
 fn item_fits(bytes: &[u8], snippet: bool) -> bool
     requires { length bytes.now < 256 }
-    ensures { result ≡ itemFits snippet bytes.now }
+    ensures { result ≡ item_fits snippet bytes.now }
 {
     if bytes.len() < 1 {
         return false;
@@ -254,7 +254,7 @@ fn item_fits(bytes: &[u8], snippet: bool) -> bool
 #[tactic(auto, using(crate::proofs::Fitting::frames_full))]
 fn frames_fit(bytes: &[u8]) -> bool
     requires { length bytes.now < 256 }
-    ensures { result ≡ present (readFrames 32 bytes.now) }
+    ensures { result ≡ present (read_frames 32 bytes.now) }
 {
     let mut at = 0usize;
     let mut k = 0usize;
@@ -281,8 +281,8 @@ fn frames_fit(bytes: &[u8]) -> bool
 // The j-th byte of the k-th item, or NO_POINT.
 fn byte_of(image: &[u8], k: usize, j: usize) -> u32
     requires { k < 512 }
-    ensures value { result ≡ byteCode (get_elem? (itemAt image.now k) j) }
-    ensures small { Small (get_elem? (itemAt image.now k) j) }
+    ensures value { result ≡ byte_code (get_elem? (item_at image.now k) j) }
+    ensures small { Small (get_elem? (item_at image.now k) j) }
 {
     let last = item_before(image, k);
     let end = byte(image, 2 + k);
@@ -320,7 +320,7 @@ fn frame_of(image: &[u8], k: usize, j: usize) -> FrameAt
 // The index of the byte before the k-th item.
 fn item_before(image: &[u8], k: usize) -> usize
     requires { k < 512 }
-    ensures { result ≡ beforeItem image.now k }
+    ensures { result ≡ before_item image.now k }
 {
     if k < 1 {
         return 1 + byte(image, 0) + byte(image, 1);
@@ -366,7 +366,7 @@ fn byte(image: &[u8], at: usize) -> usize
 // ---- a frame as one number
 
 fn frame_code(f: FrameAt) -> u64
-    ensures { result ≡ onOption (frameAtTold f) (2 ^ 48) frameWord }
+    ensures { result ≡ on_option (frame_at_told f) (2 ^ 48) frame_word }
 {
     match f {
         FrameAt::Frame(x) => x.word(),

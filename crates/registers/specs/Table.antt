@@ -59,19 +59,19 @@ abbrev pub registers : List Entry
 registers = interrupts ++ (actuator ++ (control ++ trigger))
 
 -- the fields that registers.rs marks `access = RO`
-abbrev pub readOnly : List String
-readOnly = "CHIP_REV_MAJOR" ∷ "CHIP_REV_MINOR" ∷ "WAV_MEM_BASE_ADDR" ∷ []
+abbrev pub read_only : List String
+read_only = "CHIP_REV_MAJOR" ∷ "CHIP_REV_MINOR" ∷ "WAV_MEM_BASE_ADDR" ∷ []
 
 -- the register of a name; any other text has no part, and an address past every one
-abbrev pub entryIn : List Entry → String → Entry
-entryIn [] name = entry name 256 []
-entryIn (e ∷ es) name = cond (eqt e.name name) e (entryIn es name)
+abbrev pub entry_in : List Entry → String → Entry
+entry_in [] name = entry name 256 []
+entry_in (e ∷ es) name = cond (eqt e.name name) e (entry_in es name)
 
-abbrev pub addressOf : String → ℕ
-addressOf name = (entryIn registers name).address
+abbrev pub address_of : String → ℕ
+address_of name = (entry_in registers name).address
 
-abbrev pub partsOf : String → List Part
-partsOf name = (entryIn registers name).parts
+abbrev pub parts_of : String → List Part
+parts_of name = (entry_in registers name).parts
 
 -- every register's address, in the written order
 abbrev pub addresses : List ℕ

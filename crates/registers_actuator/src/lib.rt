@@ -7,9 +7,9 @@
 #![tactic(auto)]
 
 ghost use Rattle.std.specs.Prelude.{◌≡◌};
-ghost use Rattle.field.specs.Field.{codeOf};
-ghost use Rattle.field.specs.Layout.{getAt, isAt, withAt, readings, replacements};
-ghost use Rattle.registers.specs.Table.{actuator, readOnly, partsOf};
+ghost use Rattle.field.specs.Field.{code_of};
+ghost use Rattle.field.specs.Layout.{get_at, is_at, with_at, readings, replacements};
+ghost use Rattle.registers.specs.Table.{actuator, read_only, parts_of};
 
 use field::{flag, get, with, with_flag};
 
@@ -37,13 +37,13 @@ impl FRQ_LRA_PER_H {
     }
 
     pub fn LRA_PER_H(self) -> u8
-        ensures { result ≡ getAt (partsOf "FRQ_LRA_PER_H") "LRA_PER_H" self.0 }
+        ensures { result ≡ get_at (parts_of "FRQ_LRA_PER_H") "LRA_PER_H" self.0 }
     {
         get(self.0, 0, 8)
     }
 
     pub fn with_LRA_PER_H(self, value: u8) -> Self
-        ensures { result.0 ≡ withAt (partsOf "FRQ_LRA_PER_H") "LRA_PER_H" self.0 value }
+        ensures { result.0 ≡ with_at (parts_of "FRQ_LRA_PER_H") "LRA_PER_H" self.0 value }
     {
         FRQ_LRA_PER_H(with(self.0, 0, 8, value))
     }
@@ -73,13 +73,13 @@ impl FRQ_LRA_PER_L {
     }
 
     pub fn LRA_PER_L(self) -> u8
-        ensures { result ≡ getAt (partsOf "FRQ_LRA_PER_L") "LRA_PER_L" self.0 }
+        ensures { result ≡ get_at (parts_of "FRQ_LRA_PER_L") "LRA_PER_L" self.0 }
     {
         get(self.0, 0, 7)
     }
 
     pub fn with_LRA_PER_L(self, value: u8) -> Self
-        ensures { result.0 ≡ withAt (partsOf "FRQ_LRA_PER_L") "LRA_PER_L" self.0 value }
+        ensures { result.0 ≡ with_at (parts_of "FRQ_LRA_PER_L") "LRA_PER_L" self.0 value }
     {
         FRQ_LRA_PER_L(with(self.0, 0, 7, value))
     }
@@ -109,13 +109,13 @@ impl ACTUATOR1 {
     }
 
     pub fn ACTUATOR_NOMMAX(self) -> u8
-        ensures { result ≡ getAt (partsOf "ACTUATOR1") "ACTUATOR_NOMMAX" self.0 }
+        ensures { result ≡ get_at (parts_of "ACTUATOR1") "ACTUATOR_NOMMAX" self.0 }
     {
         get(self.0, 0, 8)
     }
 
     pub fn with_ACTUATOR_NOMMAX(self, value: u8) -> Self
-        ensures { result.0 ≡ withAt (partsOf "ACTUATOR1") "ACTUATOR_NOMMAX" self.0 value }
+        ensures { result.0 ≡ with_at (parts_of "ACTUATOR1") "ACTUATOR_NOMMAX" self.0 value }
     {
         ACTUATOR1(with(self.0, 0, 8, value))
     }
@@ -145,13 +145,13 @@ impl ACTUATOR2 {
     }
 
     pub fn ACTUATOR_ABSMAX(self) -> u8
-        ensures { result ≡ getAt (partsOf "ACTUATOR2") "ACTUATOR_ABSMAX" self.0 }
+        ensures { result ≡ get_at (parts_of "ACTUATOR2") "ACTUATOR_ABSMAX" self.0 }
     {
         get(self.0, 0, 8)
     }
 
     pub fn with_ACTUATOR_ABSMAX(self, value: u8) -> Self
-        ensures { result.0 ≡ withAt (partsOf "ACTUATOR2") "ACTUATOR_ABSMAX" self.0 value }
+        ensures { result.0 ≡ with_at (parts_of "ACTUATOR2") "ACTUATOR_ABSMAX" self.0 value }
     {
         ACTUATOR2(with(self.0, 0, 8, value))
     }
@@ -181,13 +181,13 @@ impl ACTUATOR3 {
     }
 
     pub fn IMAX(self) -> u8
-        ensures { result ≡ getAt (partsOf "ACTUATOR3") "IMAX" self.0 }
+        ensures { result ≡ get_at (parts_of "ACTUATOR3") "IMAX" self.0 }
     {
         get(self.0, 0, 5)
     }
 
     pub fn with_IMAX(self, value: u8) -> Self
-        ensures { result.0 ≡ withAt (partsOf "ACTUATOR3") "IMAX" self.0 value }
+        ensures { result.0 ≡ with_at (parts_of "ACTUATOR3") "IMAX" self.0 value }
     {
         ACTUATOR3(with(self.0, 0, 5, value))
     }
@@ -217,13 +217,13 @@ impl CALIB_V2I_H {
     }
 
     pub fn V2I_FACTOR_H(self) -> u8
-        ensures { result ≡ getAt (partsOf "CALIB_V2I_H") "V2I_FACTOR_H" self.0 }
+        ensures { result ≡ get_at (parts_of "CALIB_V2I_H") "V2I_FACTOR_H" self.0 }
     {
         get(self.0, 0, 8)
     }
 
     pub fn with_V2I_FACTOR_H(self, value: u8) -> Self
-        ensures { result.0 ≡ withAt (partsOf "CALIB_V2I_H") "V2I_FACTOR_H" self.0 value }
+        ensures { result.0 ≡ with_at (parts_of "CALIB_V2I_H") "V2I_FACTOR_H" self.0 value }
     {
         CALIB_V2I_H(with(self.0, 0, 8, value))
     }
@@ -253,13 +253,13 @@ impl CALIB_V2I_L {
     }
 
     pub fn V2I_FACTOR_L(self) -> u8
-        ensures { result ≡ getAt (partsOf "CALIB_V2I_L") "V2I_FACTOR_L" self.0 }
+        ensures { result ≡ get_at (parts_of "CALIB_V2I_L") "V2I_FACTOR_L" self.0 }
     {
         get(self.0, 0, 8)
     }
 
     pub fn with_V2I_FACTOR_L(self, value: u8) -> Self
-        ensures { result.0 ≡ withAt (partsOf "CALIB_V2I_L") "V2I_FACTOR_L" self.0 value }
+        ensures { result.0 ≡ with_at (parts_of "CALIB_V2I_L") "V2I_FACTOR_L" self.0 value }
     {
         CALIB_V2I_L(with(self.0, 0, 8, value))
     }
@@ -289,86 +289,86 @@ impl TOP_CFG1 {
     }
 
     pub fn AMP_PID_EN(self) -> bool
-        ensures { result ≡ isAt (partsOf "TOP_CFG1") "AMP_PID_EN" self.0 }
+        ensures { result ≡ is_at (parts_of "TOP_CFG1") "AMP_PID_EN" self.0 }
     {
         flag(self.0, 0)
     }
 
     pub fn with_AMP_PID_EN(self, on: bool) -> Self
-        ensures { result.0 ≡ withAt (partsOf "TOP_CFG1") "AMP_PID_EN" self.0 (codeOf on) }
+        ensures { result.0 ≡ with_at (parts_of "TOP_CFG1") "AMP_PID_EN" self.0 (code_of on) }
     {
         TOP_CFG1(with_flag(self.0, 0, on))
     }
 
     pub fn RAPID_STOP_EN(self) -> bool
-        ensures { result ≡ isAt (partsOf "TOP_CFG1") "RAPID_STOP_EN" self.0 }
+        ensures { result ≡ is_at (parts_of "TOP_CFG1") "RAPID_STOP_EN" self.0 }
     {
         flag(self.0, 1)
     }
 
     pub fn with_RAPID_STOP_EN(self, on: bool) -> Self
-        ensures { result.0 ≡ withAt (partsOf "TOP_CFG1") "RAPID_STOP_EN" self.0 (codeOf on) }
+        ensures { result.0 ≡ with_at (parts_of "TOP_CFG1") "RAPID_STOP_EN" self.0 (code_of on) }
     {
         TOP_CFG1(with_flag(self.0, 1, on))
     }
 
     pub fn ACCELERATION_EN(self) -> bool
-        ensures { result ≡ isAt (partsOf "TOP_CFG1") "ACCELERATION_EN" self.0 }
+        ensures { result ≡ is_at (parts_of "TOP_CFG1") "ACCELERATION_EN" self.0 }
     {
         flag(self.0, 2)
     }
 
     pub fn with_ACCELERATION_EN(self, on: bool) -> Self
-        ensures { result.0 ≡ withAt (partsOf "TOP_CFG1") "ACCELERATION_EN" self.0 (codeOf on) }
+        ensures { result.0 ≡ with_at (parts_of "TOP_CFG1") "ACCELERATION_EN" self.0 (code_of on) }
     {
         TOP_CFG1(with_flag(self.0, 2, on))
     }
 
     pub fn FREQ_TRACK_EN(self) -> bool
-        ensures { result ≡ isAt (partsOf "TOP_CFG1") "FREQ_TRACK_EN" self.0 }
+        ensures { result ≡ is_at (parts_of "TOP_CFG1") "FREQ_TRACK_EN" self.0 }
     {
         flag(self.0, 3)
     }
 
     pub fn with_FREQ_TRACK_EN(self, on: bool) -> Self
-        ensures { result.0 ≡ withAt (partsOf "TOP_CFG1") "FREQ_TRACK_EN" self.0 (codeOf on) }
+        ensures { result.0 ≡ with_at (parts_of "TOP_CFG1") "FREQ_TRACK_EN" self.0 (code_of on) }
     {
         TOP_CFG1(with_flag(self.0, 3, on))
     }
 
     pub fn BEMF_SENSE_EN(self) -> bool
-        ensures { result ≡ isAt (partsOf "TOP_CFG1") "BEMF_SENSE_EN" self.0 }
+        ensures { result ≡ is_at (parts_of "TOP_CFG1") "BEMF_SENSE_EN" self.0 }
     {
         flag(self.0, 4)
     }
 
     pub fn with_BEMF_SENSE_EN(self, on: bool) -> Self
-        ensures { result.0 ≡ withAt (partsOf "TOP_CFG1") "BEMF_SENSE_EN" self.0 (codeOf on) }
+        ensures { result.0 ≡ with_at (parts_of "TOP_CFG1") "BEMF_SENSE_EN" self.0 (code_of on) }
     {
         TOP_CFG1(with_flag(self.0, 4, on))
     }
 
     pub fn ACTUATOR_TYPE(self) -> u8
-        ensures { result ≡ getAt (partsOf "TOP_CFG1") "ACTUATOR_TYPE" self.0 }
+        ensures { result ≡ get_at (parts_of "TOP_CFG1") "ACTUATOR_TYPE" self.0 }
     {
         get(self.0, 5, 1)
     }
 
     pub fn with_ACTUATOR_TYPE(self, value: u8) -> Self
-        ensures { result.0 ≡ withAt (partsOf "TOP_CFG1") "ACTUATOR_TYPE" self.0 value }
+        ensures { result.0 ≡ with_at (parts_of "TOP_CFG1") "ACTUATOR_TYPE" self.0 value }
     {
         TOP_CFG1(with(self.0, 5, 1, value))
     }
 
     // Whether faults are cleared when the chip enters IDLE.
     pub fn EMBEDDED_MODE(self) -> bool
-        ensures { result ≡ isAt (partsOf "TOP_CFG1") "EMBEDDED_MODE" self.0 }
+        ensures { result ≡ is_at (parts_of "TOP_CFG1") "EMBEDDED_MODE" self.0 }
     {
         flag(self.0, 7)
     }
 
     pub fn with_EMBEDDED_MODE(self, on: bool) -> Self
-        ensures { result.0 ≡ withAt (partsOf "TOP_CFG1") "EMBEDDED_MODE" self.0 (codeOf on) }
+        ensures { result.0 ≡ with_at (parts_of "TOP_CFG1") "EMBEDDED_MODE" self.0 (code_of on) }
     {
         TOP_CFG1(with_flag(self.0, 7, on))
     }
@@ -403,25 +403,25 @@ impl TOP_CFG2 {
     }
 
     pub fn FULL_BRAKE_THR(self) -> u8
-        ensures { result ≡ getAt (partsOf "TOP_CFG2") "FULL_BRAKE_THR" self.0 }
+        ensures { result ≡ get_at (parts_of "TOP_CFG2") "FULL_BRAKE_THR" self.0 }
     {
         get(self.0, 0, 4)
     }
 
     pub fn with_FULL_BRAKE_THR(self, value: u8) -> Self
-        ensures { result.0 ≡ withAt (partsOf "TOP_CFG2") "FULL_BRAKE_THR" self.0 value }
+        ensures { result.0 ≡ with_at (parts_of "TOP_CFG2") "FULL_BRAKE_THR" self.0 value }
     {
         TOP_CFG2(with(self.0, 0, 4, value))
     }
 
     pub fn MEM_DATA_SIGNED(self) -> bool
-        ensures { result ≡ isAt (partsOf "TOP_CFG2") "MEM_DATA_SIGNED" self.0 }
+        ensures { result ≡ is_at (parts_of "TOP_CFG2") "MEM_DATA_SIGNED" self.0 }
     {
         flag(self.0, TOP_CFG2::MEM_DATA_SIGNED_SHIFT)
     }
 
     pub fn with_MEM_DATA_SIGNED(self, on: bool) -> Self
-        ensures { result.0 ≡ withAt (partsOf "TOP_CFG2") "MEM_DATA_SIGNED" self.0 (codeOf on) }
+        ensures { result.0 ≡ with_at (parts_of "TOP_CFG2") "MEM_DATA_SIGNED" self.0 (code_of on) }
     {
         TOP_CFG2(with_flag(self.0, TOP_CFG2::MEM_DATA_SIGNED_SHIFT, on))
     }
@@ -451,25 +451,25 @@ impl TOP_CFG4 {
     }
 
     pub fn TST_CALIB_IMPEDANCE_DIS(self) -> bool
-        ensures { result ≡ isAt (partsOf "TOP_CFG4") "TST_CALIB_IMPEDANCE_DIS" self.0 }
+        ensures { result ≡ is_at (parts_of "TOP_CFG4") "TST_CALIB_IMPEDANCE_DIS" self.0 }
     {
         flag(self.0, 6)
     }
 
     pub fn with_TST_CALIB_IMPEDANCE_DIS(self, on: bool) -> Self
-        ensures { result.0 ≡ withAt (partsOf "TOP_CFG4") "TST_CALIB_IMPEDANCE_DIS" self.0 (codeOf on) }
+        ensures { result.0 ≡ with_at (parts_of "TOP_CFG4") "TST_CALIB_IMPEDANCE_DIS" self.0 (code_of on) }
     {
         TOP_CFG4(with_flag(self.0, 6, on))
     }
 
     pub fn V2I_FACTOR_FREEZE(self) -> bool
-        ensures { result ≡ isAt (partsOf "TOP_CFG4") "V2I_FACTOR_FREEZE" self.0 }
+        ensures { result ≡ is_at (parts_of "TOP_CFG4") "V2I_FACTOR_FREEZE" self.0 }
     {
         flag(self.0, 7)
     }
 
     pub fn with_V2I_FACTOR_FREEZE(self, on: bool) -> Self
-        ensures { result.0 ≡ withAt (partsOf "TOP_CFG4") "V2I_FACTOR_FREEZE" self.0 (codeOf on) }
+        ensures { result.0 ≡ with_at (parts_of "TOP_CFG4") "V2I_FACTOR_FREEZE" self.0 (code_of on) }
     {
         TOP_CFG4(with_flag(self.0, 7, on))
     }
@@ -514,7 +514,7 @@ pub fn fields(byte: u8) -> [u8; 18]
 // For each field that is not read-only, in the same order, what its register holds once the field is replaced by `value` in
 // `byte`; a flag is set where `value` is odd.
 pub fn replaced(byte: u8, value: u8) -> [u8; 18]
-    ensures { result ≡ replacements readOnly actuator byte value }
+    ensures { result ≡ replacements read_only actuator byte value }
 {
     let on = flag(value, 0);
     let frq_lra_per_h = FRQ_LRA_PER_H::from(byte);

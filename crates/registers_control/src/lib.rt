@@ -7,9 +7,9 @@
 #![tactic(auto)]
 
 ghost use Rattle.std.specs.Prelude.{◌≡◌};
-ghost use Rattle.field.specs.Field.{codeOf};
-ghost use Rattle.field.specs.Layout.{getAt, isAt, withAt, readings, replacements};
-ghost use Rattle.registers.specs.Table.{control, readOnly, partsOf};
+ghost use Rattle.field.specs.Field.{code_of};
+ghost use Rattle.field.specs.Layout.{get_at, is_at, with_at, readings, replacements};
+ghost use Rattle.registers.specs.Table.{control, read_only, parts_of};
 
 use field::{flag, get, with, with_flag};
 
@@ -37,25 +37,25 @@ impl TOP_INT_CFG1 {
     }
 
     pub fn BEMF_FAULT_LIM(self) -> u8
-        ensures { result ≡ getAt (partsOf "TOP_INT_CFG1") "BEMF_FAULT_LIM" self.0 }
+        ensures { result ≡ get_at (parts_of "TOP_INT_CFG1") "BEMF_FAULT_LIM" self.0 }
     {
         get(self.0, 0, 2)
     }
 
     pub fn with_BEMF_FAULT_LIM(self, value: u8) -> Self
-        ensures { result.0 ≡ withAt (partsOf "TOP_INT_CFG1") "BEMF_FAULT_LIM" self.0 value }
+        ensures { result.0 ≡ with_at (parts_of "TOP_INT_CFG1") "BEMF_FAULT_LIM" self.0 value }
     {
         TOP_INT_CFG1(with(self.0, 0, 2, value))
     }
 
     pub fn FRQ_LOCKED_LIM(self) -> u8
-        ensures { result ≡ getAt (partsOf "TOP_INT_CFG1") "FRQ_LOCKED_LIM" self.0 }
+        ensures { result ≡ get_at (parts_of "TOP_INT_CFG1") "FRQ_LOCKED_LIM" self.0 }
     {
         get(self.0, 2, 6)
     }
 
     pub fn with_FRQ_LOCKED_LIM(self, value: u8) -> Self
-        ensures { result.0 ≡ withAt (partsOf "TOP_INT_CFG1") "FRQ_LOCKED_LIM" self.0 value }
+        ensures { result.0 ≡ with_at (parts_of "TOP_INT_CFG1") "FRQ_LOCKED_LIM" self.0 value }
     {
         TOP_INT_CFG1(with(self.0, 2, 6, value))
     }
@@ -85,13 +85,13 @@ impl TOP_INT_CFG6_H {
     }
 
     pub fn FRQ_PID_Kp_H(self) -> u8
-        ensures { result ≡ getAt (partsOf "TOP_INT_CFG6_H") "FRQ_PID_Kp_H" self.0 }
+        ensures { result ≡ get_at (parts_of "TOP_INT_CFG6_H") "FRQ_PID_Kp_H" self.0 }
     {
         get(self.0, 0, 8)
     }
 
     pub fn with_FRQ_PID_Kp_H(self, value: u8) -> Self
-        ensures { result.0 ≡ withAt (partsOf "TOP_INT_CFG6_H") "FRQ_PID_Kp_H" self.0 value }
+        ensures { result.0 ≡ with_at (parts_of "TOP_INT_CFG6_H") "FRQ_PID_Kp_H" self.0 value }
     {
         TOP_INT_CFG6_H(with(self.0, 0, 8, value))
     }
@@ -121,13 +121,13 @@ impl TOP_INT_CFG6_L {
     }
 
     pub fn FRQ_PID_Kp_L(self) -> u8
-        ensures { result ≡ getAt (partsOf "TOP_INT_CFG6_L") "FRQ_PID_Kp_L" self.0 }
+        ensures { result ≡ get_at (parts_of "TOP_INT_CFG6_L") "FRQ_PID_Kp_L" self.0 }
     {
         get(self.0, 0, 8)
     }
 
     pub fn with_FRQ_PID_Kp_L(self, value: u8) -> Self
-        ensures { result.0 ≡ withAt (partsOf "TOP_INT_CFG6_L") "FRQ_PID_Kp_L" self.0 value }
+        ensures { result.0 ≡ with_at (parts_of "TOP_INT_CFG6_L") "FRQ_PID_Kp_L" self.0 value }
     {
         TOP_INT_CFG6_L(with(self.0, 0, 8, value))
     }
@@ -157,13 +157,13 @@ impl TOP_INT_CFG7_H {
     }
 
     pub fn FRQ_PID_Ki_H(self) -> u8
-        ensures { result ≡ getAt (partsOf "TOP_INT_CFG7_H") "FRQ_PID_Ki_H" self.0 }
+        ensures { result ≡ get_at (parts_of "TOP_INT_CFG7_H") "FRQ_PID_Ki_H" self.0 }
     {
         get(self.0, 0, 8)
     }
 
     pub fn with_FRQ_PID_Ki_H(self, value: u8) -> Self
-        ensures { result.0 ≡ withAt (partsOf "TOP_INT_CFG7_H") "FRQ_PID_Ki_H" self.0 value }
+        ensures { result.0 ≡ with_at (parts_of "TOP_INT_CFG7_H") "FRQ_PID_Ki_H" self.0 value }
     {
         TOP_INT_CFG7_H(with(self.0, 0, 8, value))
     }
@@ -193,13 +193,13 @@ impl TOP_INT_CFG7_L {
     }
 
     pub fn FRQ_PID_Ki_L(self) -> u8
-        ensures { result ≡ getAt (partsOf "TOP_INT_CFG7_L") "FRQ_PID_Ki_L" self.0 }
+        ensures { result ≡ get_at (parts_of "TOP_INT_CFG7_L") "FRQ_PID_Ki_L" self.0 }
     {
         get(self.0, 0, 8)
     }
 
     pub fn with_FRQ_PID_Ki_L(self, value: u8) -> Self
-        ensures { result.0 ≡ withAt (partsOf "TOP_INT_CFG7_L") "FRQ_PID_Ki_L" self.0 value }
+        ensures { result.0 ≡ with_at (parts_of "TOP_INT_CFG7_L") "FRQ_PID_Ki_L" self.0 value }
     {
         TOP_INT_CFG7_L(with(self.0, 0, 8, value))
     }
@@ -234,19 +234,19 @@ impl TOP_INT_CFG8 {
     }
 
     pub fn FRQ_TRACK_BEMF_LIM(self) -> u8
-        ensures { result ≡ getAt (partsOf "TOP_INT_CFG8") "FRQ_TRACK_BEMF_LIM" self.0 }
+        ensures { result ≡ get_at (parts_of "TOP_INT_CFG8") "FRQ_TRACK_BEMF_LIM" self.0 }
     {
         get(self.0, 0, 4)
     }
 
     pub fn with_FRQ_TRACK_BEMF_LIM(self, value: u8) -> Self
-        ensures { result.0 ≡ withAt (partsOf "TOP_INT_CFG8") "FRQ_TRACK_BEMF_LIM" self.0 value }
+        ensures { result.0 ≡ with_at (parts_of "TOP_INT_CFG8") "FRQ_TRACK_BEMF_LIM" self.0 value }
     {
         TOP_INT_CFG8(with(self.0, 0, 4, value))
     }
 
     pub fn RAPID_STOP_LIM(self) -> u8
-        ensures { result ≡ getAt (partsOf "TOP_INT_CFG8") "RAPID_STOP_LIM" self.0 }
+        ensures { result ≡ get_at (parts_of "TOP_INT_CFG8") "RAPID_STOP_LIM" self.0 }
     {
         get(
             self.0,
@@ -256,7 +256,7 @@ impl TOP_INT_CFG8 {
     }
 
     pub fn with_RAPID_STOP_LIM(self, value: u8) -> Self
-        ensures { result.0 ≡ withAt (partsOf "TOP_INT_CFG8") "RAPID_STOP_LIM" self.0 value }
+        ensures { result.0 ≡ with_at (parts_of "TOP_INT_CFG8") "RAPID_STOP_LIM" self.0 value }
     {
         TOP_INT_CFG8(with(
             self.0,
@@ -300,7 +300,7 @@ impl TOP_CTL1 {
     }
 
     pub fn OPERATION_MODE(self) -> u8
-        ensures { result ≡ getAt (partsOf "TOP_CTL1") "OPERATION_MODE" self.0 }
+        ensures { result ≡ get_at (parts_of "TOP_CTL1") "OPERATION_MODE" self.0 }
     {
         get(
             self.0,
@@ -310,7 +310,7 @@ impl TOP_CTL1 {
     }
 
     pub fn with_OPERATION_MODE(self, value: u8) -> Self
-        ensures { result.0 ≡ withAt (partsOf "TOP_CTL1") "OPERATION_MODE" self.0 value }
+        ensures { result.0 ≡ with_at (parts_of "TOP_CTL1") "OPERATION_MODE" self.0 value }
     {
         TOP_CTL1(with(
             self.0,
@@ -321,25 +321,25 @@ impl TOP_CTL1 {
     }
 
     pub fn STANDBY_EN(self) -> bool
-        ensures { result ≡ isAt (partsOf "TOP_CTL1") "STANDBY_EN" self.0 }
+        ensures { result ≡ is_at (parts_of "TOP_CTL1") "STANDBY_EN" self.0 }
     {
         flag(self.0, 3)
     }
 
     pub fn with_STANDBY_EN(self, on: bool) -> Self
-        ensures { result.0 ≡ withAt (partsOf "TOP_CTL1") "STANDBY_EN" self.0 (codeOf on) }
+        ensures { result.0 ≡ with_at (parts_of "TOP_CTL1") "STANDBY_EN" self.0 (code_of on) }
     {
         TOP_CTL1(with_flag(self.0, 3, on))
     }
 
     pub fn SEQ_START(self) -> bool
-        ensures { result ≡ isAt (partsOf "TOP_CTL1") "SEQ_START" self.0 }
+        ensures { result ≡ is_at (parts_of "TOP_CTL1") "SEQ_START" self.0 }
     {
         flag(self.0, TOP_CTL1::SEQ_START_SHIFT)
     }
 
     pub fn with_SEQ_START(self, on: bool) -> Self
-        ensures { result.0 ≡ withAt (partsOf "TOP_CTL1") "SEQ_START" self.0 (codeOf on) }
+        ensures { result.0 ≡ with_at (parts_of "TOP_CTL1") "SEQ_START" self.0 (code_of on) }
     {
         TOP_CTL1(with_flag(self.0, TOP_CTL1::SEQ_START_SHIFT, on))
     }
@@ -369,13 +369,13 @@ impl TOP_CTL2 {
     }
 
     pub fn OVERRIDE_VAL(self) -> u8
-        ensures { result ≡ getAt (partsOf "TOP_CTL2") "OVERRIDE_VAL" self.0 }
+        ensures { result ≡ get_at (parts_of "TOP_CTL2") "OVERRIDE_VAL" self.0 }
     {
         get(self.0, 0, 8)
     }
 
     pub fn with_OVERRIDE_VAL(self, value: u8) -> Self
-        ensures { result.0 ≡ withAt (partsOf "TOP_CTL2") "OVERRIDE_VAL" self.0 value }
+        ensures { result.0 ≡ with_at (parts_of "TOP_CTL2") "OVERRIDE_VAL" self.0 value }
     {
         TOP_CTL2(with(self.0, 0, 8, value))
     }
@@ -410,31 +410,31 @@ impl SEQ_CTL1 {
     }
 
     pub fn SEQ_CONTINUE(self) -> bool
-        ensures { result ≡ isAt (partsOf "SEQ_CTL1") "SEQ_CONTINUE" self.0 }
+        ensures { result ≡ is_at (parts_of "SEQ_CTL1") "SEQ_CONTINUE" self.0 }
     {
         flag(self.0, 0)
     }
 
     pub fn with_SEQ_CONTINUE(self, on: bool) -> Self
-        ensures { result.0 ≡ withAt (partsOf "SEQ_CTL1") "SEQ_CONTINUE" self.0 (codeOf on) }
+        ensures { result.0 ≡ with_at (parts_of "SEQ_CTL1") "SEQ_CONTINUE" self.0 (code_of on) }
     {
         SEQ_CTL1(with_flag(self.0, 0, on))
     }
 
     pub fn WAVEGEN_MODE(self) -> bool
-        ensures { result ≡ isAt (partsOf "SEQ_CTL1") "WAVEGEN_MODE" self.0 }
+        ensures { result ≡ is_at (parts_of "SEQ_CTL1") "WAVEGEN_MODE" self.0 }
     {
         flag(self.0, 1)
     }
 
     pub fn with_WAVEGEN_MODE(self, on: bool) -> Self
-        ensures { result.0 ≡ withAt (partsOf "SEQ_CTL1") "WAVEGEN_MODE" self.0 (codeOf on) }
+        ensures { result.0 ≡ with_at (parts_of "SEQ_CTL1") "WAVEGEN_MODE" self.0 (code_of on) }
     {
         SEQ_CTL1(with_flag(self.0, 1, on))
     }
 
     pub fn FREQ_WAVEFORM_TIMEBASE(self) -> u8
-        ensures { result ≡ getAt (partsOf "SEQ_CTL1") "FREQ_WAVEFORM_TIMEBASE" self.0 }
+        ensures { result ≡ get_at (parts_of "SEQ_CTL1") "FREQ_WAVEFORM_TIMEBASE" self.0 }
     {
         get(
             self.0,
@@ -444,7 +444,7 @@ impl SEQ_CTL1 {
     }
 
     pub fn with_FREQ_WAVEFORM_TIMEBASE(self, value: u8) -> Self
-        ensures { result.0 ≡ withAt (partsOf "SEQ_CTL1") "FREQ_WAVEFORM_TIMEBASE" self.0 value }
+        ensures { result.0 ≡ with_at (parts_of "SEQ_CTL1") "FREQ_WAVEFORM_TIMEBASE" self.0 value }
     {
         SEQ_CTL1(with(
             self.0,
@@ -479,13 +479,13 @@ impl SWG_C1 {
     }
 
     pub fn CUSTOM_WAVE_GEN_COEFF1(self) -> u8
-        ensures { result ≡ getAt (partsOf "SWG_C1") "CUSTOM_WAVE_GEN_COEFF1" self.0 }
+        ensures { result ≡ get_at (parts_of "SWG_C1") "CUSTOM_WAVE_GEN_COEFF1" self.0 }
     {
         get(self.0, 0, 8)
     }
 
     pub fn with_CUSTOM_WAVE_GEN_COEFF1(self, value: u8) -> Self
-        ensures { result.0 ≡ withAt (partsOf "SWG_C1") "CUSTOM_WAVE_GEN_COEFF1" self.0 value }
+        ensures { result.0 ≡ with_at (parts_of "SWG_C1") "CUSTOM_WAVE_GEN_COEFF1" self.0 value }
     {
         SWG_C1(with(self.0, 0, 8, value))
     }
@@ -515,13 +515,13 @@ impl SWG_C2 {
     }
 
     pub fn CUSTOM_WAVE_GEN_COEFF2(self) -> u8
-        ensures { result ≡ getAt (partsOf "SWG_C2") "CUSTOM_WAVE_GEN_COEFF2" self.0 }
+        ensures { result ≡ get_at (parts_of "SWG_C2") "CUSTOM_WAVE_GEN_COEFF2" self.0 }
     {
         get(self.0, 0, 8)
     }
 
     pub fn with_CUSTOM_WAVE_GEN_COEFF2(self, value: u8) -> Self
-        ensures { result.0 ≡ withAt (partsOf "SWG_C2") "CUSTOM_WAVE_GEN_COEFF2" self.0 value }
+        ensures { result.0 ≡ with_at (parts_of "SWG_C2") "CUSTOM_WAVE_GEN_COEFF2" self.0 value }
     {
         SWG_C2(with(self.0, 0, 8, value))
     }
@@ -551,13 +551,13 @@ impl SWG_C3 {
     }
 
     pub fn CUSTOM_WAVE_GEN_COEFF3(self) -> u8
-        ensures { result ≡ getAt (partsOf "SWG_C3") "CUSTOM_WAVE_GEN_COEFF3" self.0 }
+        ensures { result ≡ get_at (parts_of "SWG_C3") "CUSTOM_WAVE_GEN_COEFF3" self.0 }
     {
         get(self.0, 0, 8)
     }
 
     pub fn with_CUSTOM_WAVE_GEN_COEFF3(self, value: u8) -> Self
-        ensures { result.0 ≡ withAt (partsOf "SWG_C3") "CUSTOM_WAVE_GEN_COEFF3" self.0 value }
+        ensures { result.0 ≡ with_at (parts_of "SWG_C3") "CUSTOM_WAVE_GEN_COEFF3" self.0 value }
     {
         SWG_C3(with(self.0, 0, 8, value))
     }
@@ -604,7 +604,7 @@ pub fn fields(byte: u8) -> [u8; 18]
 // For each field that is not read-only, in the same order, what its register holds once the field is replaced by `value` in
 // `byte`; a flag is set where `value` is odd.
 pub fn replaced(byte: u8, value: u8) -> [u8; 18]
-    ensures { result ≡ replacements readOnly control byte value }
+    ensures { result ≡ replacements read_only control byte value }
 {
     let on = flag(value, 0);
     let top_int_cfg1 = TOP_INT_CFG1::from(byte);

@@ -8,9 +8,9 @@
 #![tactic(auto)]
 
 ghost use Rattle.std.specs.Prelude.{◌≡◌};
-ghost use Rattle.field.specs.Field.{codeOf};
-ghost use Rattle.field.specs.Layout.{getAt, isAt, withAt, readings, replacements};
-ghost use Rattle.registers.specs.Table.{interrupts, readOnly, partsOf};
+ghost use Rattle.field.specs.Field.{code_of};
+ghost use Rattle.field.specs.Layout.{get_at, is_at, with_at, readings, replacements};
+ghost use Rattle.registers.specs.Table.{interrupts, read_only, parts_of};
 
 use field::{flag, get, with_flag};
 
@@ -38,13 +38,13 @@ impl CHIP_REV {
     }
 
     pub fn CHIP_REV_MAJOR(self) -> u8
-        ensures { result ≡ getAt (partsOf "CHIP_REV") "CHIP_REV_MAJOR" self.0 }
+        ensures { result ≡ get_at (parts_of "CHIP_REV") "CHIP_REV_MAJOR" self.0 }
     {
         get(self.0, 0, 4)
     }
 
     pub fn CHIP_REV_MINOR(self) -> u8
-        ensures { result ≡ getAt (partsOf "CHIP_REV") "CHIP_REV_MINOR" self.0 }
+        ensures { result ≡ get_at (parts_of "CHIP_REV") "CHIP_REV_MINOR" self.0 }
     {
         get(self.0, 4, 4)
     }
@@ -74,97 +74,97 @@ impl IRQ_EVENT1 {
     }
 
     pub fn E_SEQ_CONTINUE(self) -> bool
-        ensures { result ≡ isAt (partsOf "IRQ_EVENT1") "E_SEQ_CONTINUE" self.0 }
+        ensures { result ≡ is_at (parts_of "IRQ_EVENT1") "E_SEQ_CONTINUE" self.0 }
     {
         flag(self.0, 0)
     }
 
     pub fn with_E_SEQ_CONTINUE(self, on: bool) -> Self
-        ensures { result.0 ≡ withAt (partsOf "IRQ_EVENT1") "E_SEQ_CONTINUE" self.0 (codeOf on) }
+        ensures { result.0 ≡ with_at (parts_of "IRQ_EVENT1") "E_SEQ_CONTINUE" self.0 (code_of on) }
     {
         IRQ_EVENT1(with_flag(self.0, 0, on))
     }
 
     pub fn E_UVLO(self) -> bool
-        ensures { result ≡ isAt (partsOf "IRQ_EVENT1") "E_UVLO" self.0 }
+        ensures { result ≡ is_at (parts_of "IRQ_EVENT1") "E_UVLO" self.0 }
     {
         flag(self.0, 1)
     }
 
     pub fn with_E_UVLO(self, on: bool) -> Self
-        ensures { result.0 ≡ withAt (partsOf "IRQ_EVENT1") "E_UVLO" self.0 (codeOf on) }
+        ensures { result.0 ≡ with_at (parts_of "IRQ_EVENT1") "E_UVLO" self.0 (code_of on) }
     {
         IRQ_EVENT1(with_flag(self.0, 1, on))
     }
 
     pub fn E_SEQ_DONE(self) -> bool
-        ensures { result ≡ isAt (partsOf "IRQ_EVENT1") "E_SEQ_DONE" self.0 }
+        ensures { result ≡ is_at (parts_of "IRQ_EVENT1") "E_SEQ_DONE" self.0 }
     {
         flag(self.0, 2)
     }
 
     pub fn with_E_SEQ_DONE(self, on: bool) -> Self
-        ensures { result.0 ≡ withAt (partsOf "IRQ_EVENT1") "E_SEQ_DONE" self.0 (codeOf on) }
+        ensures { result.0 ≡ with_at (parts_of "IRQ_EVENT1") "E_SEQ_DONE" self.0 (code_of on) }
     {
         IRQ_EVENT1(with_flag(self.0, 2, on))
     }
 
     pub fn E_OVERTEMP_CRIT(self) -> bool
-        ensures { result ≡ isAt (partsOf "IRQ_EVENT1") "E_OVERTEMP_CRIT" self.0 }
+        ensures { result ≡ is_at (parts_of "IRQ_EVENT1") "E_OVERTEMP_CRIT" self.0 }
     {
         flag(self.0, 3)
     }
 
     pub fn with_E_OVERTEMP_CRIT(self, on: bool) -> Self
-        ensures { result.0 ≡ withAt (partsOf "IRQ_EVENT1") "E_OVERTEMP_CRIT" self.0 (codeOf on) }
+        ensures { result.0 ≡ with_at (parts_of "IRQ_EVENT1") "E_OVERTEMP_CRIT" self.0 (code_of on) }
     {
         IRQ_EVENT1(with_flag(self.0, 3, on))
     }
 
     pub fn E_SEQ_FAULT(self) -> bool
-        ensures { result ≡ isAt (partsOf "IRQ_EVENT1") "E_SEQ_FAULT" self.0 }
+        ensures { result ≡ is_at (parts_of "IRQ_EVENT1") "E_SEQ_FAULT" self.0 }
     {
         flag(self.0, 4)
     }
 
     pub fn with_E_SEQ_FAULT(self, on: bool) -> Self
-        ensures { result.0 ≡ withAt (partsOf "IRQ_EVENT1") "E_SEQ_FAULT" self.0 (codeOf on) }
+        ensures { result.0 ≡ with_at (parts_of "IRQ_EVENT1") "E_SEQ_FAULT" self.0 (code_of on) }
     {
         IRQ_EVENT1(with_flag(self.0, 4, on))
     }
 
     pub fn E_WARNING(self) -> bool
-        ensures { result ≡ isAt (partsOf "IRQ_EVENT1") "E_WARNING" self.0 }
+        ensures { result ≡ is_at (parts_of "IRQ_EVENT1") "E_WARNING" self.0 }
     {
         flag(self.0, 5)
     }
 
     pub fn with_E_WARNING(self, on: bool) -> Self
-        ensures { result.0 ≡ withAt (partsOf "IRQ_EVENT1") "E_WARNING" self.0 (codeOf on) }
+        ensures { result.0 ≡ with_at (parts_of "IRQ_EVENT1") "E_WARNING" self.0 (code_of on) }
     {
         IRQ_EVENT1(with_flag(self.0, 5, on))
     }
 
     pub fn E_ACTUATOR_FAULT(self) -> bool
-        ensures { result ≡ isAt (partsOf "IRQ_EVENT1") "E_ACTUATOR_FAULT" self.0 }
+        ensures { result ≡ is_at (parts_of "IRQ_EVENT1") "E_ACTUATOR_FAULT" self.0 }
     {
         flag(self.0, 6)
     }
 
     pub fn with_E_ACTUATOR_FAULT(self, on: bool) -> Self
-        ensures { result.0 ≡ withAt (partsOf "IRQ_EVENT1") "E_ACTUATOR_FAULT" self.0 (codeOf on) }
+        ensures { result.0 ≡ with_at (parts_of "IRQ_EVENT1") "E_ACTUATOR_FAULT" self.0 (code_of on) }
     {
         IRQ_EVENT1(with_flag(self.0, 6, on))
     }
 
     pub fn E_OC_FAULT(self) -> bool
-        ensures { result ≡ isAt (partsOf "IRQ_EVENT1") "E_OC_FAULT" self.0 }
+        ensures { result ≡ is_at (parts_of "IRQ_EVENT1") "E_OC_FAULT" self.0 }
     {
         flag(self.0, 7)
     }
 
     pub fn with_E_OC_FAULT(self, on: bool) -> Self
-        ensures { result.0 ≡ withAt (partsOf "IRQ_EVENT1") "E_OC_FAULT" self.0 (codeOf on) }
+        ensures { result.0 ≡ with_at (parts_of "IRQ_EVENT1") "E_OC_FAULT" self.0 (code_of on) }
     {
         IRQ_EVENT1(with_flag(self.0, 7, on))
     }
@@ -194,49 +194,49 @@ impl IRQ_EVENT_WARNING_DIAG {
     }
 
     pub fn E_OVERTEMP_WARN(self) -> bool
-        ensures { result ≡ isAt (partsOf "IRQ_EVENT_WARNING_DIAG") "E_OVERTEMP_WARN" self.0 }
+        ensures { result ≡ is_at (parts_of "IRQ_EVENT_WARNING_DIAG") "E_OVERTEMP_WARN" self.0 }
     {
         flag(self.0, 3)
     }
 
     pub fn with_E_OVERTEMP_WARN(self, on: bool) -> Self
-        ensures { result.0 ≡ withAt (partsOf "IRQ_EVENT_WARNING_DIAG") "E_OVERTEMP_WARN" self.0 (codeOf on) }
+        ensures { result.0 ≡ with_at (parts_of "IRQ_EVENT_WARNING_DIAG") "E_OVERTEMP_WARN" self.0 (code_of on) }
     {
         IRQ_EVENT_WARNING_DIAG(with_flag(self.0, 3, on))
     }
 
     pub fn E_MEM_TYPE(self) -> bool
-        ensures { result ≡ isAt (partsOf "IRQ_EVENT_WARNING_DIAG") "E_MEM_TYPE" self.0 }
+        ensures { result ≡ is_at (parts_of "IRQ_EVENT_WARNING_DIAG") "E_MEM_TYPE" self.0 }
     {
         flag(self.0, 4)
     }
 
     pub fn with_E_MEM_TYPE(self, on: bool) -> Self
-        ensures { result.0 ≡ withAt (partsOf "IRQ_EVENT_WARNING_DIAG") "E_MEM_TYPE" self.0 (codeOf on) }
+        ensures { result.0 ≡ with_at (parts_of "IRQ_EVENT_WARNING_DIAG") "E_MEM_TYPE" self.0 (code_of on) }
     {
         IRQ_EVENT_WARNING_DIAG(with_flag(self.0, 4, on))
     }
 
     pub fn E_LIM_DRIVE_ACC(self) -> bool
-        ensures { result ≡ isAt (partsOf "IRQ_EVENT_WARNING_DIAG") "E_LIM_DRIVE_ACC" self.0 }
+        ensures { result ≡ is_at (parts_of "IRQ_EVENT_WARNING_DIAG") "E_LIM_DRIVE_ACC" self.0 }
     {
         flag(self.0, 6)
     }
 
     pub fn with_E_LIM_DRIVE_ACC(self, on: bool) -> Self
-        ensures { result.0 ≡ withAt (partsOf "IRQ_EVENT_WARNING_DIAG") "E_LIM_DRIVE_ACC" self.0 (codeOf on) }
+        ensures { result.0 ≡ with_at (parts_of "IRQ_EVENT_WARNING_DIAG") "E_LIM_DRIVE_ACC" self.0 (code_of on) }
     {
         IRQ_EVENT_WARNING_DIAG(with_flag(self.0, 6, on))
     }
 
     pub fn E_LIM_DRIVE(self) -> bool
-        ensures { result ≡ isAt (partsOf "IRQ_EVENT_WARNING_DIAG") "E_LIM_DRIVE" self.0 }
+        ensures { result ≡ is_at (parts_of "IRQ_EVENT_WARNING_DIAG") "E_LIM_DRIVE" self.0 }
     {
         flag(self.0, 7)
     }
 
     pub fn with_E_LIM_DRIVE(self, on: bool) -> Self
-        ensures { result.0 ≡ withAt (partsOf "IRQ_EVENT_WARNING_DIAG") "E_LIM_DRIVE" self.0 (codeOf on) }
+        ensures { result.0 ≡ with_at (parts_of "IRQ_EVENT_WARNING_DIAG") "E_LIM_DRIVE" self.0 (code_of on) }
     {
         IRQ_EVENT_WARNING_DIAG(with_flag(self.0, 7, on))
     }
@@ -266,37 +266,37 @@ impl IRQ_EVENT_SEQ_DIAG {
     }
 
     pub fn E_PWM_FAULT(self) -> bool
-        ensures { result ≡ isAt (partsOf "IRQ_EVENT_SEQ_DIAG") "E_PWM_FAULT" self.0 }
+        ensures { result ≡ is_at (parts_of "IRQ_EVENT_SEQ_DIAG") "E_PWM_FAULT" self.0 }
     {
         flag(self.0, 5)
     }
 
     pub fn with_E_PWM_FAULT(self, on: bool) -> Self
-        ensures { result.0 ≡ withAt (partsOf "IRQ_EVENT_SEQ_DIAG") "E_PWM_FAULT" self.0 (codeOf on) }
+        ensures { result.0 ≡ with_at (parts_of "IRQ_EVENT_SEQ_DIAG") "E_PWM_FAULT" self.0 (code_of on) }
     {
         IRQ_EVENT_SEQ_DIAG(with_flag(self.0, 5, on))
     }
 
     pub fn E_MEM_FAULT(self) -> bool
-        ensures { result ≡ isAt (partsOf "IRQ_EVENT_SEQ_DIAG") "E_MEM_FAULT" self.0 }
+        ensures { result ≡ is_at (parts_of "IRQ_EVENT_SEQ_DIAG") "E_MEM_FAULT" self.0 }
     {
         flag(self.0, 6)
     }
 
     pub fn with_E_MEM_FAULT(self, on: bool) -> Self
-        ensures { result.0 ≡ withAt (partsOf "IRQ_EVENT_SEQ_DIAG") "E_MEM_FAULT" self.0 (codeOf on) }
+        ensures { result.0 ≡ with_at (parts_of "IRQ_EVENT_SEQ_DIAG") "E_MEM_FAULT" self.0 (code_of on) }
     {
         IRQ_EVENT_SEQ_DIAG(with_flag(self.0, 6, on))
     }
 
     pub fn E_SEQ_ID_FAULT(self) -> bool
-        ensures { result ≡ isAt (partsOf "IRQ_EVENT_SEQ_DIAG") "E_SEQ_ID_FAULT" self.0 }
+        ensures { result ≡ is_at (parts_of "IRQ_EVENT_SEQ_DIAG") "E_SEQ_ID_FAULT" self.0 }
     {
         flag(self.0, 7)
     }
 
     pub fn with_E_SEQ_ID_FAULT(self, on: bool) -> Self
-        ensures { result.0 ≡ withAt (partsOf "IRQ_EVENT_SEQ_DIAG") "E_SEQ_ID_FAULT" self.0 (codeOf on) }
+        ensures { result.0 ≡ with_at (parts_of "IRQ_EVENT_SEQ_DIAG") "E_SEQ_ID_FAULT" self.0 (code_of on) }
     {
         IRQ_EVENT_SEQ_DIAG(with_flag(self.0, 7, on))
     }
@@ -326,97 +326,97 @@ impl IRQ_STATUS1 {
     }
 
     pub fn STA_SEQ_CONTINUE(self) -> bool
-        ensures { result ≡ isAt (partsOf "IRQ_STATUS1") "STA_SEQ_CONTINUE" self.0 }
+        ensures { result ≡ is_at (parts_of "IRQ_STATUS1") "STA_SEQ_CONTINUE" self.0 }
     {
         flag(self.0, 0)
     }
 
     pub fn with_STA_SEQ_CONTINUE(self, on: bool) -> Self
-        ensures { result.0 ≡ withAt (partsOf "IRQ_STATUS1") "STA_SEQ_CONTINUE" self.0 (codeOf on) }
+        ensures { result.0 ≡ with_at (parts_of "IRQ_STATUS1") "STA_SEQ_CONTINUE" self.0 (code_of on) }
     {
         IRQ_STATUS1(with_flag(self.0, 0, on))
     }
 
     pub fn STA_UVLO_VBAT_OK(self) -> bool
-        ensures { result ≡ isAt (partsOf "IRQ_STATUS1") "STA_UVLO_VBAT_OK" self.0 }
+        ensures { result ≡ is_at (parts_of "IRQ_STATUS1") "STA_UVLO_VBAT_OK" self.0 }
     {
         flag(self.0, 1)
     }
 
     pub fn with_STA_UVLO_VBAT_OK(self, on: bool) -> Self
-        ensures { result.0 ≡ withAt (partsOf "IRQ_STATUS1") "STA_UVLO_VBAT_OK" self.0 (codeOf on) }
+        ensures { result.0 ≡ with_at (parts_of "IRQ_STATUS1") "STA_UVLO_VBAT_OK" self.0 (code_of on) }
     {
         IRQ_STATUS1(with_flag(self.0, 1, on))
     }
 
     pub fn STA_SEQ_DONE(self) -> bool
-        ensures { result ≡ isAt (partsOf "IRQ_STATUS1") "STA_SEQ_DONE" self.0 }
+        ensures { result ≡ is_at (parts_of "IRQ_STATUS1") "STA_SEQ_DONE" self.0 }
     {
         flag(self.0, 2)
     }
 
     pub fn with_STA_SEQ_DONE(self, on: bool) -> Self
-        ensures { result.0 ≡ withAt (partsOf "IRQ_STATUS1") "STA_SEQ_DONE" self.0 (codeOf on) }
+        ensures { result.0 ≡ with_at (parts_of "IRQ_STATUS1") "STA_SEQ_DONE" self.0 (code_of on) }
     {
         IRQ_STATUS1(with_flag(self.0, 2, on))
     }
 
     pub fn STA_OVERTEMP_CRIT(self) -> bool
-        ensures { result ≡ isAt (partsOf "IRQ_STATUS1") "STA_OVERTEMP_CRIT" self.0 }
+        ensures { result ≡ is_at (parts_of "IRQ_STATUS1") "STA_OVERTEMP_CRIT" self.0 }
     {
         flag(self.0, 3)
     }
 
     pub fn with_STA_OVERTEMP_CRIT(self, on: bool) -> Self
-        ensures { result.0 ≡ withAt (partsOf "IRQ_STATUS1") "STA_OVERTEMP_CRIT" self.0 (codeOf on) }
+        ensures { result.0 ≡ with_at (parts_of "IRQ_STATUS1") "STA_OVERTEMP_CRIT" self.0 (code_of on) }
     {
         IRQ_STATUS1(with_flag(self.0, 3, on))
     }
 
     pub fn STA_SEQ_FAULT(self) -> bool
-        ensures { result ≡ isAt (partsOf "IRQ_STATUS1") "STA_SEQ_FAULT" self.0 }
+        ensures { result ≡ is_at (parts_of "IRQ_STATUS1") "STA_SEQ_FAULT" self.0 }
     {
         flag(self.0, 4)
     }
 
     pub fn with_STA_SEQ_FAULT(self, on: bool) -> Self
-        ensures { result.0 ≡ withAt (partsOf "IRQ_STATUS1") "STA_SEQ_FAULT" self.0 (codeOf on) }
+        ensures { result.0 ≡ with_at (parts_of "IRQ_STATUS1") "STA_SEQ_FAULT" self.0 (code_of on) }
     {
         IRQ_STATUS1(with_flag(self.0, 4, on))
     }
 
     pub fn STA_WARNING(self) -> bool
-        ensures { result ≡ isAt (partsOf "IRQ_STATUS1") "STA_WARNING" self.0 }
+        ensures { result ≡ is_at (parts_of "IRQ_STATUS1") "STA_WARNING" self.0 }
     {
         flag(self.0, 5)
     }
 
     pub fn with_STA_WARNING(self, on: bool) -> Self
-        ensures { result.0 ≡ withAt (partsOf "IRQ_STATUS1") "STA_WARNING" self.0 (codeOf on) }
+        ensures { result.0 ≡ with_at (parts_of "IRQ_STATUS1") "STA_WARNING" self.0 (code_of on) }
     {
         IRQ_STATUS1(with_flag(self.0, 5, on))
     }
 
     pub fn STA_ACTUATOR(self) -> bool
-        ensures { result ≡ isAt (partsOf "IRQ_STATUS1") "STA_ACTUATOR" self.0 }
+        ensures { result ≡ is_at (parts_of "IRQ_STATUS1") "STA_ACTUATOR" self.0 }
     {
         flag(self.0, 6)
     }
 
     pub fn with_STA_ACTUATOR(self, on: bool) -> Self
-        ensures { result.0 ≡ withAt (partsOf "IRQ_STATUS1") "STA_ACTUATOR" self.0 (codeOf on) }
+        ensures { result.0 ≡ with_at (parts_of "IRQ_STATUS1") "STA_ACTUATOR" self.0 (code_of on) }
     {
         IRQ_STATUS1(with_flag(self.0, 6, on))
     }
 
     pub fn STA_OC(self) -> bool
-        ensures { result ≡ isAt (partsOf "IRQ_STATUS1") "STA_OC" self.0 }
+        ensures { result ≡ is_at (parts_of "IRQ_STATUS1") "STA_OC" self.0 }
     {
         flag(self.0, 7)
     }
 
     pub fn with_STA_OC(self, on: bool) -> Self
-        ensures { result.0 ≡ withAt (partsOf "IRQ_STATUS1") "STA_OC" self.0 (codeOf on) }
+        ensures { result.0 ≡ with_at (parts_of "IRQ_STATUS1") "STA_OC" self.0 (code_of on) }
     {
         IRQ_STATUS1(with_flag(self.0, 7, on))
     }
@@ -446,97 +446,97 @@ impl IRQ_MASK1 {
     }
 
     pub fn SEQ_CONTINUE_M(self) -> bool
-        ensures { result ≡ isAt (partsOf "IRQ_MASK1") "SEQ_CONTINUE_M" self.0 }
+        ensures { result ≡ is_at (parts_of "IRQ_MASK1") "SEQ_CONTINUE_M" self.0 }
     {
         flag(self.0, 0)
     }
 
     pub fn with_SEQ_CONTINUE_M(self, on: bool) -> Self
-        ensures { result.0 ≡ withAt (partsOf "IRQ_MASK1") "SEQ_CONTINUE_M" self.0 (codeOf on) }
+        ensures { result.0 ≡ with_at (parts_of "IRQ_MASK1") "SEQ_CONTINUE_M" self.0 (code_of on) }
     {
         IRQ_MASK1(with_flag(self.0, 0, on))
     }
 
     pub fn E_UVLO_M(self) -> bool
-        ensures { result ≡ isAt (partsOf "IRQ_MASK1") "E_UVLO_M" self.0 }
+        ensures { result ≡ is_at (parts_of "IRQ_MASK1") "E_UVLO_M" self.0 }
     {
         flag(self.0, 1)
     }
 
     pub fn with_E_UVLO_M(self, on: bool) -> Self
-        ensures { result.0 ≡ withAt (partsOf "IRQ_MASK1") "E_UVLO_M" self.0 (codeOf on) }
+        ensures { result.0 ≡ with_at (parts_of "IRQ_MASK1") "E_UVLO_M" self.0 (code_of on) }
     {
         IRQ_MASK1(with_flag(self.0, 1, on))
     }
 
     pub fn SEQ_DONE_M(self) -> bool
-        ensures { result ≡ isAt (partsOf "IRQ_MASK1") "SEQ_DONE_M" self.0 }
+        ensures { result ≡ is_at (parts_of "IRQ_MASK1") "SEQ_DONE_M" self.0 }
     {
         flag(self.0, 2)
     }
 
     pub fn with_SEQ_DONE_M(self, on: bool) -> Self
-        ensures { result.0 ≡ withAt (partsOf "IRQ_MASK1") "SEQ_DONE_M" self.0 (codeOf on) }
+        ensures { result.0 ≡ with_at (parts_of "IRQ_MASK1") "SEQ_DONE_M" self.0 (code_of on) }
     {
         IRQ_MASK1(with_flag(self.0, 2, on))
     }
 
     pub fn OVERTEMP_CRIT_M(self) -> bool
-        ensures { result ≡ isAt (partsOf "IRQ_MASK1") "OVERTEMP_CRIT_M" self.0 }
+        ensures { result ≡ is_at (parts_of "IRQ_MASK1") "OVERTEMP_CRIT_M" self.0 }
     {
         flag(self.0, 3)
     }
 
     pub fn with_OVERTEMP_CRIT_M(self, on: bool) -> Self
-        ensures { result.0 ≡ withAt (partsOf "IRQ_MASK1") "OVERTEMP_CRIT_M" self.0 (codeOf on) }
+        ensures { result.0 ≡ with_at (parts_of "IRQ_MASK1") "OVERTEMP_CRIT_M" self.0 (code_of on) }
     {
         IRQ_MASK1(with_flag(self.0, 3, on))
     }
 
     pub fn SEQ_FAULT_M(self) -> bool
-        ensures { result ≡ isAt (partsOf "IRQ_MASK1") "SEQ_FAULT_M" self.0 }
+        ensures { result ≡ is_at (parts_of "IRQ_MASK1") "SEQ_FAULT_M" self.0 }
     {
         flag(self.0, 4)
     }
 
     pub fn with_SEQ_FAULT_M(self, on: bool) -> Self
-        ensures { result.0 ≡ withAt (partsOf "IRQ_MASK1") "SEQ_FAULT_M" self.0 (codeOf on) }
+        ensures { result.0 ≡ with_at (parts_of "IRQ_MASK1") "SEQ_FAULT_M" self.0 (code_of on) }
     {
         IRQ_MASK1(with_flag(self.0, 4, on))
     }
 
     pub fn WARNING_M(self) -> bool
-        ensures { result ≡ isAt (partsOf "IRQ_MASK1") "WARNING_M" self.0 }
+        ensures { result ≡ is_at (parts_of "IRQ_MASK1") "WARNING_M" self.0 }
     {
         flag(self.0, 5)
     }
 
     pub fn with_WARNING_M(self, on: bool) -> Self
-        ensures { result.0 ≡ withAt (partsOf "IRQ_MASK1") "WARNING_M" self.0 (codeOf on) }
+        ensures { result.0 ≡ with_at (parts_of "IRQ_MASK1") "WARNING_M" self.0 (code_of on) }
     {
         IRQ_MASK1(with_flag(self.0, 5, on))
     }
 
     pub fn ACTUATOR_M(self) -> bool
-        ensures { result ≡ isAt (partsOf "IRQ_MASK1") "ACTUATOR_M" self.0 }
+        ensures { result ≡ is_at (parts_of "IRQ_MASK1") "ACTUATOR_M" self.0 }
     {
         flag(self.0, 6)
     }
 
     pub fn with_ACTUATOR_M(self, on: bool) -> Self
-        ensures { result.0 ≡ withAt (partsOf "IRQ_MASK1") "ACTUATOR_M" self.0 (codeOf on) }
+        ensures { result.0 ≡ with_at (parts_of "IRQ_MASK1") "ACTUATOR_M" self.0 (code_of on) }
     {
         IRQ_MASK1(with_flag(self.0, 6, on))
     }
 
     pub fn OC_M(self) -> bool
-        ensures { result ≡ isAt (partsOf "IRQ_MASK1") "OC_M" self.0 }
+        ensures { result ≡ is_at (parts_of "IRQ_MASK1") "OC_M" self.0 }
     {
         flag(self.0, 7)
     }
 
     pub fn with_OC_M(self, on: bool) -> Self
-        ensures { result.0 ≡ withAt (partsOf "IRQ_MASK1") "OC_M" self.0 (codeOf on) }
+        ensures { result.0 ≡ with_at (parts_of "IRQ_MASK1") "OC_M" self.0 (code_of on) }
     {
         IRQ_MASK1(with_flag(self.0, 7, on))
     }
@@ -592,7 +592,7 @@ pub fn fields(byte: u8) -> [u8; 33]
 // For each field that is not read-only, in the same order, what its register holds once the field is replaced by `value` in
 // `byte`; a flag is set where `value` is odd.
 pub fn replaced(byte: u8, value: u8) -> [u8; 31]
-    ensures { result ≡ replacements readOnly interrupts byte value }
+    ensures { result ≡ replacements read_only interrupts byte value }
 {
     let on = flag(value, 0);
     let irq_event1 = IRQ_EVENT1::from(byte);

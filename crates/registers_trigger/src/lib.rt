@@ -8,9 +8,9 @@
 #![tactic(auto)]
 
 ghost use Rattle.std.specs.Prelude.{◌≡◌};
-ghost use Rattle.field.specs.Field.{codeOf};
-ghost use Rattle.field.specs.Layout.{getAt, isAt, withAt, readings, replacements};
-ghost use Rattle.registers.specs.Table.{trigger, readOnly, partsOf};
+ghost use Rattle.field.specs.Field.{code_of};
+ghost use Rattle.field.specs.Layout.{get_at, is_at, with_at, readings, replacements};
+ghost use Rattle.registers.specs.Table.{trigger, read_only, parts_of};
 
 use field::{flag, get, with, with_flag};
 
@@ -38,25 +38,25 @@ impl SEQ_CTL2 {
     }
 
     pub fn PS_SEQ_ID(self) -> u8
-        ensures { result ≡ getAt (partsOf "SEQ_CTL2") "PS_SEQ_ID" self.0 }
+        ensures { result ≡ get_at (parts_of "SEQ_CTL2") "PS_SEQ_ID" self.0 }
     {
         get(self.0, 0, 4)
     }
 
     pub fn with_PS_SEQ_ID(self, value: u8) -> Self
-        ensures { result.0 ≡ withAt (partsOf "SEQ_CTL2") "PS_SEQ_ID" self.0 value }
+        ensures { result.0 ≡ with_at (parts_of "SEQ_CTL2") "PS_SEQ_ID" self.0 value }
     {
         SEQ_CTL2(with(self.0, 0, 4, value))
     }
 
     pub fn PS_SEQ_LOOP(self) -> u8
-        ensures { result ≡ getAt (partsOf "SEQ_CTL2") "PS_SEQ_LOOP" self.0 }
+        ensures { result ≡ get_at (parts_of "SEQ_CTL2") "PS_SEQ_LOOP" self.0 }
     {
         get(self.0, 4, 4)
     }
 
     pub fn with_PS_SEQ_LOOP(self, value: u8) -> Self
-        ensures { result.0 ≡ withAt (partsOf "SEQ_CTL2") "PS_SEQ_LOOP" self.0 value }
+        ensures { result.0 ≡ with_at (parts_of "SEQ_CTL2") "PS_SEQ_LOOP" self.0 value }
     {
         SEQ_CTL2(with(self.0, 4, 4, value))
     }
@@ -86,37 +86,37 @@ impl GPI_0_CTL {
     }
 
     pub fn GPI0_POLARITY(self) -> u8
-        ensures { result ≡ getAt (partsOf "GPI_0_CTL") "GPI0_POLARITY" self.0 }
+        ensures { result ≡ get_at (parts_of "GPI_0_CTL") "GPI0_POLARITY" self.0 }
     {
         get(self.0, 0, 2)
     }
 
     pub fn with_GPI0_POLARITY(self, value: u8) -> Self
-        ensures { result.0 ≡ withAt (partsOf "GPI_0_CTL") "GPI0_POLARITY" self.0 value }
+        ensures { result.0 ≡ with_at (parts_of "GPI_0_CTL") "GPI0_POLARITY" self.0 value }
     {
         GPI_0_CTL(with(self.0, 0, 2, value))
     }
 
     pub fn GPI0_MODE(self) -> bool
-        ensures { result ≡ isAt (partsOf "GPI_0_CTL") "GPI0_MODE" self.0 }
+        ensures { result ≡ is_at (parts_of "GPI_0_CTL") "GPI0_MODE" self.0 }
     {
         flag(self.0, 2)
     }
 
     pub fn with_GPI0_MODE(self, on: bool) -> Self
-        ensures { result.0 ≡ withAt (partsOf "GPI_0_CTL") "GPI0_MODE" self.0 (codeOf on) }
+        ensures { result.0 ≡ with_at (parts_of "GPI_0_CTL") "GPI0_MODE" self.0 (code_of on) }
     {
         GPI_0_CTL(with_flag(self.0, 2, on))
     }
 
     pub fn GPI0_SEQUENCE_ID(self) -> u8
-        ensures { result ≡ getAt (partsOf "GPI_0_CTL") "GPI0_SEQUENCE_ID" self.0 }
+        ensures { result ≡ get_at (parts_of "GPI_0_CTL") "GPI0_SEQUENCE_ID" self.0 }
     {
         get(self.0, 3, 4)
     }
 
     pub fn with_GPI0_SEQUENCE_ID(self, value: u8) -> Self
-        ensures { result.0 ≡ withAt (partsOf "GPI_0_CTL") "GPI0_SEQUENCE_ID" self.0 value }
+        ensures { result.0 ≡ with_at (parts_of "GPI_0_CTL") "GPI0_SEQUENCE_ID" self.0 value }
     {
         GPI_0_CTL(with(self.0, 3, 4, value))
     }
@@ -146,37 +146,37 @@ impl GPI_1_CTL {
     }
 
     pub fn GPI1_POLARITY(self) -> u8
-        ensures { result ≡ getAt (partsOf "GPI_1_CTL") "GPI1_POLARITY" self.0 }
+        ensures { result ≡ get_at (parts_of "GPI_1_CTL") "GPI1_POLARITY" self.0 }
     {
         get(self.0, 0, 2)
     }
 
     pub fn with_GPI1_POLARITY(self, value: u8) -> Self
-        ensures { result.0 ≡ withAt (partsOf "GPI_1_CTL") "GPI1_POLARITY" self.0 value }
+        ensures { result.0 ≡ with_at (parts_of "GPI_1_CTL") "GPI1_POLARITY" self.0 value }
     {
         GPI_1_CTL(with(self.0, 0, 2, value))
     }
 
     pub fn GPI1_MODE(self) -> bool
-        ensures { result ≡ isAt (partsOf "GPI_1_CTL") "GPI1_MODE" self.0 }
+        ensures { result ≡ is_at (parts_of "GPI_1_CTL") "GPI1_MODE" self.0 }
     {
         flag(self.0, 2)
     }
 
     pub fn with_GPI1_MODE(self, on: bool) -> Self
-        ensures { result.0 ≡ withAt (partsOf "GPI_1_CTL") "GPI1_MODE" self.0 (codeOf on) }
+        ensures { result.0 ≡ with_at (parts_of "GPI_1_CTL") "GPI1_MODE" self.0 (code_of on) }
     {
         GPI_1_CTL(with_flag(self.0, 2, on))
     }
 
     pub fn GPI1_SEQUENCE_ID(self) -> u8
-        ensures { result ≡ getAt (partsOf "GPI_1_CTL") "GPI1_SEQUENCE_ID" self.0 }
+        ensures { result ≡ get_at (parts_of "GPI_1_CTL") "GPI1_SEQUENCE_ID" self.0 }
     {
         get(self.0, 3, 4)
     }
 
     pub fn with_GPI1_SEQUENCE_ID(self, value: u8) -> Self
-        ensures { result.0 ≡ withAt (partsOf "GPI_1_CTL") "GPI1_SEQUENCE_ID" self.0 value }
+        ensures { result.0 ≡ with_at (parts_of "GPI_1_CTL") "GPI1_SEQUENCE_ID" self.0 value }
     {
         GPI_1_CTL(with(self.0, 3, 4, value))
     }
@@ -206,37 +206,37 @@ impl GPI_2_CTL {
     }
 
     pub fn GPI2_POLARITY(self) -> u8
-        ensures { result ≡ getAt (partsOf "GPI_2_CTL") "GPI2_POLARITY" self.0 }
+        ensures { result ≡ get_at (parts_of "GPI_2_CTL") "GPI2_POLARITY" self.0 }
     {
         get(self.0, 0, 2)
     }
 
     pub fn with_GPI2_POLARITY(self, value: u8) -> Self
-        ensures { result.0 ≡ withAt (partsOf "GPI_2_CTL") "GPI2_POLARITY" self.0 value }
+        ensures { result.0 ≡ with_at (parts_of "GPI_2_CTL") "GPI2_POLARITY" self.0 value }
     {
         GPI_2_CTL(with(self.0, 0, 2, value))
     }
 
     pub fn GPI2_MODE(self) -> bool
-        ensures { result ≡ isAt (partsOf "GPI_2_CTL") "GPI2_MODE" self.0 }
+        ensures { result ≡ is_at (parts_of "GPI_2_CTL") "GPI2_MODE" self.0 }
     {
         flag(self.0, 2)
     }
 
     pub fn with_GPI2_MODE(self, on: bool) -> Self
-        ensures { result.0 ≡ withAt (partsOf "GPI_2_CTL") "GPI2_MODE" self.0 (codeOf on) }
+        ensures { result.0 ≡ with_at (parts_of "GPI_2_CTL") "GPI2_MODE" self.0 (code_of on) }
     {
         GPI_2_CTL(with_flag(self.0, 2, on))
     }
 
     pub fn GPI2_SEQUENCE_ID(self) -> u8
-        ensures { result ≡ getAt (partsOf "GPI_2_CTL") "GPI2_SEQUENCE_ID" self.0 }
+        ensures { result ≡ get_at (parts_of "GPI_2_CTL") "GPI2_SEQUENCE_ID" self.0 }
     {
         get(self.0, 3, 4)
     }
 
     pub fn with_GPI2_SEQUENCE_ID(self, value: u8) -> Self
-        ensures { result.0 ≡ withAt (partsOf "GPI_2_CTL") "GPI2_SEQUENCE_ID" self.0 value }
+        ensures { result.0 ≡ with_at (parts_of "GPI_2_CTL") "GPI2_SEQUENCE_ID" self.0 value }
     {
         GPI_2_CTL(with(self.0, 3, 4, value))
     }
@@ -266,7 +266,7 @@ impl MEM_CTL1 {
     }
 
     pub fn WAV_MEM_BASE_ADDR(self) -> u8
-        ensures { result ≡ getAt (partsOf "MEM_CTL1") "WAV_MEM_BASE_ADDR" self.0 }
+        ensures { result ≡ get_at (parts_of "MEM_CTL1") "WAV_MEM_BASE_ADDR" self.0 }
     {
         get(self.0, 0, 8)
     }
@@ -296,13 +296,13 @@ impl MEM_CTL2 {
     }
 
     pub fn WAV_MEM_LOCK(self) -> bool
-        ensures { result ≡ isAt (partsOf "MEM_CTL2") "WAV_MEM_LOCK" self.0 }
+        ensures { result ≡ is_at (parts_of "MEM_CTL2") "WAV_MEM_LOCK" self.0 }
     {
         flag(self.0, 7)
     }
 
     pub fn with_WAV_MEM_LOCK(self, on: bool) -> Self
-        ensures { result.0 ≡ withAt (partsOf "MEM_CTL2") "WAV_MEM_LOCK" self.0 (codeOf on) }
+        ensures { result.0 ≡ with_at (parts_of "MEM_CTL2") "WAV_MEM_LOCK" self.0 (code_of on) }
     {
         MEM_CTL2(with_flag(self.0, 7, on))
     }
@@ -332,13 +332,13 @@ impl FRQ_PHASE_H {
     }
 
     pub fn DELAY_H(self) -> u8
-        ensures { result ≡ getAt (partsOf "FRQ_PHASE_H") "DELAY_H" self.0 }
+        ensures { result ≡ get_at (parts_of "FRQ_PHASE_H") "DELAY_H" self.0 }
     {
         get(self.0, 0, 8)
     }
 
     pub fn with_DELAY_H(self, value: u8) -> Self
-        ensures { result.0 ≡ withAt (partsOf "FRQ_PHASE_H") "DELAY_H" self.0 value }
+        ensures { result.0 ≡ with_at (parts_of "FRQ_PHASE_H") "DELAY_H" self.0 value }
     {
         FRQ_PHASE_H(with(self.0, 0, 8, value))
     }
@@ -368,25 +368,25 @@ impl FRQ_PHASE_L {
     }
 
     pub fn DELAY_SHIFT_L(self) -> u8
-        ensures { result ≡ getAt (partsOf "FRQ_PHASE_L") "DELAY_SHIFT_L" self.0 }
+        ensures { result ≡ get_at (parts_of "FRQ_PHASE_L") "DELAY_SHIFT_L" self.0 }
     {
         get(self.0, 0, 3)
     }
 
     pub fn with_DELAY_SHIFT_L(self, value: u8) -> Self
-        ensures { result.0 ≡ withAt (partsOf "FRQ_PHASE_L") "DELAY_SHIFT_L" self.0 value }
+        ensures { result.0 ≡ with_at (parts_of "FRQ_PHASE_L") "DELAY_SHIFT_L" self.0 value }
     {
         FRQ_PHASE_L(with(self.0, 0, 3, value))
     }
 
     pub fn DELAY_FREEZE(self) -> bool
-        ensures { result ≡ isAt (partsOf "FRQ_PHASE_L") "DELAY_FREEZE" self.0 }
+        ensures { result ≡ is_at (parts_of "FRQ_PHASE_L") "DELAY_FREEZE" self.0 }
     {
         flag(self.0, 7)
     }
 
     pub fn with_DELAY_FREEZE(self, on: bool) -> Self
-        ensures { result.0 ≡ withAt (partsOf "FRQ_PHASE_L") "DELAY_FREEZE" self.0 (codeOf on) }
+        ensures { result.0 ≡ with_at (parts_of "FRQ_PHASE_L") "DELAY_FREEZE" self.0 (code_of on) }
     {
         FRQ_PHASE_L(with_flag(self.0, 7, on))
     }
@@ -416,25 +416,25 @@ impl TRIM4 {
     }
 
     pub fn LOOP_FILT_RES_TRIM(self) -> u8
-        ensures { result ≡ getAt (partsOf "TRIM4") "LOOP_FILT_RES_TRIM" self.0 }
+        ensures { result ≡ get_at (parts_of "TRIM4") "LOOP_FILT_RES_TRIM" self.0 }
     {
         get(self.0, 0, 2)
     }
 
     pub fn with_LOOP_FILT_RES_TRIM(self, value: u8) -> Self
-        ensures { result.0 ≡ withAt (partsOf "TRIM4") "LOOP_FILT_RES_TRIM" self.0 value }
+        ensures { result.0 ≡ with_at (parts_of "TRIM4") "LOOP_FILT_RES_TRIM" self.0 value }
     {
         TRIM4(with(self.0, 0, 2, value))
     }
 
     pub fn LOOP_FILT_CAP_TRIM(self) -> u8
-        ensures { result ≡ getAt (partsOf "TRIM4") "LOOP_FILT_CAP_TRIM" self.0 }
+        ensures { result ≡ get_at (parts_of "TRIM4") "LOOP_FILT_CAP_TRIM" self.0 }
     {
         get(self.0, 2, 2)
     }
 
     pub fn with_LOOP_FILT_CAP_TRIM(self, value: u8) -> Self
-        ensures { result.0 ≡ withAt (partsOf "TRIM4") "LOOP_FILT_CAP_TRIM" self.0 value }
+        ensures { result.0 ≡ with_at (parts_of "TRIM4") "LOOP_FILT_CAP_TRIM" self.0 value }
     {
         TRIM4(with(self.0, 2, 2, value))
     }
@@ -464,13 +464,13 @@ impl TOP_CFG5 {
     }
 
     pub fn V2I_FACTOR_OFFSET_EN(self) -> bool
-        ensures { result ≡ isAt (partsOf "TOP_CFG5") "V2I_FACTOR_OFFSET_EN" self.0 }
+        ensures { result ≡ is_at (parts_of "TOP_CFG5") "V2I_FACTOR_OFFSET_EN" self.0 }
     {
         flag(self.0, 0)
     }
 
     pub fn with_V2I_FACTOR_OFFSET_EN(self, on: bool) -> Self
-        ensures { result.0 ≡ withAt (partsOf "TOP_CFG5") "V2I_FACTOR_OFFSET_EN" self.0 (codeOf on) }
+        ensures { result.0 ≡ with_at (parts_of "TOP_CFG5") "V2I_FACTOR_OFFSET_EN" self.0 (code_of on) }
     {
         TOP_CFG5(with_flag(self.0, 0, on))
     }
@@ -500,13 +500,13 @@ impl IRQ_MASK2 {
     }
 
     pub fn ADC_SAT_M(self) -> bool
-        ensures { result ≡ isAt (partsOf "IRQ_MASK2") "ADC_SAT_M" self.0 }
+        ensures { result ≡ is_at (parts_of "IRQ_MASK2") "ADC_SAT_M" self.0 }
     {
         flag(self.0, 7)
     }
 
     pub fn with_ADC_SAT_M(self, on: bool) -> Self
-        ensures { result.0 ≡ withAt (partsOf "IRQ_MASK2") "ADC_SAT_M" self.0 (codeOf on) }
+        ensures { result.0 ≡ with_at (parts_of "IRQ_MASK2") "ADC_SAT_M" self.0 (code_of on) }
     {
         IRQ_MASK2(with_flag(self.0, 7, on))
     }
@@ -554,7 +554,7 @@ pub fn fields(byte: u8) -> [u8; 20]
 // For each field that is not read-only, in the same order, what its register holds once the field is replaced by `value` in
 // `byte`; a flag is set where `value` is odd.
 pub fn replaced(byte: u8, value: u8) -> [u8; 19]
-    ensures { result ≡ replacements readOnly trigger byte value }
+    ensures { result ≡ replacements read_only trigger byte value }
 {
     let on = flag(value, 0);
     let seq_ctl2 = SEQ_CTL2::from(byte);

@@ -6,10 +6,10 @@
 #![tactic(auto)]
 
 ghost use Rattle.std.specs.Prelude.{◌≡◌, length};
-ghost use Rattle.laws.specs.Whole.{whole, wholeOut, lengthOf};
-ghost use Rattle.errors.specs.Number.{answerNumber, encodedTold};
+ghost use Rattle.laws.specs.Whole.{whole, whole_out, length_of};
+ghost use Rattle.errors.specs.Number.{answer_number, encoded_told};
 ghost use Rattle.errors.specs.Told.{gives, handed, built};
-ghost use Rattle.sequence.specs.Sequence.{sequenceBytes, newSequence, withFrame, builtSequence};
+ghost use Rattle.sequence.specs.Sequence.{sequence_bytes, new_sequence, with_frame, built_sequence};
 
 use errors::{Answer, Encoded, Error};
 use frame::Frame;
@@ -48,7 +48,7 @@ pub struct BuiltSequence {
 
 impl Sequence {
     pub fn byte_len(self) -> usize
-        ensures { result ≡ length (sequenceBytes self) }
+        ensures { result ≡ length (sequence_bytes self) }
     {
         if self.len < 96 { self.len as usize } else { 96 }
     }
@@ -62,8 +62,8 @@ impl Sequence {
 
     // Copies all bytes and answers how many, or copies none and answers BufferTooShort.
     pub fn encode_into(self, buffer: &mut [u8]) -> Encoded
-        ensures result_value { encodedTold result ≡ lengthOf (whole buffer.old (gives (sequenceBytes self))) }
-        ensures buffer_after { buffer.new ≡ wholeOut buffer.old (gives (sequenceBytes self)) }
+        ensures result_value { encoded_told result ≡ length_of (whole buffer.old (gives (sequence_bytes self))) }
+        ensures buffer_after { buffer.new ≡ whole_out buffer.old (gives (sequence_bytes self)) }
     {
         let bytes = self.data;
         let n = self.byte_len();
@@ -73,7 +73,7 @@ impl Sequence {
 
 impl SequenceBuilder {
     pub fn new() -> SequenceBuilder
-        ensures { result ≡ newSequence }
+        ensures { result ≡ new_sequence }
     {
         SequenceBuilder {
             data: [0u8; MAX_SEQUENCE_BYTES],
@@ -84,7 +84,7 @@ impl SequenceBuilder {
 
     // The 96 bytes are tested before the 32 frames.
     pub fn add_frame(self, frame: Frame) -> AddedFrame
-        ensures { handed (answerNumber result.answer) result.builder ≡ withFrame self frame }
+        ensures { handed (answer_number result.answer) result.builder ≡ with_frame self frame }
     {
         let at = self.len as usize;
         let n = frame.byte_len();
@@ -121,7 +121,7 @@ impl SequenceBuilder {
     }
 
     pub fn build(self) -> BuiltSequence
-        ensures { built (answerNumber result.answer) result.sequence result.builder ≡ builtSequence self }
+        ensures { built (answer_number result.answer) result.sequence result.builder ≡ built_sequence self }
     {
         if self.len < 1 {
             let none = Sequence {

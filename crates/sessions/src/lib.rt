@@ -4,7 +4,7 @@
 
 ghost use Rattle.std.specs.Prelude.{◌≡◌, [], ◌∷◌, min};
 ghost use Rattle.exchange.specs.declared.Step.TheVariants.{Read, Update};
-ghost use Rattle.exchange.specs.State.{begunIn, pushedAll};
+ghost use Rattle.exchange.specs.State.{begun_in, pushed_all};
 ghost use Rattle.sessions.specs.Sessions as spec;
 
 use config::OperationMode;
@@ -15,9 +15,9 @@ use registers_control::TOP_CTL1;
 use registers_trigger::{MEM_CTL2, SEQ_CTL2};
 
 // Begins a session on the chip's registers alone.
-#[tactic(auto, unfolding(crate::specs::Sessions::noImage, crate::specs::Sessions::blankRecord))]
+#[tactic(auto, unfolding(crate::specs::Sessions::no_image, crate::specs::Sessions::blank_record))]
 pub fn begin(session: &mut [u8], address: u8, purpose: u8)
-    ensures { session.new ≡ begunIn session.old (spec.blank purpose address) [] }
+    ensures { session.new ≡ begun_in session.old (spec.blank purpose address) [] }
 {
     let none = [0u8; da728x::RECORD_SIZE];
     let image = [0u8; 100];
@@ -25,16 +25,16 @@ pub fn begin(session: &mut [u8], address: u8, purpose: u8)
 }
 
 // Begins a session for a record.
-#[tactic(auto, unfolding(crate::specs::Sessions::noImage))]
+#[tactic(auto, unfolding(crate::specs::Sessions::no_image))]
 pub fn begin_with(session: &mut [u8], purpose: u8, next: DA728x)
-    ensures { session.new ≡ begunIn session.old (spec.carrying purpose next) [] }
+    ensures { session.new ≡ begun_in session.old (spec.carrying purpose next) [] }
 {
     let image = [0u8; 100];
     exchange::begin(session, next.address, 0, 0, purpose, image, next.to_bytes());
 }
 
 pub fn run(session: &mut [u8], address: u8, purpose: u8, step: Step)
-    ensures { session.new ≡ begunIn session.old (spec.blank purpose address) (step ∷ []) }
+    ensures { session.new ≡ begun_in session.old (spec.blank purpose address) (step ∷ []) }
 {
     begin(session, address, purpose);
     exchange::push(session, step);
@@ -42,7 +42,7 @@ pub fn run(session: &mut [u8], address: u8, purpose: u8, step: Step)
 
 // Reads a register, and writes it back with a field replaced.
 pub fn update(session: &mut [u8], address: u8, register: u8, shift: u8, width: u8, value: u8)
-    ensures { session.new ≡ begunIn session.old (spec.blank 0 address) (Read register ∷ Update register shift width value ∷ []) }
+    ensures { session.new ≡ begun_in session.old (spec.blank 0 address) (Read register ∷ Update register shift width value ∷ []) }
 {
     begin(session, address, 0);
     exchange::push(session, Step::Read(register));
@@ -63,16 +63,16 @@ pub fn enabled(mode: OperationMode) -> u8
 }
 
 // 1 is unlocked.
-#[tactic(auto, unfolding(crate::specs::Sessions::memCtl2))]
+#[tactic(auto, unfolding(crate::specs::Sessions::mem_ctl2))]
 pub fn mem_ctl2(unlocked: bool) -> u8
-    ensures { result ≡ spec.memCtl2 unlocked }
+    ensures { result ≡ spec.mem_ctl2 unlocked }
 {
     MEM_CTL2::new().with_WAV_MEM_LOCK(unlocked).bits()
 }
 
-#[tactic(auto, unfolding(crate::specs::Sessions::seqCtl2))]
+#[tactic(auto, unfolding(crate::specs::Sessions::seq_ctl2))]
 pub fn seq_ctl2(sequence_id: u8, loops: u8) -> u8
-    ensures { result ≡ spec.seqCtl2 sequence_id loops }
+    ensures { result ≡ spec.seq_ctl2 sequence_id loops }
 {
     SEQ_CTL2::new()
         .with_PS_SEQ_ID(sequence_id)
@@ -84,7 +84,7 @@ pub fn seq_ctl2(sequence_id: u8, loops: u8) -> u8
 
 // Unlocks the memory, sends n bytes of the session's image, and locks it if asked.
 pub fn send(session: &mut [u8], n: u8, lock_after: bool)
-    ensures { session.new ≡ pushedAll session.old (spec.sendSteps n lock_after) }
+    ensures { session.new ≡ pushed_all session.old (spec.send_steps n lock_after) }
 {
     exchange::push(
         session,
@@ -95,7 +95,7 @@ pub fn send(session: &mut [u8], n: u8, lock_after: bool)
 }
 
 fn chunks(session: &mut [u8], n: u8)
-    ensures { session.new ≡ pushedAll session.old (spec.chunkSteps n) }
+    ensures { session.new ≡ pushed_all session.old (spec.chunk_steps n) }
 {
     chunk(session, n, 0);
     chunk(session, n, 32);
@@ -103,9 +103,9 @@ fn chunks(session: &mut [u8], n: u8)
     chunk(session, n, 96);
 }
 
-#[tactic(auto, unfolding(crate::specs::Sessions::chunkStep))]
+#[tactic(auto, unfolding(crate::specs::Sessions::chunk_step))]
 fn chunk(session: &mut [u8], n: u8, offset: u8)
-    ensures { session.new ≡ pushedAll session.old (spec.chunkStep n offset) }
+    ensures { session.new ≡ pushed_all session.old (spec.chunk_step n offset) }
 {
     if offset < n {
         exchange::push(session, Step::Chunk(offset, part(n - offset)));
@@ -121,9 +121,9 @@ fn part(left: u8) -> u8
     left
 }
 
-#[tactic(auto, unfolding(crate::specs::Sessions::lockSteps))]
+#[tactic(auto, unfolding(crate::specs::Sessions::lock_steps))]
 fn lock(session: &mut [u8], lock_after: bool)
-    ensures { session.new ≡ pushedAll session.old (spec.lockSteps lock_after) }
+    ensures { session.new ≡ pushed_all session.old (spec.lock_steps lock_after) }
 {
     if lock_after {
         exchange::push(

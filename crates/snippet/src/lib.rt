@@ -6,11 +6,11 @@
 #![tactic(auto)]
 
 ghost use Rattle.std.specs.Prelude.{◌≡◌, true, false, map, length};
-ghost use Rattle.laws.specs.Whole.{whole, wholeOut, lengthOf};
-ghost use Rattle.errors.specs.Number.{answerNumber, encodedTold};
+ghost use Rattle.laws.specs.Whole.{whole, whole_out, length_of};
+ghost use Rattle.errors.specs.Number.{answer_number, encoded_told};
 ghost use Rattle.errors.specs.Told.{gives, handed, built};
-ghost use Rattle.snippet.specs.Point.{point, pointTold, rampIn, timebasesIn, amplitudeIn};
-ghost use Rattle.snippet.specs.Snippet.{pointOf, pwlByte, snippetBytes, newSnippet, noSnippet, withPoint, withMade, builtSnippet};
+ghost use Rattle.snippet.specs.Point.{point, point_told, ramp_in, timebases_in, amplitude_in};
+ghost use Rattle.snippet.specs.Snippet.{point_of, pwl_byte, snippet_bytes, new_snippet, no_snippet, with_point, with_made, built_snippet};
 
 use errors::{Answer, Encoded, Error};
 
@@ -57,25 +57,25 @@ pub struct BuiltSnippet {
 impl PwlPoint {
     // The point that a byte says; every byte says one.
     pub fn from_byte(byte: u8) -> PwlPoint
-        ensures { result ≡ pointOf byte }
+        ensures { result ≡ point_of byte }
     {
         PwlPoint { byte: byte }
     }
 
     pub fn ramp(timebases: u8, amplitude: u8) -> PointAnswer
-        ensures { pointTold result ≡ point true timebases amplitude }
+        ensures { point_told result ≡ point true timebases amplitude }
     {
         PwlPoint::new(true, timebases, amplitude)
     }
 
     pub fn step(timebases: u8, amplitude: u8) -> PointAnswer
-        ensures { pointTold result ≡ point false timebases amplitude }
+        ensures { point_told result ≡ point false timebases amplitude }
     {
         PwlPoint::new(false, timebases, amplitude)
     }
 
     fn new(ramp: bool, timebases: u8, amplitude: u8) -> PointAnswer
-        ensures { pointTold result ≡ point ramp timebases amplitude }
+        ensures { point_told result ≡ point ramp timebases amplitude }
     {
         if timebases < 1 {
             return PointAnswer::Refused(Error::InvalidTimebase);
@@ -92,25 +92,25 @@ impl PwlPoint {
     }
 
     pub fn as_byte(self) -> u8
-        ensures { result ≡ pwlByte self }
+        ensures { result ≡ pwl_byte self }
     {
         self.byte
     }
 
     pub fn is_ramp(self) -> bool
-        ensures { result ≡ rampIn (pwlByte self) }
+        ensures { result ≡ ramp_in (pwl_byte self) }
     {
         (self.byte & 0x80) != 0
     }
 
     pub fn timebases(self) -> u8
-        ensures { result ≡ timebasesIn (pwlByte self) }
+        ensures { result ≡ timebases_in (pwl_byte self) }
     {
         ((self.byte >> 4) & 0x07) + 1
     }
 
     pub fn amplitude(self) -> u8
-        ensures { result ≡ amplitudeIn (pwlByte self) }
+        ensures { result ≡ amplitude_in (pwl_byte self) }
     {
         self.byte & 0x0F
     }
@@ -125,14 +125,14 @@ impl Snippet {
     }
 
     pub fn byte_len(self) -> usize
-        ensures { result ≡ length (snippetBytes self) }
+        ensures { result ≡ length (snippet_bytes self) }
     {
         if self.len < 16 { self.len as usize } else { 16 }
     }
 
     // The bytes of all sixteen points.
     pub fn bytes(self) -> [u8; MAX_POINTS_PER_SNIPPET]
-        ensures { result ≡ map pwlByte self.points }
+        ensures { result ≡ map pwl_byte self.points }
     {
         let mut out = [0u8; MAX_POINTS_PER_SNIPPET];
         let mut i = 0usize;
@@ -146,8 +146,8 @@ impl Snippet {
 
     // Copies all bytes and answers how many, or copies none and answers BufferTooShort.
     pub fn encode_into(self, buffer: &mut [u8]) -> Encoded
-        ensures result_value { encodedTold result ≡ lengthOf (whole buffer.old (gives (snippetBytes self))) }
-        ensures buffer_after { buffer.new ≡ wholeOut buffer.old (gives (snippetBytes self)) }
+        ensures result_value { encoded_told result ≡ length_of (whole buffer.old (gives (snippet_bytes self))) }
+        ensures buffer_after { buffer.new ≡ whole_out buffer.old (gives (snippet_bytes self)) }
     {
         let bytes = self.bytes();
         let n = self.byte_len();
@@ -157,7 +157,7 @@ impl Snippet {
 
 impl SnippetBuilder {
     pub fn new() -> SnippetBuilder
-        ensures { result ≡ newSnippet }
+        ensures { result ≡ new_snippet }
     {
         let p = PwlPoint { byte: 0 };
         let ps = [p; MAX_POINTS_PER_SNIPPET];
@@ -165,20 +165,20 @@ impl SnippetBuilder {
     }
 
     pub fn ramp(self, timebases: u8, amplitude: u8) -> AddedPoint
-        ensures { handed (answerNumber result.answer) result.builder ≡ withMade self (point true timebases amplitude) }
+        ensures { handed (answer_number result.answer) result.builder ≡ with_made self (point true timebases amplitude) }
     {
         self.add(PwlPoint::ramp(timebases, amplitude))
     }
 
     pub fn step(self, timebases: u8, amplitude: u8) -> AddedPoint
-        ensures { handed (answerNumber result.answer) result.builder ≡ withMade self (point false timebases amplitude) }
+        ensures { handed (answer_number result.answer) result.builder ≡ with_made self (point false timebases amplitude) }
     {
         self.add(PwlPoint::step(timebases, amplitude))
     }
 
     // A point that was made before.
     pub fn point(self, point: PwlPoint) -> AddedPoint
-        ensures { handed (answerNumber result.answer) result.builder ≡ withPoint self point }
+        ensures { handed (answer_number result.answer) result.builder ≡ with_point self point }
     {
         let n = self.len as usize;
         if MAX_POINTS_PER_SNIPPET <= n {
@@ -197,7 +197,7 @@ impl SnippetBuilder {
     }
 
     fn add(self, made: PointAnswer) -> AddedPoint
-        ensures { handed (answerNumber result.answer) result.builder ≡ withMade self (pointTold made) }
+        ensures { handed (answer_number result.answer) result.builder ≡ with_made self (point_told made) }
     {
         match made {
             PointAnswer::Point(p) => self.point(p),
@@ -209,7 +209,7 @@ impl SnippetBuilder {
     }
 
     pub fn build(self) -> BuiltSnippet
-        ensures { built (answerNumber result.answer) result.snippet result.builder ≡ builtSnippet self }
+        ensures { built (answer_number result.answer) result.snippet result.builder ≡ built_snippet self }
     {
         let ps = self.points;
         if self.len < 1 {

@@ -43,7 +43,7 @@ fn errors_have_the_published_names() {
 fn numbers_are_those_of_the_definitions() {
     let text = text("crates/errors/specs/Number.antt");
     let mut cases = 0;
-    for line in text.lines().filter_map(|line| line.strip_prefix("numberAndCode ")) {
+    for line in text.lines().filter_map(|line| line.strip_prefix("number_and_code ")) {
         let Some((shape, answer)) = line.split_once(" = ") else { continue };
         let (_, name) = shape.split_once("Error.").unwrap();
         let name = name.split(' ').next().unwrap();

@@ -90,14 +90,14 @@ fn words(path: &str) -> Vec<String> {
 /// A row of the table: a name, an address and the parts.
 type Row = (String, u8, Vec<(String, u32)>);
 
-/// The rows `entry "NAME" address (part "FIELD" width ∷ ... ∷ [])` of the table, and the names of `readOnly = "FIELD" ∷ ... ∷ []`.
+/// The rows `entry "NAME" address (part "FIELD" width ∷ ... ∷ [])` of the table, and the names of `read_only = "FIELD" ∷ ... ∷ []`.
 fn table() -> (Vec<Row>, Vec<String>) {
     let words = words(TABLE);
     let unquoted = |word: &String| word.trim_matches('"').to_string();
     let mut rows = Vec::new();
     let mut read_only = Vec::new();
     for at in 1..words.len().saturating_sub(2) {
-        if words[at] == "readOnly" && words[at + 1] == "=" {
+        if words[at] == "read_only" && words[at + 1] == "=" {
             let names = words[at + 2..].iter().take_while(|word| *word != "[]");
             read_only.extend(names.filter(|word| *word != "∷").map(unquoted));
         }
@@ -214,14 +214,14 @@ fn methods_cite_their_own_fields() {
                 method = rest.split('(').next().unwrap().to_string();
             }
             let Some(at) =
-                ["getAt ", "isAt ", "withAt "].iter().find(|it| line.contains(&format!("≡ {it}")))
+                ["get_at ", "is_at ", "with_at "].iter().find(|it| line.contains(&format!("≡ {it}")))
             else {
                 continue;
             };
             let field = method.trim_start_matches("with_");
-            let cited = format!("≡ {at}(partsOf \"{of}\") \"{field}\" self.0");
+            let cited = format!("≡ {at}(parts_of \"{of}\") \"{field}\" self.0");
             assert!(line.contains(&cited), "{of}::{method}");
-            assert_eq!(*at == "withAt ", method.starts_with("with_"), "{of}::{method}");
+            assert_eq!(*at == "with_at ", method.starts_with("with_"), "{of}::{method}");
             methods.push((of.clone(), method.clone()));
         }
     }

@@ -1,5 +1,5 @@
 use Rattle.std.proofs.Common.{◌≡◌, ◌-◌, ◌≤◌, length}
-use Rattle.assemble.specs.Kept.{roomFor}
+use Rattle.assemble.specs.Kept.{room_for}
 use Rattle.assemble.proofs.Running.{Running}
 use Rattle.assemble.proofs.run.Given as goal
 
@@ -8,8 +8,8 @@ abbrev pub invariant-loop-at : goal.invariant-loop-at
 invariant-loop-at l = record {
   within : l.at ≤ length l.calls;
   counts : l.i ≤ l.at;
-  snippets : length l.snippets ≡ roomFor 15;
-  sequences : length l.sequences ≡ roomFor 16;
+  snippets : length l.snippets ≡ room_for 15;
+  sequences : length l.sequences ≡ room_for 16;
   runs : Running l.calls l.fn.answers l.answers l.snippets l.sequences l.b l.at l.i l.told;
 }
 

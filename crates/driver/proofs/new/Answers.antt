@@ -1,11 +1,11 @@
 use Rattle.std.proofs.Common.{arith, refl, [], ◌∷◌}
 use Rattle.sessions.proofs.Runs.{made, on}
 use Rattle.exchange.specs.declared.Step.TheVariants.{Match}
-use Rattle.driver.specs.Operations.{revision, newRecord}
+use Rattle.driver.specs.Operations.{revision, new_record}
 use Rattle.driver.proofs.new.Goals as goal
 
 pub returns-clause-session_after : goal.returns-clause-session_after
 returns-clause-session_after c =
     let a = c.args in
-    made _ _ (newRecord a.address a.variant) (Match 0 (revision a.variant) ∷ []) (omega arith) c.begin_with.ensures
+    made _ _ (new_record a.address a.variant) (Match 0 (revision a.variant) ∷ []) (omega arith) c.begin_with.ensures
     (on c.push.ensures refl (λ i. Match (c.address.ensures i) (c.revision.ensures i)))

@@ -2,7 +2,7 @@ use Rattle.std.proofs.Common.{ℕ, get_or, ap, sym, ◌∙◌, add-one, arith}
 use native.Mathlib.Nat.{zero-add}
 use lib.ListN.{set}
 use lib.Seq.{paste-zero, paste-suc}
-use Rattle.laws.proofs.Copies.{paste-copied}
+use Rattle.laws.proofs.Copies.{paste_copied}
 use Rattle.laws.proofs.copy_into.Goals as goal
 
 pub loop-i-init : goal.loop-i-init
@@ -19,4 +19,4 @@ loop-i-preserved c =
     }
 
 pub returns-clause-buffer_after : goal.returns-clause-buffer_after
-returns-clause-buffer_after c = c.loop-i.invariant.laid ∙ paste-copied c.args.buffer.now c.args.bytes.now c.loop-i.i (omega arith)
+returns-clause-buffer_after c = c.loop-i.invariant.laid ∙ paste_copied c.args.buffer.now c.args.bytes.now c.loop-i.i (omega arith)

@@ -1,11 +1,11 @@
 -- The first i frames, then zeros.
 use Rattle.std.proofs.Common.{◌≡◌, ◌-◌, ◌≤◌, take}
 use Rattle.reader.specs.Reading.{padded}
-use Rattle.readings.specs.Lists.{wordsBytes}
+use Rattle.readings.specs.Lists.{words_bytes}
 use Rattle.readings.proofs.frame_bytes.Given as goal
 
 abbrev pub invariant-loop-i : goal.invariant-loop-i
-invariant-loop-i l = record { in_range : l.i ≤ l.n; bytes : l.out ≡ padded 576 0 (wordsBytes (take l.i l.frames.items)) }
+invariant-loop-i l = record { in_range : l.i ≤ l.n; bytes : l.out ≡ padded 576 0 (words_bytes (take l.i l.frames.items)) }
 
 abbrev pub decreases-loop-i : goal.decreases-loop-i
 decreases-loop-i l = l.n - l.i

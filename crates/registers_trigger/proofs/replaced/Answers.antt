@@ -1,10 +1,10 @@
 -- Each byte is what its `with_` makes of the byte that `from` kept; a flag is set where the value is odd.
 use Rattle.std.proofs.Common.{◌≡◌, ℕ, refl}
-use Rattle.field.specs.Field.{withOf, flagOf, codeOf}
+use Rattle.field.specs.Field.{with_of, flag_of, code_of}
 use Rattle.field.proofs.Methods.{turned}
 use Rattle.registers_trigger.proofs.replaced.Goals as goal
 
-odd : (b s v : ℕ) → withOf b s 1 (codeOf (flagOf v 0)) ≡ withOf b s 1 v
+odd : (b s v : ℕ) → with_of b s 1 (code_of (flag_of v 0)) ≡ with_of b s 1 v
 odd b s v = turned {x = b} s v refl refl refl
 
 pub returns : goal.returns

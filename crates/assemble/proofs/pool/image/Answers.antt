@@ -1,15 +1,15 @@
 use Rattle.std.proofs.Common.{ap, ◌∙◌}
-use Rattle.errors.specs.Told.{toldNumber}
-use Rattle.assemble.proofs.Keeping.{no-snippets, no-sequences, too_large, built}
+use Rattle.errors.specs.Told.{told_number}
+use Rattle.assemble.proofs.Keeping.{no_snippets_lem, no_sequences_lem, too_large, built}
 use Rattle.assemble.proofs.pool.image.Goals as goal
 
 pub returns-then-s-lt1 : goal.returns-then-s-lt1
 returns-then-s-lt1 c =
-    no-snippets c.args.snippets.now c.args.sequences.now c.args.buffer.now _ _ c.wide-s.ensures.value c.wide-q.ensures.value c.if-s-lt1.true
+    no_snippets_lem c.args.snippets.now c.args.sequences.now c.args.buffer.now _ _ c.wide-s.ensures.value c.wide-q.ensures.value c.if-s-lt1.true
 
 pub returns-then-q-lt1 : goal.returns-then-q-lt1
 returns-then-q-lt1 c =
-    no-sequences c.args.snippets.now c.args.sequences.now c.args.buffer.now _ _ c.wide-s.ensures.value c.wide-q.ensures.value c.if-s-lt1.false c.if-q-lt1.true
+    no_sequences_lem c.args.snippets.now c.args.sequences.now c.args.buffer.now _ _ c.wide-s.ensures.value c.wide-q.ensures.value c.if-s-lt1.false c.if-q-lt1.true
 
 pub returns-then-s-q-gt-IMAGE_ROOM : goal.returns-then-s-q-gt-IMAGE_ROOM
 returns-then-s-q-gt-IMAGE_ROOM c =
@@ -20,4 +20,4 @@ pub returns : goal.returns
 returns c =
     built c.args.snippets.now c.args.sequences.now c.args.buffer.now _ _ c.wide-s.ensures.value c.wide-q.ensures.value c.if-s-lt1.false c.if-q-lt1.false
     _ _ c.sum-a.ensures.value c.sum-b.ensures.value c.if-s-q-gt-IMAGE_ROOM.false
-    _ _ _ c.laid-out.ensures (c.number.ensures ∙ ap toldNumber c.copy_whole.ensures.result_value) c.copy_whole.ensures.buffer_after
+    _ _ _ c.laid-out.ensures (c.number.ensures ∙ ap told_number c.copy_whole.ensures.result_value) c.copy_whole.ensures.buffer_after

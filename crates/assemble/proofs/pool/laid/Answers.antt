@@ -1,7 +1,7 @@
-use Rattle.assemble.proofs.Keeping.{laid-over}
+use Rattle.assemble.proofs.Keeping.{laid_over}
 use Rattle.assemble.proofs.pool.laid.Goals as goal
 
 pub returns : goal.returns
 returns c =
-    laid-over c.args.snippet_lens.now c.args.sequence_lens.now c.args.snippets.now c.args.sequences.now c.requires.size
+    laid_over c.args.snippet_lens.now c.args.sequence_lens.now c.args.snippets.now c.args.sequences.now c.requires.size
     _ _ _ _ _ c.pointers-last.ensures.value c.pointers-last.ensures.out_after c.pointers.ensures.out_after c.put.ensures c.put-2.ensures

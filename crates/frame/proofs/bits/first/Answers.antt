@@ -1,5 +1,5 @@
-use Rattle.frame.proofs.Packed.{packed-first}
+use Rattle.frame.proofs.Packed.{packed_first}
 use Rattle.frame.proofs.bits.first.Goals as goal
 
 pub returns : goal.returns
-returns c = packed-first _ _ _
+returns c = packed_first _ _ _

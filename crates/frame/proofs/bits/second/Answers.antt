@@ -1,5 +1,5 @@
-use Rattle.frame.proofs.Packed.{packed-second}
+use Rattle.frame.proofs.Packed.{packed_second}
 use Rattle.frame.proofs.bits.second.Goals as goal
 
 pub returns : goal.returns
-returns c = packed-second _ _ _
+returns c = packed_second _ _ _
