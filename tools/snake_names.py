@@ -18,8 +18,8 @@ LEMMAS = """after-counts after-snippets built-memory counts-fit cut-more field-f
     image-from image-item image-size in-etwm in-turn is-DA7281 is-session memory-fault memory-from next-frame no-frame no-image no-sequence no-sequences
     no-snippet no-snippets number-of point-byte point-fault polarity-code refused-new run-frames sequence-fault snippet-fault three-bytes
     with-frame with-made with-point with-sequence with-settings with-snippet""".split()
-# a lemma that already has the name which a definition gets
-TAKEN = {"made_fault": "made_fault_lem"}
+# a lemma that already has the name which a definition gets, and that definition
+TAKEN = {"made_fault": "madeFault"}
 # laws that have the name of a claim's field
 FIELDS = set("drivePoints goesOn wholeOrNothing loopsRead".split())
 # the one local name in camel case
@@ -80,7 +80,7 @@ def table():
     names, constructors = declared()
     turned = {n: snake(n) for n in names if n[0].islower() and snake(n) != n}
     turned |= {n: snake(n) + "_lem" for n in LEMMAS if n in names}
-    turned |= {n: new for n, new in TAKEN.items() if n in names}
+    turned |= {n: n + "_lem" for n, old in TAKEN.items() if {n, old} <= names}
     turned |= {n: snake(n[0].lower() + n[1:]) for n in constructors}
     return turned | LOCALS
 
