@@ -1,6 +1,6 @@
 // Replays the stored sample of the published Rust's answers, with the papers' values where docs/DIFFERENCES.md has them, which comes by
 // standard input, on the functions exported for C, images also by Rattle's own types, and says of each kind how many cases agree. The sample's
-// head says what it is; a case that does not agree, or is no case, is told by the number of its line; bytes that are no text end the program.
+// head says what it is; a case that does not agree, or is no case, is told by the number of its line.
 // Proved: every function is safe and returns, whatever the input.
 #![tactic(auto)]
 
@@ -12,6 +12,9 @@ use vectors_bytes::{more, part};
 
 // How many lines that do not agree are told.
 const TOLD: u64 = 10;
+
+// The longest line that is read.
+const LINE: usize = 4096;
 
 // Where the reading stands: the number of the line, whether a kind has begun, and the counts of its cases and of all.
 #[derive(Clone, Copy)]
@@ -37,8 +40,9 @@ fn replay(rt: &(impl Input + Print + AllocGlobal)) -> io::Result<()> {
         all_agree: 0,
         all_cases: 0,
     };
-    for line in BufReader::new(rt.alloc(), rt.reader())?.lines(rt.alloc()) {
-        s = read(rt, s, line?.as_str().as_bytes())?;
+    for line in BufReader::new(rt.alloc(), rt.reader())?.split(rt.alloc(), b'\n') {
+        let bytes = line?;
+        s = read(rt, s, &bytes)?;
     }
     total(rt, s)
 }
@@ -48,11 +52,20 @@ fn read(rt: &impl Print, s: Scan, line: &[u8]) -> io::Result<Scan> {
     if line.is_empty() {
         return Ok(counted(s));
     }
+    let held = within(line);
     match vectors_bytes::at(line, 0) {
         b'#' => Ok(counted(s)),
-        b'=' => named(rt, s, part(line, 2, line.len())),
-        _ => judged(rt, s, cases::agrees(line)),
+        b'=' => named(rt, s, part(held, 2, held.len())),
+        _ => judged(rt, s, cases::agrees(held)),
     }
+}
+
+// A line that is longer than the longest holds no heading and no case.
+fn within(line: &[u8]) -> &[u8] {
+    if LINE < line.len() {
+        return part(line, 0, 0);
+    }
+    line
 }
 
 fn counted(mut s: Scan) -> Scan {
