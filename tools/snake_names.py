@@ -79,7 +79,7 @@ def declared():
 def table():
     names, constructors = declared()
     turned = {n: snake(n) for n in names if n[0].islower() and snake(n) != n}
-    turned |= {n: snake(n) + "_lem" for n in LEMMAS if n in names}
+    turned |= {n: snake(n).lower() + "_lem" for n in LEMMAS if n in names}
     turned |= {n: n + "_lem" for n, old in TAKEN.items() if {n, old} <= names}
     turned |= {n: snake(n[0].lower() + n[1:]) for n in constructors}
     return turned | LOCALS

@@ -13,7 +13,7 @@ use Rattle.config.specs.declared.Variant.{Variant}
 use Rattle.checks.specs.Checks.{tracking, etwm, triggers_given, sequence_above15, triggers_above15, Check, configure_checks, first_failing, configure_number}
 use Rattle.checks.specs.InRange.{SequenceTo15, InRange}
 use Rattle.checks.proofs.First.{fails_at}
-use Rattle.checks.proofs.Tests.{and_off, and_on, neither, both_off, between, either, tracks, untracks, is_etwm, is_da7281, is_DA7281_lem, to15, some, lone}
+use Rattle.checks.proofs.Tests.{and_off, and_on, neither, both_off, between, either, tracks, untracks, is_etwm, is_da7281, is_da7281_lem, to15, some, lone}
 
 -- ---- the list
 
@@ -83,7 +83,7 @@ to_checks v a d r =
       (
         and_off (etwm operation) _ (λ t. (some _ _ _).1 (r.triggers (is_etwm operation t))),
         (
-          and_off (etwm operation) _ (λ t. and_off (is_da7281 v) _ (λ s. le-ltb 1 (triggers_given d) ((lone _ _ _).1 (r.single (is_etwm operation t) (is_DA7281_lem v s))))),
+          and_off (etwm operation) _ (λ t. and_off (is_da7281 v) _ (λ s. le-ltb 1 (triggers_given d) ((lone _ _ _).1 (r.single (is_etwm operation t) (is_da7281_lem v s))))),
           (
             le-ltb _ a.nominal_max_mV (omega (arith, r.nominal)),
             (

@@ -16,7 +16,7 @@ use Rattle.config.specs.declared.Trigger.TheVariants.{Absent, Given}
 use Rattle.checks.specs.Checks.{tracking, etwm, one_if_given, sequence_above15, outside_band, Check, configure_checks, first_failing}
 use Rattle.checks.specs.InRange.{OneAbsent}
 use Rattle.checks.specs.Blames.{Outside, OutOfBand, NumberAbove15, Fault, faults, OfFirst, among, Blames}
-use Rattle.checks.proofs.Tests.{on, tracks, untracks, is_etwm, is_da7281, is_DA7281_lem, absent, lone}
+use Rattle.checks.proofs.Tests.{on, tracks, untracks, is_etwm, is_da7281, is_da7281_lem, absent, lone}
 
 -- ---- the list
 
@@ -123,7 +123,7 @@ blames = record {
           and_says _ _ _ _ operation (no_trigger d.gpi_trigger_0 d.gpi_trigger_1 d.gpi_trigger_2),
           (
             refl,
-            and_says _ _ _ _ operation (and_says _ _ _ _ (is_DA7281_lem v, λ p. ap is_da7281 p) (several d.gpi_trigger_0 d.gpi_trigger_1 d.gpi_trigger_2)),
+            and_says _ _ _ _ operation (and_says _ _ _ _ (is_da7281_lem v, λ p. ap is_da7281 p) (several d.gpi_trigger_0 d.gpi_trigger_1 d.gpi_trigger_2)),
             (
               refl,
               above 6000 a.nominal_max_mV,

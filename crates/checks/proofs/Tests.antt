@@ -73,10 +73,10 @@ is_etwm ETWM_MODE e = refl
 abbrev pub is_da7281 : Variant → Bool
 is_da7281 v = eqb (variant_code v) (variant_code DA7281)
 
-pub is_DA7281_lem : (v : Variant) → is_da7281 v ≡ true → v ≡ DA7281
-is_DA7281_lem DA7280 e = absurd (false≢true e)
-is_DA7281_lem DA7281 e = refl
-is_DA7281_lem DA7282 e = absurd (false≢true e)
+pub is_da7281_lem : (v : Variant) → is_da7281 v ≡ true → v ≡ DA7281
+is_da7281_lem DA7280 e = absurd (false≢true e)
+is_da7281_lem DA7281 e = refl
+is_da7281_lem DA7282 e = absurd (false≢true e)
 
 pub to15 : (s : Trigger) → (sequence_above15 s ≡ false) ↔ SequenceTo15 s
 to15 s = (λ e t p. ltb-false 15 t.sequence_id (sym (ap sequence_above15 p) ∙ e), back s)

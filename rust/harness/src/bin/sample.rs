@@ -72,7 +72,7 @@ const KINDS: [(u8, &str, usize); 40] = [
 /// The lengths of buffer that the addresses are copied into.
 const ADDRESS_ROOMS: [usize; 8] = [0, 1, 2, 21, 41, 42, 43, 50];
 
-/// The longest line that is written.
+/// The longest line that the program takes.
 const LONGEST: usize = 4096;
 
 const HEAD: &str = "\
