@@ -250,7 +250,7 @@ fn codes_are_the_published_ones() {
     for line in text("crates/config/specs/Codes.antt").lines() {
         let words: Vec<_> = line.split_whitespace().collect();
         if let [of, name, "=", code] = words[..] {
-            assert!(of.ends_with("Code"), "{line}");
+            assert!(of.ends_with("_code"), "{line}");
             listed.push((name.trim_matches(['«', '»']).to_string(), code.parse::<u8>().unwrap()));
         }
     }
