@@ -4,7 +4,7 @@ case, types and modules in camel case. Usage: tools/snake_names.py [FOLDER], the
 
 It was run once, after the kit's port.py, and again on a checkout of the last version in the older spelling, so that the two can be laid side by
 side (docs/PORT.md); on files that have the newer spelling it changes nothing. It rewrites specs/, proofs/, the clauses, attributes and comments of
-src/, the lines of must-fail edits, and names in the pages of docs/ and in README.md. Rust's names, the library's, those that Rattle makes, strings
+src/, the lines of must-fail edits, and names in the pages of docs/, README.md and include/. Rust's names, the library's, those that Rattle makes, strings
 and file names stay. It ends with 1 and writes nothing where two names of a file would become one."""
 import re
 import sys
@@ -42,7 +42,7 @@ def snake(name):
 def files(*globs):
     for glob in globs:
         for path in sorted(ROOT.glob(glob)):
-            if "/out/" not in str(path) and path.is_file():
+            if "/out/" not in str(path.relative_to(ROOT)) and path.is_file():
                 yield path
 
 
@@ -166,6 +166,9 @@ def clashes(path, text, turned):
 
 def main():
     global UPPER
+    if not CRATES.is_dir():
+        print(f"{CRATES} is missing")
+        return 1
     turned = table()
     UPPER = {n for n in turned if n[0].isupper()}
     found = [line for path in files("crates/*/specs/**/*.antt", "crates/*/proofs/**/*.antt") for line in clashes(path, path.read_text(), turned)]
