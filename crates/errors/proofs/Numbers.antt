@@ -2,7 +2,6 @@
 use Prim.Native.Nat.{◌≤◌}
 use native.Mathlib.Omega.{arith}
 use Rattle.errors.specs.declared.Error.{Error}
-use Rattle.errors.specs.declared.Error.TheVariants as Error
 use Rattle.errors.specs.Number.{error_number}
 
 pub has_number : (e : Error) → 1 ≤ error_number e

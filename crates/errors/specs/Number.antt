@@ -1,12 +1,7 @@
 -- The numbers of the refusals: document 01, 'Who can cause which answer', and document 02, "join 01's list".
-use Rattle.std.specs.Prelude.{ℕ}
-use Rattle.errors.specs.Told.{Told, gives, refuses}
+use Rattle.std.specs.Prelude.{ℕ, Result, Ok, Err}
+use Rattle.errors.specs.Told.{Told, gives, refuses, Handed, accepted, refused, Built, built}
 use Rattle.errors.specs.declared.Error.{Error}
-use Rattle.errors.specs.declared.Error.TheVariants as Error
-use Rattle.errors.specs.declared.Answer.{Answer}
-use Rattle.errors.specs.declared.Answer.TheVariants as Answer
-use Rattle.errors.specs.declared.Encoded.{Encoded}
-use Rattle.errors.specs.declared.Encoded.TheVariants as Encoded
 
 -- its number, and "17 I2c, with the bus's own failure code (one byte) handed through"; any other has code 0
 abbrev pub number_and_code : Error → ℕ × ℕ
@@ -45,16 +40,26 @@ number_and_code Error.MissingSequence = (28, 0)
 abbrev pub error_number : Error → ℕ
 error_number e = (number_and_code e).0
 
--- 0 where nothing was refused
-abbrev pub answer_number : Answer → ℕ
-answer_number Answer.Done = 0
-answer_number (Answer.Refused e) = error_number e
+-- what a call answers: 0 where nothing was refused
+abbrev pub answer_number : {A : Type 0} → Result A Error → ℕ
+answer_number (Ok a) = 0
+answer_number (Err e) = error_number e
 
-abbrev pub bus_code : Answer → ℕ
-bus_code Answer.Done = 0
-bus_code (Answer.Refused e) = (number_and_code e).1
+abbrev pub bus_code : {A : Type 0} → Result A Error → ℕ
+bus_code (Ok a) = 0
+bus_code (Err e) = (number_and_code e).1
 
--- the length of an item that was copied, or the refusal
-abbrev pub encoded_told : Encoded → Told ℕ
-encoded_told (Encoded.Whole n) = gives n
-encoded_told (Encoded.Refused e) = refuses (error_number e)
+-- the value, or the number of the refusal
+abbrev pub told : {A : Type 0} → Result A Error → Told A
+told (Ok a) = gives a
+told (Err e) = refuses (error_number e)
+
+-- a call on a builder: the builder that it gives, or the number of its refusal and the builder as it came in
+abbrev pub handed_by : {B : Type 0} → B → Result B Error → Handed B
+handed_by b (Ok next) = accepted next
+handed_by b (Err e) = refused (error_number e) b
+
+-- building from a builder: the item, or the number of its refusal and, in the item's place, an empty one
+abbrev pub built_by : {I B : Type 0} → I → B → Result I Error → Built I B
+built_by none b (Ok item) = built 0 item b
+built_by none b (Err e) = built (error_number e) none b

@@ -5,10 +5,9 @@
 #![tactic(auto)]
 
 ghost use Rattle.std.specs.Prelude.{◌≡◌};
-ghost use Rattle.errors.specs.Number.{number_and_code, error_number, answer_number, bus_code, encoded_told};
-ghost use Rattle.errors.specs.Told.{told_number};
+ghost use Rattle.errors.specs.Number.{number_and_code, error_number, answer_number, bus_code};
 
-#[derive(Clone, Copy)]
+#[derive(Debug, Clone, Copy, PartialEq, Eq)]
 pub enum Error {
     I2c(u8),
     VariantMismatch,
@@ -36,20 +35,6 @@ pub enum Error {
     MissingSequence,
 }
 
-// What a builder's call answers beside the builder.
-#[derive(Clone, Copy)]
-pub enum Answer {
-    Done,
-    Refused(Error),
-}
-
-// What copying a whole item into a lent buffer answers: the item's length, or the refusal.
-#[derive(Clone, Copy)]
-pub enum Encoded {
-    Whole(usize),
-    Refused(Error),
-}
-
 impl Error {
     // The bus's own code, or 0.
     pub fn bus_code(self) -> u8
@@ -57,29 +42,7 @@ impl Error {
     {
         match self {
             Error::I2c(code) => code,
-            Error::InvalidTimebase => 0,
-            Error::InvalidAmplitude => 0,
-            Error::InvalidSnippetId => 0,
-            Error::InvalidLoopCount => 0,
-            Error::InvalidFrequency => 0,
-            Error::TooManySnippets => 0,
-            Error::TooManySequences => 0,
-            Error::WaveformMemoryFull => 0,
-            Error::EmptySnippet => 0,
-            Error::EmptySequence => 0,
-            Error::InvalidValue => 0,
-            Error::WrongMode => 0,
-            Error::MissingTriggerConfigInEtwmMode => 0,
-            Error::NotSupported => 0,
-            Error::NotConfigured => 0,
-            Error::VariantMismatch => 0,
-            Error::NotAnImage => 0,
-            Error::OutOfTurn => 0,
-            Error::InvalidVoltage => 0,
-            Error::InvalidCurrentOrImpedance => 0,
-            Error::InvalidDriveFrequency => 0,
-            Error::BufferTooShort => 0,
-            Error::MissingSequence => 0,
+            _ => 0,
         }
     }
 
@@ -115,36 +78,22 @@ impl Error {
     }
 }
 
-impl Answer {
-    // The bus's own code, or 0.
-    pub fn bus_code(self) -> u8
-        ensures { result ≡ bus_code self }
-    {
-        match self {
-            Answer::Done => 0,
-            Answer::Refused(e) => e.bus_code(),
-        }
-    }
-
-    // The refusal's number, or 0.
-    pub fn number(self) -> u8
-        ensures { result ≡ answer_number self }
-    {
-        match self {
-            Answer::Done => 0,
-            Answer::Refused(e) => e.number(),
-        }
+// The number of what a call answers: the refusal's, or 0.
+pub fn number<T: Copy>(answer: Result<T, Error>) -> u8
+    ensures { result ≡ answer_number answer }
+{
+    match answer {
+        Ok(_) => 0,
+        Err(e) => e.number(),
     }
 }
 
-impl Encoded {
-    // The refusal's number, or 0.
-    pub fn number(self) -> u8
-        ensures { result ≡ told_number (encoded_told self) }
-    {
-        match self {
-            Encoded::Whole(_) => 0,
-            Encoded::Refused(e) => e.number(),
-        }
+// The bus's own code in what a call answers, or 0.
+pub fn bus_code<T: Copy>(answer: Result<T, Error>) -> u8
+    ensures { result ≡ bus_code answer }
+{
+    match answer {
+        Ok(_) => 0,
+        Err(e) => e.bus_code(),
     }
 }

@@ -3,15 +3,13 @@
 use mathlib.Core.Path.{◌≡◌, refl, sym, ap, ◌∙◌}
 use mathlib.Core.Bool.{Bool, true, false, cond}
 use mathlib.Core.List.{List, ◌++◌}
-use Prim.Native.Nat.{ℕ, ◌<◌, ◌≤◌, min}
+use Prim.Native.Nat.{ℕ}
 use native.Mathlib.Omega.{arith}
 use borrow.Author.Tests.{lt-ltb, le-ltb}
 use lib.Dec.{ltb}
 use lib.ListN.{length, take, drop}
 use lib.Seq.{take_at}
 use Rattle.errors.specs.Told.{Told, gives, refuses, on_told, told_number}
-use Rattle.laws.specs.Copied.{copied}
-use Rattle.laws.proofs.Copies.{copied_fits}
 use Rattle.laws.specs.Whole.{whole, whole_out, length_of, WholeOrNothing}
 
 -- a length tells the same number

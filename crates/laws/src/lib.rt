@@ -6,52 +6,40 @@
 
 ghost use Rattle.std.specs.Prelude.{◌≡◌, min, ◌<◌, length};
 ghost use Rattle.errors.specs.Told.{gives};
-ghost use Rattle.errors.specs.Number.{encoded_told};
+ghost use Rattle.errors.specs.Number.{told};
 ghost use Rattle.laws.specs.Copied.{copied, placed};
 ghost use Rattle.laws.specs.Whole.{whole, whole_out, length_of};
 
-use errors::{Encoded, Error};
-
-// The smaller of two lengths.
-fn least(a: usize, b: usize) -> usize
-    ensures { result ≡ min a b }
-{
-    if a < b { a } else { b }
-}
+use errors::Error;
 
 // Copies as much of the bytes as fits and answers how many that were.
 pub fn copy_into(buffer: &mut [u8], bytes: &[u8]) -> usize
     ensures value { result ≡ min (length bytes.now) (length buffer.old) }
     ensures buffer_after { buffer.new ≡ copied buffer.old bytes.now }
 {
-    let n = least(bytes.len(), buffer.len());
-    let mut i = 0usize;
-    while i < n {
-        buffer[i] = bytes[i];
-        i += 1;
-    }
+    let n = bytes.len().min(buffer.len());
+    buffer[..n].copy_from_slice(&bytes[..n]);
     n
 }
 
 // Copies all bytes, or none where the buffer is shorter.
-pub fn copy_whole(buffer: &mut [u8], bytes: &[u8]) -> Encoded
-    ensures result_value { encoded_told result ≡ length_of (whole buffer.old (gives bytes.now)) }
+pub fn copy_whole(buffer: &mut [u8], bytes: &[u8]) -> Result<usize, Error>
+    ensures result_value { told result ≡ length_of (whole buffer.old (gives bytes.now)) }
     ensures buffer_after { buffer.new ≡ whole_out buffer.old (gives bytes.now) }
 {
     if buffer.len() < bytes.len() {
-        return Encoded::Refused(Error::BufferTooShort);
+        return Err(Error::BufferTooShort);
     }
-    Encoded::Whole(copy_into(buffer, bytes))
+    Ok(copy_into(buffer, bytes))
 }
 
 // Copies as much of the bytes as fits from an index on.
 pub fn copy_at(buffer: &mut [u8], at: usize, bytes: &[u8])
     ensures { buffer.new ≡ placed buffer.old at bytes.now }
 {
-    if buffer.len() <= at {
-        return;
+    if at < buffer.len() {
+        copy_into(&mut buffer[at..], bytes);
     }
-    copy_into(&mut buffer[at..], bytes);
 }
 
 // A byte as a length or an index.
