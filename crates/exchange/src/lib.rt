@@ -7,7 +7,8 @@
 // exchanges are those of the steps, in order, and the count is true.
 #![tactic(auto)]
 
-ghost use Rattle.std.specs.Prelude.{◌≡◌, cond, ◌+◌, ◌*◌, ◌≤◌, ◌<◌, min, [], ◌∷◌, length, set};
+ghost use Rattle.std.specs.Prelude.{◌≡◌, cond, not, ◌&&◌, ◌+◌, ◌*◌, ◌≤◌, ◌<◌, min, [], ◌∷◌, eqb, length, set};
+ghost use Rattle.errors.specs.Number.{answer_number};
 ghost use Rattle.laws.specs.Copied.{over};
 ghost use Rattle.laws.specs.Lists.{at};
 ghost use Rattle.exchange.specs.Steps.{exchange, memory_address, chunk, exchange_for, step_bytes, step_of};
@@ -93,6 +94,25 @@ pub struct Turn {
     pub answer: Result<(), Error>,
     pub made: u8,
     pub ended: bool,
+}
+
+impl Turn {
+    // Whether this was the last success.
+    pub fn is_last(self) -> bool
+        ensures { result ≡ self.ended && eqb (answer_number self.answer) 0 }
+    {
+        self.ended && self.answer.is_ok()
+    }
+
+    // Whether the answer was taken, and not refused out of turn.
+    pub fn is_taken(self) -> bool
+        ensures { result ≡ not (eqb (answer_number self.answer) 19) }
+    {
+        match self.answer {
+            Ok(()) => true,
+            Err(e) => e != Error::OutOfTurn,
+        }
+    }
 }
 
 // How an answer fits a step: not at all; a failure; a write done; a byte read; one for the buffer's index; not the byte that it must be.
