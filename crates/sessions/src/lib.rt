@@ -9,7 +9,7 @@ ghost use Rattle.sessions.specs.Sessions as spec;
 
 use config::OperationMode;
 use da728x::DA728x;
-use exchange::Step;
+use exchange::{Opening, Step};
 use registers::Register;
 use registers_control::TOP_CTL1;
 use registers_trigger::{MEM_CTL2, SEQ_CTL2};
@@ -19,9 +19,17 @@ use registers_trigger::{MEM_CTL2, SEQ_CTL2};
 pub fn begin(session: &mut [u8], address: u8, purpose: u8)
     ensures { session.new ≡ begun_in session.old (spec.blank purpose address) [] }
 {
-    let none = [0u8; da728x::RECORD_SIZE];
-    let image = [0u8; 100];
-    exchange::begin(session, address, 0, 0, purpose, image, none);
+    exchange::begin(
+        session,
+        Opening {
+            address,
+            reads: 0,
+            room: 0,
+            purpose,
+            image: &[0; 100],
+            record: &[0; exchange::RECORD_SIZE],
+        },
+    );
 }
 
 // Begins a session for a record.
@@ -29,8 +37,17 @@ pub fn begin(session: &mut [u8], address: u8, purpose: u8)
 pub fn begin_with(session: &mut [u8], purpose: u8, next: DA728x)
     ensures { session.new ≡ begun_in session.old (spec.carrying purpose next) [] }
 {
-    let image = [0u8; 100];
-    exchange::begin(session, next.address, 0, 0, purpose, image, next.to_bytes());
+    exchange::begin(
+        session,
+        Opening {
+            address: next.address,
+            reads: 0,
+            room: 0,
+            purpose,
+            image: &[0; 100],
+            record: &next.to_bytes(),
+        },
+    );
 }
 
 pub fn run(session: &mut [u8], address: u8, purpose: u8, step: Step)
@@ -108,17 +125,8 @@ fn chunk(session: &mut [u8], n: u8, offset: u8)
     ensures { session.new ≡ pushed_all session.old (spec.chunk_step n offset) }
 {
     if offset < n {
-        exchange::push(session, Step::Chunk(offset, part(n - offset)));
+        exchange::push(session, Step::Chunk(offset, 32.min(n - offset)));
     }
-}
-
-fn part(left: u8) -> u8
-    ensures { result ≡ min 32 left }
-{
-    if 32 < left {
-        return 32;
-    }
-    left
 }
 
 #[tactic(auto, unfolding(crate::specs::Sessions::lock_steps))]
@@ -137,19 +145,12 @@ fn lock(session: &mut [u8], lock_after: bool)
 pub fn shown(len: usize) -> u8
     ensures { result ≡ min len 100 }
 {
-    if len < 100 {
-        return len as u8;
-    }
-    100
+    len.min(100) as u8
 }
 
 // How many bytes are read of a memory into a buffer.
 pub fn reads(len: usize, buffer_len: usize) -> u8
     ensures { result ≡ min (min len 100) buffer_len }
 {
-    let n = shown(len);
-    if (n as usize) < buffer_len {
-        return n;
-    }
-    buffer_len as u8
+    len.min(100).min(buffer_len) as u8
 }
