@@ -73,7 +73,7 @@ pub fn enabled(mode: OperationMode) -> u8
     ensures { result ≡ spec.enabled mode }
 {
     let top_ctl1 = TOP_CTL1::new()
-        .with_OPERATION_MODE(mode.code())
+        .with_OPERATION_MODE(mode.into())
         .with_STANDBY_EN(false)
         .with_SEQ_START(false);
     top_ctl1.bits()
