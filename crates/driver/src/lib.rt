@@ -67,7 +67,12 @@ fn revision(variant: Variant) -> u8
     }
 }
 
-pub fn configure(driver: &DA728x, a: ActuatorConfig, d: DeviceConfig, session: &mut [u8]) -> Result<(), Error>
+pub fn configure(
+    driver: &DA728x,
+    a: ActuatorConfig,
+    d: DeviceConfig,
+    session: &mut [u8],
+) -> Result<(), Error>
     ensures result_value { answer_number result ≡ spec.start_number (spec.configure driver.now a d).start }
     ensures session_after { session.new ≡ spec.started_in session.old (spec.configure driver.now a d).start }
 {
@@ -201,7 +206,11 @@ pub fn disable(driver: &DA728x, session: &mut [u8]) -> Result<(), Error>
 }
 
 // Gives the chip the three points of the wave that it drives the actuator with; for CUSTOM_WAVEFORM only.
-pub fn set_custom_drive_waveform(driver: &DA728x, points: [u8; 3], session: &mut [u8]) -> Result<(), Error>
+pub fn set_custom_drive_waveform(
+    driver: &DA728x,
+    points: [u8; 3],
+    session: &mut [u8],
+) -> Result<(), Error>
     ensures result_value { answer_number result
         ≡ spec.start_number (spec.set_custom_drive_waveform driver.now (at points 0) (at points 1) (at points 2)).start }
     ensures session_after { session.new
@@ -239,7 +248,11 @@ fn drive_points(session: &mut [u8], address: u8, p1: u8, p2: u8, p3: u8)
 
 // ---- waveform memory
 
-pub fn set_timebase(driver: &DA728x, timebase: WaveformMemoryTimebase, session: &mut [u8]) -> Result<(), Error>
+pub fn set_timebase(
+    driver: &DA728x,
+    timebase: WaveformMemoryTimebase,
+    session: &mut [u8],
+) -> Result<(), Error>
     ensures result_value { answer_number result ≡ spec.start_number (spec.set_timebase driver.now timebase).start }
     ensures session_after { session.new ≡ spec.started_in session.old (spec.set_timebase driver.now timebase).start }
 {
@@ -340,7 +353,12 @@ pub fn read_waveform_memory(
 
 // ---- sequences
 
-pub fn select_sequence(driver: &DA728x, sequence_id: u8, loops: u8, session: &mut [u8]) -> Result<(), Error>
+pub fn select_sequence(
+    driver: &DA728x,
+    sequence_id: u8,
+    loops: u8,
+    session: &mut [u8],
+) -> Result<(), Error>
     ensures result_value { answer_number result ≡ spec.start_number (spec.select_sequence driver.now sequence_id loops).start }
     ensures session_after { session.new ≡ spec.started_in session.old (spec.select_sequence driver.now sequence_id loops).start }
 {
@@ -385,7 +403,12 @@ pub fn start_sequence(driver: &DA728x, session: &mut [u8]) -> Result<(), Error>
     Ok(())
 }
 
-pub fn play_sequence(driver: &DA728x, sequence_id: u8, loops: u8, session: &mut [u8]) -> Result<(), Error>
+pub fn play_sequence(
+    driver: &DA728x,
+    sequence_id: u8,
+    loops: u8,
+    session: &mut [u8],
+) -> Result<(), Error>
     ensures result_value { answer_number result ≡ spec.start_number (spec.play_sequence driver.now sequence_id loops).start }
     ensures session_after { session.new ≡ spec.started_in session.old (spec.play_sequence driver.now sequence_id loops).start }
 {
