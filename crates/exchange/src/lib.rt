@@ -7,7 +7,7 @@
 // exchanges are those of the steps, in order, and the count is true.
 #![tactic(auto)]
 
-ghost use Rattle.std.specs.Prelude.{◌≡◌, cond, not, ◌&&◌, ◌+◌, ◌*◌, ◌<◌, min, [], ◌∷◌, eqb, length, set};
+ghost use Rattle.std.specs.Prelude.{◌≡◌, cond, not, ◌&&◌, ◌+◌, ◌*◌, ◌<◌, min, [], ◌∷◌, eqb, length, take, set};
 ghost use Rattle.errors.specs.Number.{answer_number};
 ghost use Rattle.laws.specs.Copied.{over};
 ghost use Rattle.laws.specs.Lists.{at};
@@ -78,6 +78,15 @@ pub struct Exchange {
     pub bytes: [u8; 33],
     pub len: u8,
     pub wanted: u8,
+}
+
+impl Exchange {
+    // The bytes to send.
+    pub fn sent(&self) -> &[u8]
+        ensures { result.now ≡ take self.now.len self.now.bytes }
+    {
+        &self.bytes[..(self.len as usize).min(33)]
+    }
 }
 
 // What the bus answers.
