@@ -15,20 +15,14 @@ ghost use Rattle.registers.specs.Table.{trigger, read_only, parts_of};
 use field::{flag, get, with, with_flag};
 
 // SEQ_CTL2 register (0x28).
-#[derive(Clone, Copy)]
+#[derive(Debug, Clone, Copy, PartialEq, Eq, Default)]
 pub struct SEQ_CTL2(u8);
 
 impl SEQ_CTL2 {
     pub fn new() -> Self
         ensures { result.0 ≡ 0 }
     {
-        SEQ_CTL2(0)
-    }
-
-    pub fn from(bits: u8) -> Self
-        ensures { result.0 ≡ bits }
-    {
-        SEQ_CTL2(bits)
+        Self::default()
     }
 
     pub fn bits(self) -> u8
@@ -62,21 +56,31 @@ impl SEQ_CTL2 {
     }
 }
 
+impl From<u8> for SEQ_CTL2 {
+    ghost from_gives = { λ bits register. register.0 ≡ bits };
+
+    fn from(bits: u8) -> Self {
+        SEQ_CTL2(bits)
+    }
+}
+
+impl From<SEQ_CTL2> for u8 {
+    ghost from_gives = { λ register bits. bits ≡ register.0 };
+
+    fn from(register: SEQ_CTL2) -> u8 {
+        register.0
+    }
+}
+
 // GPI0 Control register (0x29).
-#[derive(Clone, Copy)]
+#[derive(Debug, Clone, Copy, PartialEq, Eq, Default)]
 pub struct GPI_0_CTL(u8);
 
 impl GPI_0_CTL {
     pub fn new() -> Self
         ensures { result.0 ≡ 0 }
     {
-        GPI_0_CTL(0)
-    }
-
-    pub fn from(bits: u8) -> Self
-        ensures { result.0 ≡ bits }
-    {
-        GPI_0_CTL(bits)
+        Self::default()
     }
 
     pub fn bits(self) -> u8
@@ -122,21 +126,31 @@ impl GPI_0_CTL {
     }
 }
 
+impl From<u8> for GPI_0_CTL {
+    ghost from_gives = { λ bits register. register.0 ≡ bits };
+
+    fn from(bits: u8) -> Self {
+        GPI_0_CTL(bits)
+    }
+}
+
+impl From<GPI_0_CTL> for u8 {
+    ghost from_gives = { λ register bits. bits ≡ register.0 };
+
+    fn from(register: GPI_0_CTL) -> u8 {
+        register.0
+    }
+}
+
 // GPI1 Control register (0x2A).
-#[derive(Clone, Copy)]
+#[derive(Debug, Clone, Copy, PartialEq, Eq, Default)]
 pub struct GPI_1_CTL(u8);
 
 impl GPI_1_CTL {
     pub fn new() -> Self
         ensures { result.0 ≡ 0 }
     {
-        GPI_1_CTL(0)
-    }
-
-    pub fn from(bits: u8) -> Self
-        ensures { result.0 ≡ bits }
-    {
-        GPI_1_CTL(bits)
+        Self::default()
     }
 
     pub fn bits(self) -> u8
@@ -182,21 +196,31 @@ impl GPI_1_CTL {
     }
 }
 
+impl From<u8> for GPI_1_CTL {
+    ghost from_gives = { λ bits register. register.0 ≡ bits };
+
+    fn from(bits: u8) -> Self {
+        GPI_1_CTL(bits)
+    }
+}
+
+impl From<GPI_1_CTL> for u8 {
+    ghost from_gives = { λ register bits. bits ≡ register.0 };
+
+    fn from(register: GPI_1_CTL) -> u8 {
+        register.0
+    }
+}
+
 // GPI2 Control register (0x2B).
-#[derive(Clone, Copy)]
+#[derive(Debug, Clone, Copy, PartialEq, Eq, Default)]
 pub struct GPI_2_CTL(u8);
 
 impl GPI_2_CTL {
     pub fn new() -> Self
         ensures { result.0 ≡ 0 }
     {
-        GPI_2_CTL(0)
-    }
-
-    pub fn from(bits: u8) -> Self
-        ensures { result.0 ≡ bits }
-    {
-        GPI_2_CTL(bits)
+        Self::default()
     }
 
     pub fn bits(self) -> u8
@@ -242,21 +266,31 @@ impl GPI_2_CTL {
     }
 }
 
+impl From<u8> for GPI_2_CTL {
+    ghost from_gives = { λ bits register. register.0 ≡ bits };
+
+    fn from(bits: u8) -> Self {
+        GPI_2_CTL(bits)
+    }
+}
+
+impl From<GPI_2_CTL> for u8 {
+    ghost from_gives = { λ register bits. bits ≡ register.0 };
+
+    fn from(register: GPI_2_CTL) -> u8 {
+        register.0
+    }
+}
+
 // MEM_CTL1 register (0x2C).
-#[derive(Clone, Copy)]
+#[derive(Debug, Clone, Copy, PartialEq, Eq, Default)]
 pub struct MEM_CTL1(u8);
 
 impl MEM_CTL1 {
     pub fn new() -> Self
         ensures { result.0 ≡ 0 }
     {
-        MEM_CTL1(0)
-    }
-
-    pub fn from(bits: u8) -> Self
-        ensures { result.0 ≡ bits }
-    {
-        MEM_CTL1(bits)
+        Self::default()
     }
 
     pub fn bits(self) -> u8
@@ -272,21 +306,31 @@ impl MEM_CTL1 {
     }
 }
 
+impl From<u8> for MEM_CTL1 {
+    ghost from_gives = { λ bits register. register.0 ≡ bits };
+
+    fn from(bits: u8) -> Self {
+        MEM_CTL1(bits)
+    }
+}
+
+impl From<MEM_CTL1> for u8 {
+    ghost from_gives = { λ register bits. bits ≡ register.0 };
+
+    fn from(register: MEM_CTL1) -> u8 {
+        register.0
+    }
+}
+
 // MEM_CTL2 register (0x2D).
-#[derive(Clone, Copy)]
+#[derive(Debug, Clone, Copy, PartialEq, Eq, Default)]
 pub struct MEM_CTL2(u8);
 
 impl MEM_CTL2 {
     pub fn new() -> Self
         ensures { result.0 ≡ 0 }
     {
-        MEM_CTL2(0)
-    }
-
-    pub fn from(bits: u8) -> Self
-        ensures { result.0 ≡ bits }
-    {
-        MEM_CTL2(bits)
+        Self::default()
     }
 
     pub fn bits(self) -> u8
@@ -308,21 +352,31 @@ impl MEM_CTL2 {
     }
 }
 
+impl From<u8> for MEM_CTL2 {
+    ghost from_gives = { λ bits register. register.0 ≡ bits };
+
+    fn from(bits: u8) -> Self {
+        MEM_CTL2(bits)
+    }
+}
+
+impl From<MEM_CTL2> for u8 {
+    ghost from_gives = { λ register bits. bits ≡ register.0 };
+
+    fn from(register: MEM_CTL2) -> u8 {
+        register.0
+    }
+}
+
 // FRQ_PHASE_H register (0x48).
-#[derive(Clone, Copy)]
+#[derive(Debug, Clone, Copy, PartialEq, Eq, Default)]
 pub struct FRQ_PHASE_H(u8);
 
 impl FRQ_PHASE_H {
     pub fn new() -> Self
         ensures { result.0 ≡ 0 }
     {
-        FRQ_PHASE_H(0)
-    }
-
-    pub fn from(bits: u8) -> Self
-        ensures { result.0 ≡ bits }
-    {
-        FRQ_PHASE_H(bits)
+        Self::default()
     }
 
     pub fn bits(self) -> u8
@@ -344,21 +398,31 @@ impl FRQ_PHASE_H {
     }
 }
 
+impl From<u8> for FRQ_PHASE_H {
+    ghost from_gives = { λ bits register. register.0 ≡ bits };
+
+    fn from(bits: u8) -> Self {
+        FRQ_PHASE_H(bits)
+    }
+}
+
+impl From<FRQ_PHASE_H> for u8 {
+    ghost from_gives = { λ register bits. bits ≡ register.0 };
+
+    fn from(register: FRQ_PHASE_H) -> u8 {
+        register.0
+    }
+}
+
 // FRQ_PHASE_L register (0x49).
-#[derive(Clone, Copy)]
+#[derive(Debug, Clone, Copy, PartialEq, Eq, Default)]
 pub struct FRQ_PHASE_L(u8);
 
 impl FRQ_PHASE_L {
     pub fn new() -> Self
         ensures { result.0 ≡ 0 }
     {
-        FRQ_PHASE_L(0)
-    }
-
-    pub fn from(bits: u8) -> Self
-        ensures { result.0 ≡ bits }
-    {
-        FRQ_PHASE_L(bits)
+        Self::default()
     }
 
     pub fn bits(self) -> u8
@@ -392,21 +456,31 @@ impl FRQ_PHASE_L {
     }
 }
 
+impl From<u8> for FRQ_PHASE_L {
+    ghost from_gives = { λ bits register. register.0 ≡ bits };
+
+    fn from(bits: u8) -> Self {
+        FRQ_PHASE_L(bits)
+    }
+}
+
+impl From<FRQ_PHASE_L> for u8 {
+    ghost from_gives = { λ register bits. bits ≡ register.0 };
+
+    fn from(register: FRQ_PHASE_L) -> u8 {
+        register.0
+    }
+}
+
 // TRIM4 register (0x60).
-#[derive(Clone, Copy)]
+#[derive(Debug, Clone, Copy, PartialEq, Eq, Default)]
 pub struct TRIM4(u8);
 
 impl TRIM4 {
     pub fn new() -> Self
         ensures { result.0 ≡ 0 }
     {
-        TRIM4(0)
-    }
-
-    pub fn from(bits: u8) -> Self
-        ensures { result.0 ≡ bits }
-    {
-        TRIM4(bits)
+        Self::default()
     }
 
     pub fn bits(self) -> u8
@@ -440,21 +514,31 @@ impl TRIM4 {
     }
 }
 
+impl From<u8> for TRIM4 {
+    ghost from_gives = { λ bits register. register.0 ≡ bits };
+
+    fn from(bits: u8) -> Self {
+        TRIM4(bits)
+    }
+}
+
+impl From<TRIM4> for u8 {
+    ghost from_gives = { λ register bits. bits ≡ register.0 };
+
+    fn from(register: TRIM4) -> u8 {
+        register.0
+    }
+}
+
 // TOP_CFG5 register (0x6E).
-#[derive(Clone, Copy)]
+#[derive(Debug, Clone, Copy, PartialEq, Eq, Default)]
 pub struct TOP_CFG5(u8);
 
 impl TOP_CFG5 {
     pub fn new() -> Self
         ensures { result.0 ≡ 0 }
     {
-        TOP_CFG5(0)
-    }
-
-    pub fn from(bits: u8) -> Self
-        ensures { result.0 ≡ bits }
-    {
-        TOP_CFG5(bits)
+        Self::default()
     }
 
     pub fn bits(self) -> u8
@@ -476,21 +560,31 @@ impl TOP_CFG5 {
     }
 }
 
+impl From<u8> for TOP_CFG5 {
+    ghost from_gives = { λ bits register. register.0 ≡ bits };
+
+    fn from(bits: u8) -> Self {
+        TOP_CFG5(bits)
+    }
+}
+
+impl From<TOP_CFG5> for u8 {
+    ghost from_gives = { λ register bits. bits ≡ register.0 };
+
+    fn from(register: TOP_CFG5) -> u8 {
+        register.0
+    }
+}
+
 // IRQ_MASK2 register (0x83).
-#[derive(Clone, Copy)]
+#[derive(Debug, Clone, Copy, PartialEq, Eq, Default)]
 pub struct IRQ_MASK2(u8);
 
 impl IRQ_MASK2 {
     pub fn new() -> Self
         ensures { result.0 ≡ 0 }
     {
-        IRQ_MASK2(0)
-    }
-
-    pub fn from(bits: u8) -> Self
-        ensures { result.0 ≡ bits }
-    {
-        IRQ_MASK2(bits)
+        Self::default()
     }
 
     pub fn bits(self) -> u8
@@ -509,6 +603,22 @@ impl IRQ_MASK2 {
         ensures { result.0 ≡ with_at (parts_of "IRQ_MASK2") "ADC_SAT_M" self.0 (code_of on) }
     {
         IRQ_MASK2(with_flag(self.0, 7, on))
+    }
+}
+
+impl From<u8> for IRQ_MASK2 {
+    ghost from_gives = { λ bits register. register.0 ≡ bits };
+
+    fn from(bits: u8) -> Self {
+        IRQ_MASK2(bits)
+    }
+}
+
+impl From<IRQ_MASK2> for u8 {
+    ghost from_gives = { λ register bits. bits ≡ register.0 };
+
+    fn from(register: IRQ_MASK2) -> u8 {
+        register.0
     }
 }
 
