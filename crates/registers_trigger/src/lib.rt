@@ -10,9 +10,11 @@
 ghost use Rattle.std.specs.Prelude.{◌≡◌};
 ghost use Rattle.field.specs.Field.{code_of};
 ghost use Rattle.field.specs.Layout.{get_at, is_at, with_at, readings, replacements};
-ghost use Rattle.registers.specs.Table.{trigger, read_only, parts_of};
+ghost use Rattle.registers.specs.Table.{trigger, read_only, address_of, parts_of};
+ghost use Rattle.registers_trigger.specs.Gpi.{Digit, gpi_name, gpi_with};
 
 use field::{flag, get, with, with_flag};
+use registers::Register;
 
 // SEQ_CTL2 register (0x28).
 #[derive(Debug, Clone, Copy, PartialEq, Eq, Default)]
@@ -70,6 +72,19 @@ impl From<SEQ_CTL2> for u8 {
     fn from(register: SEQ_CTL2) -> u8 {
         register.0
     }
+}
+
+// What the three GPI registers share: the same fields, under names that differ in the register's digit.
+pub trait Gpi {
+    ghost digit: { Digit };
+
+    // The register's address.
+    fn register() -> Register
+        ensures { result.0 ≡ address_of (gpi_name digit) };
+
+    // The register's byte with these fields.
+    fn with_all(polarity: u8, multi: bool, sequence_id: u8) -> u8
+        ensures { result ≡ gpi_with digit polarity (code_of multi) sequence_id };
 }
 
 // GPI0 Control register (0x29).
@@ -139,6 +154,22 @@ impl From<GPI_0_CTL> for u8 {
 
     fn from(register: GPI_0_CTL) -> u8 {
         register.0
+    }
+}
+
+impl Gpi for GPI_0_CTL {
+    ghost digit = { "0" };
+
+    fn register() -> Register {
+        Register::GPI_0_CTL
+    }
+
+    fn with_all(polarity: u8, multi: bool, sequence_id: u8) -> u8 {
+        GPI_0_CTL::new()
+            .with_GPI0_POLARITY(polarity)
+            .with_GPI0_MODE(multi)
+            .with_GPI0_SEQUENCE_ID(sequence_id)
+            .0
     }
 }
 
@@ -212,6 +243,22 @@ impl From<GPI_1_CTL> for u8 {
     }
 }
 
+impl Gpi for GPI_1_CTL {
+    ghost digit = { "1" };
+
+    fn register() -> Register {
+        Register::GPI_1_CTL
+    }
+
+    fn with_all(polarity: u8, multi: bool, sequence_id: u8) -> u8 {
+        GPI_1_CTL::new()
+            .with_GPI1_POLARITY(polarity)
+            .with_GPI1_MODE(multi)
+            .with_GPI1_SEQUENCE_ID(sequence_id)
+            .0
+    }
+}
+
 // GPI2 Control register (0x2B).
 #[derive(Debug, Clone, Copy, PartialEq, Eq, Default)]
 pub struct GPI_2_CTL(u8);
@@ -279,6 +326,22 @@ impl From<GPI_2_CTL> for u8 {
 
     fn from(register: GPI_2_CTL) -> u8 {
         register.0
+    }
+}
+
+impl Gpi for GPI_2_CTL {
+    ghost digit = { "2" };
+
+    fn register() -> Register {
+        Register::GPI_2_CTL
+    }
+
+    fn with_all(polarity: u8, multi: bool, sequence_id: u8) -> u8 {
+        GPI_2_CTL::new()
+            .with_GPI2_POLARITY(polarity)
+            .with_GPI2_MODE(multi)
+            .with_GPI2_SEQUENCE_ID(sequence_id)
+            .0
     }
 }
 
