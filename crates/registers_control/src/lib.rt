@@ -1,9 +1,9 @@
 // The registers of the control loop, of operation and of custom waveforms: TOP_INT_CFG1 to SWG_C3 of registers.rs, document
-// 01, "Settings to registers". A register is a byte: `new` is zero, `from` keeps every bit, `bits` hands the byte back; the
-// method of a field's name reads the field, and `with_` before the name alters it. Proved: each method's result, by the
-// field's name in registers/specs/Table.antt, which has the names and widths of the Rust in the written order; `fields` and `replaced`
-// list what all the getters and all the `with_` make of one byte, and equal definitions that go through the table part by
-// part. Left out: what else the attribute `bitfield` makes, such as `set_` methods and printing.
+// 01, "Settings to registers". A register is a byte: `new` is zero, and both `From` keep every bit; the method of a field's
+// name reads the field, and `with_` before the name alters it. Proved: each method's result, by the field's name in
+// registers/specs/Table.antt, which has the names and widths of the Rust in the written order; `fields` and `replaced` list
+// what all the getters and all the `with_` make of one byte, and equal definitions that go through the table part by part.
+// Left out: what else the attribute `bitfield` makes, such as `set_` methods; `Debug` prints the byte, not the fields.
 #![tactic(auto)]
 
 ghost use Rattle.std.specs.Prelude.{◌≡◌};
@@ -684,6 +684,7 @@ impl From<SWG_C3> for u8 {
 }
 
 // What each named field reads when its register holds `byte`, registers and fields in the written order; a flag reads 0 or 1.
+#[tactic(auto, using(field::proofs::Methods::flag_code))]
 pub fn fields(byte: u8) -> [u8; 18]
     ensures { result ≡ readings control byte }
 {
@@ -723,6 +724,7 @@ pub fn fields(byte: u8) -> [u8; 18]
 
 // For each field that is not read-only, in the same order, what its register holds once the field is replaced by `value` in
 // `byte`; a flag is set where `value` is odd.
+#[tactic(auto, using(field::proofs::Methods::odd))]
 pub fn replaced(byte: u8, value: u8) -> [u8; 18]
     ensures { result ≡ replacements read_only control byte value }
 {

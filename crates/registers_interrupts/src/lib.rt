@@ -1,10 +1,10 @@
 // The registers of the chip's revision and of its interrupts: CHIP_REV to IRQ_MASK1 of registers.rs, document 01, "Settings
-// to registers". A register is a byte: `new` is zero, `from` keeps every bit, `bits` hands the byte back; the method of a
-// field's name reads the field, and `with_` before the name alters it; the two fields of CHIP_REV are read-only and have no
-// `with_`. Proved: each method's result, by the field's name in registers/specs/Table.antt, which has the names and widths of the Rust
-// in the written order; `fields` and `replaced` list what all the getters and all the `with_` make of one byte, and equal
+// to registers". A register is a byte: `new` is zero, and both `From` keep every bit; the method of a field's name reads the
+// field, and `with_` before the name alters it; the two fields of CHIP_REV are read-only and have no `with_`. Proved: each
+// method's result, by the field's name in registers/specs/Table.antt, which has the names and widths of the Rust in the
+// written order; `fields` and `replaced` list what all the getters and all the `with_` make of one byte, and equal
 // definitions that go through the table part by part. Left out: what else the attribute `bitfield` makes, such as `set_`
-// methods and printing.
+// methods; `Debug` prints the byte, not the fields.
 #![tactic(auto)]
 
 ghost use Rattle.std.specs.Prelude.{◌≡◌};
@@ -603,6 +603,7 @@ impl From<IRQ_MASK1> for u8 {
 }
 
 // What each named field reads when its register holds `byte`, registers and fields in the written order; a flag reads 0 or 1.
+#[tactic(auto, using(field::proofs::Methods::flag_code))]
 pub fn fields(byte: u8) -> [u8; 33]
     ensures { result ≡ readings interrupts byte }
 {
@@ -651,6 +652,7 @@ pub fn fields(byte: u8) -> [u8; 33]
 
 // For each field that is not read-only, in the same order, what its register holds once the field is replaced by `value` in
 // `byte`; a flag is set where `value` is odd.
+#[tactic(auto, using(field::proofs::Methods::odd))]
 pub fn replaced(byte: u8, value: u8) -> [u8; 31]
     ensures { result ≡ replacements read_only interrupts byte value }
 {
