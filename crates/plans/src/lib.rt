@@ -5,20 +5,17 @@
 // goes to its own register (proofs/Trigger.antt). Left out: the steps where rapid stop is on, which the Rust does not have and `checks` refuses.
 #![tactic(auto)]
 
-ghost use Rattle.std.specs.Prelude.{◌≡◌, ◌&&◌};
+ghost use Rattle.std.specs.Prelude.{◌≡◌};
 ghost use Rattle.exchange.specs.State.{pushed, pushed_all};
 ghost use Rattle.exchange.specs.declared.Step.TheVariants.{Write, Read, Update};
-ghost use Rattle.config.specs.Codes.{trigger_mode_code};
-ghost use Rattle.field.specs.Field.{code_of};
-ghost use Rattle.checks.specs.Checks.{tracking};
-ghost use Rattle.plans.specs.Configure.{accelerates, top_cfg1, feature_steps, limit_steps, calibration_steps, pid_steps, frequency_steps, rapid_stop_steps, phase_steps, custom_steps, driving_steps, Digit, gpi_address, gpi_byte, gpi_steps, given_steps, trigger_steps, configure_steps};
+ghost use Rattle.plans.specs.Configure.{accelerates, top_cfg1, feature_steps, limit_steps, calibration_steps, pid_steps, frequency_steps, rapid_stop_steps, phase_steps, custom_steps, driving_steps, gpi_steps, trigger_steps, configure_steps};
 
 use config::{ActuatorConfig, DeviceConfig, DrivingMode, TriggerConfig, TriggerMode};
 use exchange::Step;
 use registers::Register;
 use registers_actuator::{ACTUATOR3, FRQ_LRA_PER_L, TOP_CFG1, TOP_CFG2, TOP_CFG4};
 use registers_control::{SEQ_CTL1, TOP_INT_CFG8};
-use registers_trigger::{FRQ_PHASE_L, GPI_0_CTL, GPI_1_CTL, GPI_2_CTL, TOP_CFG5};
+use registers_trigger::{FRQ_PHASE_L, GPI_0_CTL, GPI_1_CTL, GPI_2_CTL, Gpi, TOP_CFG5};
 
 // Everything that `configure` does, once its checks have passed.
 #[tactic(auto, using(exchange::proofs::Pushes::push_append))]
@@ -186,83 +183,18 @@ fn triggers(session: &mut [u8], d: DeviceConfig)
     }
 }
 
-#[tactic(auto, unfolding(crate::specs::Configure::gpi_steps))]
-fn gpi<G: GpiControl>(session: &mut [u8], trigger: Option<TriggerConfig>)
+#[tactic(auto, unfolding(crate::specs::Configure::gpi_steps, crate::specs::Configure::gpi_byte))]
+fn gpi<G: Gpi>(session: &mut [u8], trigger: Option<TriggerConfig>)
     ensures { session.new ≡ pushed_all session.old (gpi_steps G.digit trigger) }
 {
     if let Some(t) = trigger {
-        write(session, G::register(), G::byte(t));
+        let multi = t.mode == TriggerMode::MultiSequence;
+        write(
+            session,
+            G::register(),
+            G::with_all(t.polarity.into(), multi, t.sequence_id),
+        );
     }
-}
-
-// The control register of a GPI, which has the digit in its name and in those of its fields.
-trait GpiControl {
-    ghost digit: { Digit };
-
-    fn register() -> Register
-        ensures { result.0 ≡ gpi_address digit };
-
-    // What it gets of a trigger.
-    fn byte(t: TriggerConfig) -> u8
-        ensures { result ≡ gpi_byte digit t };
-}
-
-impl GpiControl for GPI_0_CTL {
-    ghost digit = { "0" };
-
-    fn register() -> Register {
-        Register::GPI_0_CTL
-    }
-
-    #[tactic(auto, unfolding(crate::specs::Configure::gpi_byte))]
-    fn byte(t: TriggerConfig) -> u8 {
-        GPI_0_CTL::new()
-            .with_GPI0_POLARITY(t.polarity.into())
-            .with_GPI0_MODE(is_multi(t.mode))
-            .with_GPI0_SEQUENCE_ID(t.sequence_id)
-            .bits()
-    }
-}
-
-impl GpiControl for GPI_1_CTL {
-    ghost digit = { "1" };
-
-    fn register() -> Register {
-        Register::GPI_1_CTL
-    }
-
-    #[tactic(auto, unfolding(crate::specs::Configure::gpi_byte))]
-    fn byte(t: TriggerConfig) -> u8 {
-        GPI_1_CTL::new()
-            .with_GPI1_POLARITY(t.polarity.into())
-            .with_GPI1_MODE(is_multi(t.mode))
-            .with_GPI1_SEQUENCE_ID(t.sequence_id)
-            .bits()
-    }
-}
-
-impl GpiControl for GPI_2_CTL {
-    ghost digit = { "2" };
-
-    fn register() -> Register {
-        Register::GPI_2_CTL
-    }
-
-    #[tactic(auto, unfolding(crate::specs::Configure::gpi_byte))]
-    fn byte(t: TriggerConfig) -> u8 {
-        GPI_2_CTL::new()
-            .with_GPI2_POLARITY(t.polarity.into())
-            .with_GPI2_MODE(is_multi(t.mode))
-            .with_GPI2_SEQUENCE_ID(t.sequence_id)
-            .bits()
-    }
-}
-
-// The mode bit of a trigger.
-fn is_multi(mode: TriggerMode) -> bool
-    ensures { code_of result ≡ trigger_mode_code mode }
-{
-    mode == TriggerMode::MultiSequence
 }
 
 // ---- steps on one register
