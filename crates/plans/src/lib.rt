@@ -40,7 +40,7 @@ pub fn frequency(session: &mut [u8], hz: u16)
     let word = convert::period(hz);
     let frq_lra_per_l = FRQ_LRA_PER_L::new().with_LRA_PER_L(convert::low_part(word));
     write(session, Register::FRQ_LRA_PER_H, convert::high_part(word));
-    write(session, Register::FRQ_LRA_PER_L, frq_lra_per_l.bits());
+    write(session, Register::FRQ_LRA_PER_L, frq_lra_per_l.into());
 }
 
 #[tactic(auto, unfolding(crate::specs::Configure::feature_steps))]
@@ -57,7 +57,7 @@ fn features(session: &mut [u8], a: ActuatorConfig, d: DeviceConfig)
         TOP_CFG2::MEM_DATA_SIGNED_WIDTH,
         !accelerates as u8,
     );
-    write(session, Register::TOP_CFG5, top_cfg5.bits());
+    write(session, Register::TOP_CFG5, top_cfg5.into());
 }
 
 fn top_cfg1(a: ActuatorConfig, d: DeviceConfig) -> u8
@@ -72,7 +72,7 @@ fn top_cfg1(a: ActuatorConfig, d: DeviceConfig) -> u8
         .with_RAPID_STOP_EN(tracks && d.rapid_stop)
         .with_AMP_PID_EN(false)
         .with_EMBEDDED_MODE(true)
-        .bits()
+        .into()
 }
 
 // Acceleration is for tracking only.
@@ -97,7 +97,7 @@ fn limits(session: &mut [u8], a: ActuatorConfig)
         Register::ACTUATOR2,
         convert::voltage(a.absolute_max_mV),
     );
-    write(session, Register::ACTUATOR3, actuator3.bits());
+    write(session, Register::ACTUATOR3, actuator3.into());
 }
 
 #[tactic(auto, unfolding(crate::specs::Configure::calibration_steps))]
@@ -108,7 +108,7 @@ fn calibration(session: &mut [u8], a: ActuatorConfig)
     let trim4 = convert::trim4(a.impedance_mOhm, a.inductance_uH);
     write(session, Register::CALIB_V2I_H, (v2i / 256) as u8);
     write(session, Register::CALIB_V2I_L, (v2i % 256) as u8);
-    write(session, Register::TRIM4, trim4.bits());
+    write(session, Register::TRIM4, trim4.into());
 }
 
 #[tactic(auto, unfolding(crate::specs::Configure::pid_steps))]
@@ -157,8 +157,8 @@ fn custom_waveform(session: &mut [u8])
 {
     let seq_ctl1 = SEQ_CTL1::new().with_WAVEGEN_MODE(true);
     let top_cfg4 = TOP_CFG4::new().with_V2I_FACTOR_FREEZE(true);
-    write(session, Register::SEQ_CTL1, seq_ctl1.bits());
-    write(session, Register::TOP_CFG4, top_cfg4.bits());
+    write(session, Register::SEQ_CTL1, seq_ctl1.into());
+    write(session, Register::TOP_CFG4, top_cfg4.into());
 }
 
 #[tactic(auto, unfolding(crate::specs::Configure::phase_steps))]
@@ -169,7 +169,7 @@ fn phase(session: &mut [u8])
         .with_DELAY_SHIFT_L(0)
         .with_DELAY_FREEZE(true);
     write(session, Register::FRQ_PHASE_H, 0);
-    write(session, Register::FRQ_PHASE_L, frq_phase_l.bits());
+    write(session, Register::FRQ_PHASE_L, frq_phase_l.into());
 }
 
 #[tactic(auto, using(exchange::proofs::Pushes::push_append), unfolding(crate::specs::Configure::trigger_steps, crate::specs::Configure::given_steps))]
