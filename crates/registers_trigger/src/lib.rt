@@ -28,12 +28,6 @@ impl SEQ_CTL2 {
         Self::default()
     }
 
-    pub fn bits(self) -> u8
-        ensures { result ≡ self.0 }
-    {
-        self.0
-    }
-
     pub fn PS_SEQ_ID(self) -> u8
         ensures { result ≡ get_at (parts_of "SEQ_CTL2") "PS_SEQ_ID" self.0 }
     {
@@ -97,12 +91,6 @@ impl GPI_0_CTL {
         ensures { result.0 ≡ 0 }
     {
         Self::default()
-    }
-
-    pub fn bits(self) -> u8
-        ensures { result ≡ self.0 }
-    {
-        self.0
     }
 
     pub fn GPI0_POLARITY(self) -> u8
@@ -185,12 +173,6 @@ impl GPI_1_CTL {
         Self::default()
     }
 
-    pub fn bits(self) -> u8
-        ensures { result ≡ self.0 }
-    {
-        self.0
-    }
-
     pub fn GPI1_POLARITY(self) -> u8
         ensures { result ≡ get_at (parts_of "GPI_1_CTL") "GPI1_POLARITY" self.0 }
     {
@@ -269,12 +251,6 @@ impl GPI_2_CTL {
         ensures { result.0 ≡ 0 }
     {
         Self::default()
-    }
-
-    pub fn bits(self) -> u8
-        ensures { result ≡ self.0 }
-    {
-        self.0
     }
 
     pub fn GPI2_POLARITY(self) -> u8
@@ -357,12 +333,6 @@ impl MEM_CTL1 {
         Self::default()
     }
 
-    pub fn bits(self) -> u8
-        ensures { result ≡ self.0 }
-    {
-        self.0
-    }
-
     pub fn WAV_MEM_BASE_ADDR(self) -> u8
         ensures { result ≡ get_at (parts_of "MEM_CTL1") "WAV_MEM_BASE_ADDR" self.0 }
     {
@@ -395,12 +365,6 @@ impl MEM_CTL2 {
         ensures { result.0 ≡ 0 }
     {
         Self::default()
-    }
-
-    pub fn bits(self) -> u8
-        ensures { result ≡ self.0 }
-    {
-        self.0
     }
 
     pub fn WAV_MEM_LOCK(self) -> bool
@@ -443,12 +407,6 @@ impl FRQ_PHASE_H {
         Self::default()
     }
 
-    pub fn bits(self) -> u8
-        ensures { result ≡ self.0 }
-    {
-        self.0
-    }
-
     pub fn DELAY_H(self) -> u8
         ensures { result ≡ get_at (parts_of "FRQ_PHASE_H") "DELAY_H" self.0 }
     {
@@ -487,12 +445,6 @@ impl FRQ_PHASE_L {
         ensures { result.0 ≡ 0 }
     {
         Self::default()
-    }
-
-    pub fn bits(self) -> u8
-        ensures { result ≡ self.0 }
-    {
-        self.0
     }
 
     pub fn DELAY_SHIFT_L(self) -> u8
@@ -547,12 +499,6 @@ impl TRIM4 {
         Self::default()
     }
 
-    pub fn bits(self) -> u8
-        ensures { result ≡ self.0 }
-    {
-        self.0
-    }
-
     pub fn LOOP_FILT_RES_TRIM(self) -> u8
         ensures { result ≡ get_at (parts_of "TRIM4") "LOOP_FILT_RES_TRIM" self.0 }
     {
@@ -605,12 +551,6 @@ impl TOP_CFG5 {
         Self::default()
     }
 
-    pub fn bits(self) -> u8
-        ensures { result ≡ self.0 }
-    {
-        self.0
-    }
-
     pub fn V2I_FACTOR_OFFSET_EN(self) -> bool
         ensures { result ≡ is_at (parts_of "TOP_CFG5") "V2I_FACTOR_OFFSET_EN" self.0 }
     {
@@ -649,12 +589,6 @@ impl IRQ_MASK2 {
         ensures { result.0 ≡ 0 }
     {
         Self::default()
-    }
-
-    pub fn bits(self) -> u8
-        ensures { result ≡ self.0 }
-    {
-        self.0
     }
 
     pub fn ADC_SAT_M(self) -> bool
