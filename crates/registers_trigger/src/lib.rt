@@ -78,7 +78,7 @@ pub trait Gpi {
         ensures { result.0 ≡ address_of (gpi_name digit) };
 
     // The register's byte with these fields.
-    fn with_all(polarity: u8, multi: bool, sequence_id: u8) -> u8
+    fn byte(polarity: u8, multi: bool, sequence_id: u8) -> u8
         ensures { result ≡ gpi_with digit polarity (code_of multi) sequence_id };
 }
 
@@ -153,7 +153,7 @@ impl Gpi for GPI_0_CTL {
         Register::GPI_0_CTL
     }
 
-    fn with_all(polarity: u8, multi: bool, sequence_id: u8) -> u8 {
+    fn byte(polarity: u8, multi: bool, sequence_id: u8) -> u8 {
         GPI_0_CTL::new()
             .with_GPI0_POLARITY(polarity)
             .with_GPI0_MODE(multi)
@@ -233,7 +233,7 @@ impl Gpi for GPI_1_CTL {
         Register::GPI_1_CTL
     }
 
-    fn with_all(polarity: u8, multi: bool, sequence_id: u8) -> u8 {
+    fn byte(polarity: u8, multi: bool, sequence_id: u8) -> u8 {
         GPI_1_CTL::new()
             .with_GPI1_POLARITY(polarity)
             .with_GPI1_MODE(multi)
@@ -313,7 +313,7 @@ impl Gpi for GPI_2_CTL {
         Register::GPI_2_CTL
     }
 
-    fn with_all(polarity: u8, multi: bool, sequence_id: u8) -> u8 {
+    fn byte(polarity: u8, multi: bool, sequence_id: u8) -> u8 {
         GPI_2_CTL::new()
             .with_GPI2_POLARITY(polarity)
             .with_GPI2_MODE(multi)
