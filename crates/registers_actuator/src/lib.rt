@@ -24,12 +24,6 @@ impl FRQ_LRA_PER_H {
         Self::default()
     }
 
-    pub fn bits(self) -> u8
-        ensures { result ≡ self.0 }
-    {
-        self.0
-    }
-
     pub fn LRA_PER_H(self) -> u8
         ensures { result ≡ get_at (parts_of "FRQ_LRA_PER_H") "LRA_PER_H" self.0 }
     {
@@ -68,12 +62,6 @@ impl FRQ_LRA_PER_L {
         ensures { result.0 ≡ 0 }
     {
         Self::default()
-    }
-
-    pub fn bits(self) -> u8
-        ensures { result ≡ self.0 }
-    {
-        self.0
     }
 
     pub fn LRA_PER_L(self) -> u8
@@ -116,12 +104,6 @@ impl ACTUATOR1 {
         Self::default()
     }
 
-    pub fn bits(self) -> u8
-        ensures { result ≡ self.0 }
-    {
-        self.0
-    }
-
     pub fn ACTUATOR_NOMMAX(self) -> u8
         ensures { result ≡ get_at (parts_of "ACTUATOR1") "ACTUATOR_NOMMAX" self.0 }
     {
@@ -160,12 +142,6 @@ impl ACTUATOR2 {
         ensures { result.0 ≡ 0 }
     {
         Self::default()
-    }
-
-    pub fn bits(self) -> u8
-        ensures { result ≡ self.0 }
-    {
-        self.0
     }
 
     pub fn ACTUATOR_ABSMAX(self) -> u8
@@ -208,12 +184,6 @@ impl ACTUATOR3 {
         Self::default()
     }
 
-    pub fn bits(self) -> u8
-        ensures { result ≡ self.0 }
-    {
-        self.0
-    }
-
     pub fn IMAX(self) -> u8
         ensures { result ≡ get_at (parts_of "ACTUATOR3") "IMAX" self.0 }
     {
@@ -252,12 +222,6 @@ impl CALIB_V2I_H {
         ensures { result.0 ≡ 0 }
     {
         Self::default()
-    }
-
-    pub fn bits(self) -> u8
-        ensures { result ≡ self.0 }
-    {
-        self.0
     }
 
     pub fn V2I_FACTOR_H(self) -> u8
@@ -300,12 +264,6 @@ impl CALIB_V2I_L {
         Self::default()
     }
 
-    pub fn bits(self) -> u8
-        ensures { result ≡ self.0 }
-    {
-        self.0
-    }
-
     pub fn V2I_FACTOR_L(self) -> u8
         ensures { result ≡ get_at (parts_of "CALIB_V2I_L") "V2I_FACTOR_L" self.0 }
     {
@@ -344,12 +302,6 @@ impl TOP_CFG1 {
         ensures { result.0 ≡ 0 }
     {
         Self::default()
-    }
-
-    pub fn bits(self) -> u8
-        ensures { result ≡ self.0 }
-    {
-        self.0
     }
 
     pub fn AMP_PID_EN(self) -> bool
@@ -470,12 +422,6 @@ impl TOP_CFG2 {
         Self::default()
     }
 
-    pub fn bits(self) -> u8
-        ensures { result ≡ self.0 }
-    {
-        self.0
-    }
-
     pub fn FULL_BRAKE_THR(self) -> u8
         ensures { result ≡ get_at (parts_of "TOP_CFG2") "FULL_BRAKE_THR" self.0 }
     {
@@ -526,12 +472,6 @@ impl TOP_CFG4 {
         ensures { result.0 ≡ 0 }
     {
         Self::default()
-    }
-
-    pub fn bits(self) -> u8
-        ensures { result ≡ self.0 }
-    {
-        self.0
     }
 
     pub fn TST_CALIB_IMPEDANCE_DIS(self) -> bool

@@ -24,12 +24,6 @@ impl TOP_INT_CFG1 {
         Self::default()
     }
 
-    pub fn bits(self) -> u8
-        ensures { result ≡ self.0 }
-    {
-        self.0
-    }
-
     pub fn BEMF_FAULT_LIM(self) -> u8
         ensures { result ≡ get_at (parts_of "TOP_INT_CFG1") "BEMF_FAULT_LIM" self.0 }
     {
@@ -82,12 +76,6 @@ impl TOP_INT_CFG6_H {
         Self::default()
     }
 
-    pub fn bits(self) -> u8
-        ensures { result ≡ self.0 }
-    {
-        self.0
-    }
-
     pub fn FRQ_PID_Kp_H(self) -> u8
         ensures { result ≡ get_at (parts_of "TOP_INT_CFG6_H") "FRQ_PID_Kp_H" self.0 }
     {
@@ -126,12 +114,6 @@ impl TOP_INT_CFG6_L {
         ensures { result.0 ≡ 0 }
     {
         Self::default()
-    }
-
-    pub fn bits(self) -> u8
-        ensures { result ≡ self.0 }
-    {
-        self.0
     }
 
     pub fn FRQ_PID_Kp_L(self) -> u8
@@ -174,12 +156,6 @@ impl TOP_INT_CFG7_H {
         Self::default()
     }
 
-    pub fn bits(self) -> u8
-        ensures { result ≡ self.0 }
-    {
-        self.0
-    }
-
     pub fn FRQ_PID_Ki_H(self) -> u8
         ensures { result ≡ get_at (parts_of "TOP_INT_CFG7_H") "FRQ_PID_Ki_H" self.0 }
     {
@@ -218,12 +194,6 @@ impl TOP_INT_CFG7_L {
         ensures { result.0 ≡ 0 }
     {
         Self::default()
-    }
-
-    pub fn bits(self) -> u8
-        ensures { result ≡ self.0 }
-    {
-        self.0
     }
 
     pub fn FRQ_PID_Ki_L(self) -> u8
@@ -269,12 +239,6 @@ impl TOP_INT_CFG8 {
         ensures { result.0 ≡ 0 }
     {
         Self::default()
-    }
-
-    pub fn bits(self) -> u8
-        ensures { result ≡ self.0 }
-    {
-        self.0
     }
 
     pub fn FRQ_TRACK_BEMF_LIM(self) -> u8
@@ -345,12 +309,6 @@ impl TOP_CTL1 {
         ensures { result.0 ≡ 0 }
     {
         Self::default()
-    }
-
-    pub fn bits(self) -> u8
-        ensures { result ≡ self.0 }
-    {
-        self.0
     }
 
     pub fn OPERATION_MODE(self) -> u8
@@ -426,12 +384,6 @@ impl TOP_CTL2 {
         Self::default()
     }
 
-    pub fn bits(self) -> u8
-        ensures { result ≡ self.0 }
-    {
-        self.0
-    }
-
     pub fn OVERRIDE_VAL(self) -> u8
         ensures { result ≡ get_at (parts_of "TOP_CTL2") "OVERRIDE_VAL" self.0 }
     {
@@ -475,12 +427,6 @@ impl SEQ_CTL1 {
         ensures { result.0 ≡ 0 }
     {
         Self::default()
-    }
-
-    pub fn bits(self) -> u8
-        ensures { result ≡ self.0 }
-    {
-        self.0
     }
 
     pub fn SEQ_CONTINUE(self) -> bool
@@ -556,12 +502,6 @@ impl SWG_C1 {
         Self::default()
     }
 
-    pub fn bits(self) -> u8
-        ensures { result ≡ self.0 }
-    {
-        self.0
-    }
-
     pub fn CUSTOM_WAVE_GEN_COEFF1(self) -> u8
         ensures { result ≡ get_at (parts_of "SWG_C1") "CUSTOM_WAVE_GEN_COEFF1" self.0 }
     {
@@ -602,12 +542,6 @@ impl SWG_C2 {
         Self::default()
     }
 
-    pub fn bits(self) -> u8
-        ensures { result ≡ self.0 }
-    {
-        self.0
-    }
-
     pub fn CUSTOM_WAVE_GEN_COEFF2(self) -> u8
         ensures { result ≡ get_at (parts_of "SWG_C2") "CUSTOM_WAVE_GEN_COEFF2" self.0 }
     {
@@ -646,12 +580,6 @@ impl SWG_C3 {
         ensures { result.0 ≡ 0 }
     {
         Self::default()
-    }
-
-    pub fn bits(self) -> u8
-        ensures { result ≡ self.0 }
-    {
-        self.0
     }
 
     pub fn CUSTOM_WAVE_GEN_COEFF3(self) -> u8

@@ -25,12 +25,6 @@ impl CHIP_REV {
         Self::default()
     }
 
-    pub fn bits(self) -> u8
-        ensures { result ≡ self.0 }
-    {
-        self.0
-    }
-
     pub fn CHIP_REV_MAJOR(self) -> u8
         ensures { result ≡ get_at (parts_of "CHIP_REV") "CHIP_REV_MAJOR" self.0 }
     {
@@ -69,12 +63,6 @@ impl IRQ_EVENT1 {
         ensures { result.0 ≡ 0 }
     {
         Self::default()
-    }
-
-    pub fn bits(self) -> u8
-        ensures { result ≡ self.0 }
-    {
-        self.0
     }
 
     pub fn E_SEQ_CONTINUE(self) -> bool
@@ -201,12 +189,6 @@ impl IRQ_EVENT_WARNING_DIAG {
         Self::default()
     }
 
-    pub fn bits(self) -> u8
-        ensures { result ≡ self.0 }
-    {
-        self.0
-    }
-
     pub fn E_OVERTEMP_WARN(self) -> bool
         ensures { result ≡ is_at (parts_of "IRQ_EVENT_WARNING_DIAG") "E_OVERTEMP_WARN" self.0 }
     {
@@ -283,12 +265,6 @@ impl IRQ_EVENT_SEQ_DIAG {
         Self::default()
     }
 
-    pub fn bits(self) -> u8
-        ensures { result ≡ self.0 }
-    {
-        self.0
-    }
-
     pub fn E_PWM_FAULT(self) -> bool
         ensures { result ≡ is_at (parts_of "IRQ_EVENT_SEQ_DIAG") "E_PWM_FAULT" self.0 }
     {
@@ -351,12 +327,6 @@ impl IRQ_STATUS1 {
         ensures { result.0 ≡ 0 }
     {
         Self::default()
-    }
-
-    pub fn bits(self) -> u8
-        ensures { result ≡ self.0 }
-    {
-        self.0
     }
 
     pub fn STA_SEQ_CONTINUE(self) -> bool
@@ -481,12 +451,6 @@ impl IRQ_MASK1 {
         ensures { result.0 ≡ 0 }
     {
         Self::default()
-    }
-
-    pub fn bits(self) -> u8
-        ensures { result ≡ self.0 }
-    {
-        self.0
     }
 
     pub fn SEQ_CONTINUE_M(self) -> bool

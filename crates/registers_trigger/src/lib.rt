@@ -28,12 +28,6 @@ impl SEQ_CTL2 {
         Self::default()
     }
 
-    pub fn bits(self) -> u8
-        ensures { result ≡ self.0 }
-    {
-        self.0
-    }
-
     pub fn PS_SEQ_ID(self) -> u8
         ensures { result ≡ get_at (parts_of "SEQ_CTL2") "PS_SEQ_ID" self.0 }
     {
@@ -84,7 +78,7 @@ pub trait Gpi {
         ensures { result.0 ≡ address_of (gpi_name digit) };
 
     // The register's byte with these fields.
-    fn with_all(polarity: u8, multi: bool, sequence_id: u8) -> u8
+    fn byte(polarity: u8, multi: bool, sequence_id: u8) -> u8
         ensures { result ≡ gpi_with digit polarity (code_of multi) sequence_id };
 }
 
@@ -97,12 +91,6 @@ impl GPI_0_CTL {
         ensures { result.0 ≡ 0 }
     {
         Self::default()
-    }
-
-    pub fn bits(self) -> u8
-        ensures { result ≡ self.0 }
-    {
-        self.0
     }
 
     pub fn GPI0_POLARITY(self) -> u8
@@ -165,7 +153,7 @@ impl Gpi for GPI_0_CTL {
         Register::GPI_0_CTL
     }
 
-    fn with_all(polarity: u8, multi: bool, sequence_id: u8) -> u8 {
+    fn byte(polarity: u8, multi: bool, sequence_id: u8) -> u8 {
         GPI_0_CTL::new()
             .with_GPI0_POLARITY(polarity)
             .with_GPI0_MODE(multi)
@@ -183,12 +171,6 @@ impl GPI_1_CTL {
         ensures { result.0 ≡ 0 }
     {
         Self::default()
-    }
-
-    pub fn bits(self) -> u8
-        ensures { result ≡ self.0 }
-    {
-        self.0
     }
 
     pub fn GPI1_POLARITY(self) -> u8
@@ -251,7 +233,7 @@ impl Gpi for GPI_1_CTL {
         Register::GPI_1_CTL
     }
 
-    fn with_all(polarity: u8, multi: bool, sequence_id: u8) -> u8 {
+    fn byte(polarity: u8, multi: bool, sequence_id: u8) -> u8 {
         GPI_1_CTL::new()
             .with_GPI1_POLARITY(polarity)
             .with_GPI1_MODE(multi)
@@ -269,12 +251,6 @@ impl GPI_2_CTL {
         ensures { result.0 ≡ 0 }
     {
         Self::default()
-    }
-
-    pub fn bits(self) -> u8
-        ensures { result ≡ self.0 }
-    {
-        self.0
     }
 
     pub fn GPI2_POLARITY(self) -> u8
@@ -337,7 +313,7 @@ impl Gpi for GPI_2_CTL {
         Register::GPI_2_CTL
     }
 
-    fn with_all(polarity: u8, multi: bool, sequence_id: u8) -> u8 {
+    fn byte(polarity: u8, multi: bool, sequence_id: u8) -> u8 {
         GPI_2_CTL::new()
             .with_GPI2_POLARITY(polarity)
             .with_GPI2_MODE(multi)
@@ -355,12 +331,6 @@ impl MEM_CTL1 {
         ensures { result.0 ≡ 0 }
     {
         Self::default()
-    }
-
-    pub fn bits(self) -> u8
-        ensures { result ≡ self.0 }
-    {
-        self.0
     }
 
     pub fn WAV_MEM_BASE_ADDR(self) -> u8
@@ -395,12 +365,6 @@ impl MEM_CTL2 {
         ensures { result.0 ≡ 0 }
     {
         Self::default()
-    }
-
-    pub fn bits(self) -> u8
-        ensures { result ≡ self.0 }
-    {
-        self.0
     }
 
     pub fn WAV_MEM_LOCK(self) -> bool
@@ -443,12 +407,6 @@ impl FRQ_PHASE_H {
         Self::default()
     }
 
-    pub fn bits(self) -> u8
-        ensures { result ≡ self.0 }
-    {
-        self.0
-    }
-
     pub fn DELAY_H(self) -> u8
         ensures { result ≡ get_at (parts_of "FRQ_PHASE_H") "DELAY_H" self.0 }
     {
@@ -487,12 +445,6 @@ impl FRQ_PHASE_L {
         ensures { result.0 ≡ 0 }
     {
         Self::default()
-    }
-
-    pub fn bits(self) -> u8
-        ensures { result ≡ self.0 }
-    {
-        self.0
     }
 
     pub fn DELAY_SHIFT_L(self) -> u8
@@ -547,12 +499,6 @@ impl TRIM4 {
         Self::default()
     }
 
-    pub fn bits(self) -> u8
-        ensures { result ≡ self.0 }
-    {
-        self.0
-    }
-
     pub fn LOOP_FILT_RES_TRIM(self) -> u8
         ensures { result ≡ get_at (parts_of "TRIM4") "LOOP_FILT_RES_TRIM" self.0 }
     {
@@ -605,12 +551,6 @@ impl TOP_CFG5 {
         Self::default()
     }
 
-    pub fn bits(self) -> u8
-        ensures { result ≡ self.0 }
-    {
-        self.0
-    }
-
     pub fn V2I_FACTOR_OFFSET_EN(self) -> bool
         ensures { result ≡ is_at (parts_of "TOP_CFG5") "V2I_FACTOR_OFFSET_EN" self.0 }
     {
@@ -649,12 +589,6 @@ impl IRQ_MASK2 {
         ensures { result.0 ≡ 0 }
     {
         Self::default()
-    }
-
-    pub fn bits(self) -> u8
-        ensures { result ≡ self.0 }
-    {
-        self.0
     }
 
     pub fn ADC_SAT_M(self) -> bool
