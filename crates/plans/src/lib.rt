@@ -192,7 +192,7 @@ fn gpi<G: Gpi>(session: &mut [u8], trigger: Option<TriggerConfig>)
         write(
             session,
             G::register(),
-            G::with_all(t.polarity.into(), multi, t.sequence_id),
+            G::byte(t.polarity.into(), multi, t.sequence_id),
         );
     }
 }
