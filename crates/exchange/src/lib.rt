@@ -148,6 +148,7 @@ pub struct Opening<'a> {
 }
 
 // Begins a session without steps; the caller's bytes stay as they are if they are not as many as a session has.
+#[inline]
 #[tactic(auto, unfolding(crate::specs::State::begun_in))]
 pub fn begin(session: &mut [u8], opening: Opening<'_>)
     ensures { session.new
