@@ -4,7 +4,6 @@ use mathlib.Core.Path.{◌≡◌, refl, ap, ◌∙◌}
 use mathlib.Core.List.{List, [], ◌∷◌, ◌++◌}
 use lib.ListN.{length}
 use Rattle.exchange.specs.declared.Step.{Step}
-use Rattle.exchange.specs.declared.Step.TheVariants.{Read, Update}
 use Rattle.exchange.specs.State.{Begun, begun_with, begun_in, pushed, pushed_all}
 use Rattle.exchange.proofs.Pushes.{pushes}
 use Rattle.da728x.specs.declared.DA728x.{DA728x}
