@@ -7,7 +7,8 @@
 // exchanges are those of the steps, in order, and the count is true.
 #![tactic(auto)]
 
-ghost use Rattle.std.specs.Prelude.{◌≡◌, cond, ◌+◌, ◌*◌, ◌≤◌, ◌<◌, min, [], ◌∷◌, length, set};
+ghost use Rattle.std.specs.Prelude.{◌≡◌, cond, not, ◌&&◌, ◌+◌, ◌*◌, ◌<◌, min, [], ◌∷◌, eqb, length, take, set};
+ghost use Rattle.errors.specs.Number.{answer_number};
 ghost use Rattle.laws.specs.Copied.{over};
 ghost use Rattle.laws.specs.Lists.{at};
 ghost use Rattle.exchange.specs.Steps.{exchange, memory_address, chunk, exchange_for, step_bytes, step_of};
@@ -79,6 +80,15 @@ pub struct Exchange {
     pub wanted: u8,
 }
 
+impl Exchange {
+    // The bytes to send.
+    pub fn sent(&self) -> &[u8]
+        ensures { result.now ≡ take self.now.len self.now.bytes }
+    {
+        &self.bytes[..(self.len as usize).min(33)]
+    }
+}
+
 // What the bus answers.
 #[derive(Debug, Clone, Copy, PartialEq, Eq)]
 pub enum Reply {
@@ -93,6 +103,25 @@ pub struct Turn {
     pub answer: Result<(), Error>,
     pub made: u8,
     pub ended: bool,
+}
+
+impl Turn {
+    // Whether this was the last success.
+    pub fn is_last(self) -> bool
+        ensures { result ≡ self.ended && eqb (answer_number self.answer) 0 }
+    {
+        self.ended && self.answer.is_ok()
+    }
+
+    // Whether the answer was taken, and not refused out of turn.
+    pub fn is_taken(self) -> bool
+        ensures { result ≡ not (eqb (answer_number self.answer) 19) }
+    {
+        match self.answer {
+            Ok(()) => true,
+            Err(e) => e != Error::OutOfTurn,
+        }
+    }
 }
 
 // How an answer fits a step: not at all; a failure; a write done; a byte read; one for the buffer's index; not the byte that it must be.
@@ -127,10 +156,10 @@ pub fn begin(session: &mut [u8], opening: Opening<'_>)
     if session.len() == SESSION_SIZE {
         let image = opening.image;
         let record = opening.record;
-        lay(session, 0, &heading(opening));
-        lay(session, IMAGE, image);
-        lay(session, RECORD, record);
-        lay(session, PLAN, &[0u8; 125]);
+        laws::lay(session, 0, &heading(opening));
+        laws::lay(session, IMAGE, image);
+        laws::lay(session, RECORD, record);
+        laws::lay(session, PLAN, &[0u8; 125]);
     }
 }
 
@@ -160,14 +189,6 @@ fn heading(opening: Opening<'_>) -> [u8; 17]
     ]
 }
 
-// Lays bytes over the caller's from an index on.
-fn lay(lent: &mut [u8], at: usize, bytes: &[u8])
-    requires { at + length bytes.now ≤ length lent.old }
-    ensures { lent.new ≡ over lent.old at bytes.now }
-{
-    laws::copy_into(&mut lent[at..], bytes);
-}
-
 // A step more, where there is room for it.
 #[tactic(auto, unfolding(crate::specs::State::pushed))]
 pub fn push(session: &mut [u8], step: Step)
@@ -177,7 +198,7 @@ pub fn push(session: &mut [u8], step: Step)
         let n = session[STEPS];
         if n < MOST_STEPS {
             session[STEPS] = n + 1;
-            lay(session, PLAN + 5 * (n as usize), &<[u8; 5]>::from(step));
+            laws::lay(session, PLAN + 5 * (n as usize), &<[u8; 5]>::from(step));
         }
     }
 }
@@ -325,7 +346,7 @@ fn uploading(address: u8, image: &[u8], offset: u8, len: u8) -> Exchange
     let mut bytes = [0u8; 33];
     bytes[0] = memory_address(offset);
     let behind = from + n as usize;
-    lay(&mut bytes, 1, &image[from..behind]);
+    laws::lay(&mut bytes, 1, &image[from..behind]);
     Exchange {
         address,
         bytes,
@@ -391,7 +412,7 @@ fn go_on(session: &mut [u8], stage: u8)
         session[LAST + 1],
         session[LAST + 2],
     ];
-    lay(session, STAGE, &bytes);
+    laws::lay(session, STAGE, &bytes);
 }
 
 // An exchange more, with the byte that was read.
@@ -406,7 +427,7 @@ fn take_in(session: &mut [u8], stage: u8, b: u8)
         session[LAST],
         session[LAST + 1],
     ];
-    lay(session, STAGE, &bytes);
+    laws::lay(session, STAGE, &bytes);
 }
 
 // A byte goes to its own index, if the buffer has one.

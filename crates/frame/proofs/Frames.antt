@@ -1,5 +1,7 @@
 -- Admitted frames agree, in the words of demand 3, exactly when their bytes are the same.
 -- Assumes nothing.
+use Rattle.std.specs.Prelude.{Some, None}
+use Rattle.std.specs.declared.option.Option as rust
 use mathlib.Core.Path.{◌≡◌, sym, ap, ◌∙◌}
 use mathlib.Core.Bool.{Bool, true, false, cond}
 use mathlib.Core.Logic.{◌↔◌}
@@ -8,8 +10,6 @@ use mathlib.Core.Option.{some, some-injective}
 use Prim.Native.Nat.{ℕ, ◌<◌}
 use native.Mathlib.Omega.{arith}
 use Rattle.laws.specs.Bytes.{Bytes}
-use Rattle.frame.specs.declared.LoopCount.{LoopCount}
-use Rattle.frame.specs.declared.Frequency.{Frequency}
 use Rattle.frame.specs.declared.FrameBuilder.{FrameBuilder}
 use Rattle.frame.specs.Agreement.{Agree, FrameAdmitted}
 use Rattle.frame.specs.Frame.{bytes_of, has_second, second_byte}
@@ -19,17 +19,17 @@ use Rattle.frame.proofs.Canon.{canon, canon_agree, agree_canon}
 use Rattle.frame.proofs.Reading.{first_small, complete}
 use Rattle.frame.proofs.Written.{sound}
 
-loops_small : (k : LoopCount) → loops k < 16
-loops_small LoopCount.Absent = omega arith
-loops_small (LoopCount.Given k) = omega arith
+loops_small : (k : rust.Option ℕ) → loops k < 16
+loops_small None = omega arith
+loops_small (Some k) = omega arith
 
-frequency_small : (q : Frequency) → frequency_bits q < 7
-frequency_small Frequency.Absent = omega arith
-frequency_small (Frequency.Given q) = omega arith
+frequency_small : (q : rust.Option ℕ) → frequency_bits q < 7
+frequency_small None = omega arith
+frequency_small (Some q) = omega arith
 
-third_bytes : (q : Frequency) → Bytes (third_byte q)
-third_bytes Frequency.Absent = tt
-third_bytes (Frequency.Given q) = (omega arith, tt)
+third_bytes : (q : rust.Option ℕ) → Bytes (third_byte q)
+third_bytes None = tt
+third_bytes (Some q) = (omega arith, tt)
 
 -- a frame's bytes are bytes
 pub frame_bytes_lem : (f : FrameBuilder) → Bytes (bytes_of f)

@@ -1,5 +1,6 @@
 -- Reading undoes writing: a frame's bytes, and any bytes that begin no second byte, are read to the frame and the rest.
 -- Assumes nothing.
+use Rattle.std.specs.Prelude.{Option, Some, None}
 use mathlib.Core.Path.{◌≡◌, refl, sym, ap, ◌∙◌}
 use mathlib.Core.Bool.{Bool, true, false, ◌||◌}
 use mathlib.Core.List.{List, [], ◌∷◌, ◌++◌}
@@ -11,8 +12,6 @@ use Rattle.frame.specs.declared.Gain.{Gain}
 use Rattle.frame.specs.declared.Gain.TheVariants.{Full, Half, Quarter, Eighth}
 use Rattle.frame.specs.declared.Timebase.{Timebase}
 use Rattle.frame.specs.declared.Timebase.TheVariants.{Ms5_44, Ms21_76, Ms43_52, Ms87_04}
-use Rattle.frame.specs.declared.LoopCount.{LoopCount}
-use Rattle.frame.specs.declared.Frequency.{Frequency}
 use Rattle.frame.specs.declared.FrameBuilder.{FrameBuilder}
 use Rattle.frame.specs.Agreement.{FrameAdmitted}
 use Rattle.frame.specs.Builder.{frame_with}
@@ -46,7 +45,7 @@ module _ (f : FrameBuilder) where
   pub first_small : first_byte f < 128
   first_small = (first_back (gain_code f.gain) (timebase_code f.timebase) f.snippet_id (gain_back f.gain).1 (timebase_back f.timebase).1).0
 
-  fields_back : (n : ℕ) (k : LoopCount) (q : Frequency) → n ≡ f.snippet_id → k ≡ written (absent_is_zero f.snippet_id f.frequency) f.loop_count → q ≡ f.frequency
+  fields_back : (n : ℕ) (k : Option ℕ) (q : Option ℕ) → n ≡ f.snippet_id → k ≡ written (absent_is_zero f.snippet_id f.frequency) f.loop_count → q ≡ f.frequency
       → fields_in (first_byte f) n k q ≡ canon f
   unfolding canon
   fields_back n k q en ek eq =
@@ -89,7 +88,7 @@ module _ (f : FrameBuilder) (h : FrameAdmitted f) (r : List ℕ) where
   first_low : first_byte f % 8 ≡ f.snippet_id % 8
   first_low = omega (arith, (gain_back f.gain).1, (timebase_back f.timebase).1)
 
-  one_complete : f.frequency ≡ Frequency.Absent → f.loop_count ≡ LoopCount.Absent → leb 8 f.snippet_id ≡ false → Starts r
+  one_complete : f.frequency ≡ None → f.loop_count ≡ None → leb 8 f.snippet_id ≡ false → Starts r
       → read_frame (bytes_of f ++ r) ≡ parsed (canon f) r
   one_complete eq ek en s =
       let l : f.snippet_id < 8 = leb-false 8 f.snippet_id en in
@@ -98,8 +97,8 @@ module _ (f : FrameBuilder) (h : FrameAdmitted f) (r : List ℕ) where
       (read_one (first_byte f) r (first_small f) s
       ∙ ap (λ (g : FrameBuilder). parsed g r) (fields_back f _ _ _ (first_low ∙ omega arith) (simp (eq, ek, en)) (sym eq)))
 
-  two_complete : (k : ℕ) → k ≤ 15 → f.frequency ≡ Frequency.Absent → (loop_given f.loop_count || leb 8 (f.snippet_id % 16)) ≡ true → loops f.loop_count ≡ k
-      → written (leb 8 f.snippet_id) f.loop_count ≡ LoopCount.Given k
+  two_complete : (k : ℕ) → k ≤ 15 → f.frequency ≡ None → (loop_given f.loop_count || leb 8 (f.snippet_id % 16)) ≡ true → loops f.loop_count ≡ k
+      → written (leb 8 f.snippet_id) f.loop_count ≡ Some k
       → read_frame (bytes_of f ++ r) ≡ parsed (canon f) r
   two_complete k hk eq es ek ew =
       let b = two_back k f.snippet_id hk in
@@ -107,10 +106,10 @@ module _ (f : FrameBuilder) (h : FrameAdmitted f) (r : List ℕ) where
       ap read_frame e
       ∙ read_two (first_byte f) _ r (first_small f) b.0 b.1 b.2
       ∙ ap (λ (g : FrameBuilder). parsed g r)
-      (fields_back f _ _ _ (number_back _ _ _ h.number_fits b.4 first_low) (ap LoopCount.Given b.3 ∙ sym ew ∙ simp eq) (sym eq))
+      (fields_back f _ _ _ (number_back _ _ _ h.number_fits b.4 first_low) (ap Some b.3 ∙ sym ew ∙ simp eq) (sym eq))
 
-  three_complete : (k q : ℕ) → k ≤ 15 → q ≤ 511 → f.frequency ≡ Frequency.Given q → loops f.loop_count ≡ k
-      → written true f.loop_count ≡ LoopCount.Given k
+  three_complete : (k q : ℕ) → k ≤ 15 → q ≤ 511 → f.frequency ≡ Some q → loops f.loop_count ≡ k
+      → written true f.loop_count ≡ Some k
       → read_frame (bytes_of f ++ r) ≡ parsed (canon f) r
   three_complete k q hk hq eq ek ew =
       let b = three_back k q f.snippet_id hk in
@@ -119,28 +118,28 @@ module _ (f : FrameBuilder) (h : FrameAdmitted f) (r : List ℕ) where
       ap read_frame e
       ∙ read_three (first_byte f) _ (q % 256) r (first_small f) b.0 b.1
       ∙ ap (λ (g : FrameBuilder). parsed g r)
-      (fields_back f _ _ _ (number_back _ _ _ h.number_fits b.4 first_low) (ap LoopCount.Given b.3 ∙ sym ew ∙ simp eq)
-      (ap Frequency.Given (ap (λ (x : ℕ). x * 256 + q % 256) b.2 ∙ d) ∙ sym eq))
+      (fields_back f _ _ _ (number_back _ _ _ h.number_fits b.4 first_low) (ap Some b.3 ∙ sym ew ∙ simp eq)
+      (ap Some (ap (λ (x : ℕ). x * 256 + q % 256) b.2 ∙ d) ∙ sym eq))
 
   pub complete : Starts r → read_frame (bytes_of f ++ r) ≡ parsed (canon f) r
   complete s = go f.loop_count f.frequency refl refl h.loop_fits h.frequency_fits where
-    high : (t : Bool) → leb 8 f.snippet_id ≡ t → f.loop_count ≡ LoopCount.Absent → f.frequency ≡ Frequency.Absent → read_frame (bytes_of f ++ r) ≡ parsed (canon f) r
+    high : (t : Bool) → leb 8 f.snippet_id ≡ t → f.loop_count ≡ None → f.frequency ≡ None → read_frame (bytes_of f ++ r) ≡ parsed (canon f) r
     high false e ek eq = one_complete eq ek e s
     high true e ek eq =
         let l : 8 ≤ f.snippet_id = leb-true 8 f.snippet_id e in
         let m : leb 8 (f.snippet_id % 16) ≡ true = le-leb 8 (f.snippet_id % 16) (omega (arith, h.number_fits)) in
         two_complete 0 (omega arith) eq (simp (ek, m)) (simp ek) (simp (ek, e))
 
-    go : (k : LoopCount) (q : Frequency) → f.loop_count ≡ k → f.frequency ≡ q → LoopAdmitted f.loop_count → FrequencyAdmitted f.frequency
+    go : (k : Option ℕ) (q : Option ℕ) → f.loop_count ≡ k → f.frequency ≡ q → LoopAdmitted f.loop_count → FrequencyAdmitted f.frequency
         → read_frame (bytes_of f ++ r) ≡ parsed (canon f) r
-    go LoopCount.Absent Frequency.Absent ek eq hk hq = high (leb 8 f.snippet_id) refl ek eq
-    go (LoopCount.Given k) Frequency.Absent ek eq hk hq =
+    go None None ek eq hk hq = high (leb 8 f.snippet_id) refl ek eq
+    go (Some k) None ek eq hk hq =
         let hk' : k ≤ 15 = rw ek at hk in
         let m : k % 16 ≡ k = omega arith in
         two_complete k hk' eq (simp ek) (simp ek m) (simp ek)
-    go LoopCount.Absent (Frequency.Given q) ek eq hk hq =
+    go None (Some q) ek eq hk hq =
         three_complete 0 q (omega arith) (rw eq at hq) eq (simp ek) (simp ek)
-    go (LoopCount.Given k) (Frequency.Given q) ek eq hk hq =
+    go (Some k) (Some q) ek eq hk hq =
         let hk' : k ≤ 15 = rw ek at hk in
         let m : k % 16 ≡ k = omega arith in
         three_complete k q hk' (rw eq at hq) eq (simp ek m) (simp ek)

@@ -1,5 +1,7 @@
 -- What is read is a frame's bytes: the fields that reading gives are admitted, and written they are the bytes that were read.
 -- Assumes nothing.
+use Rattle.std.specs.Prelude.{Some, None}
+use Rattle.std.specs.declared.option.Option as rust
 use mathlib.Core.Path.{◌≡◌, refl, ap, subst}
 use mathlib.Core.Bool.{Bool, true, false, cond}
 use mathlib.Core.List.{List, [], ◌∷◌, ◌++◌}
@@ -10,8 +12,6 @@ use borrow.Author.Tests.{lt-leb, ltb-true, ltb-false}
 use lib.Dec.{ltb, leb}
 use Rattle.laws.specs.Bytes.{Bytes}
 use Rattle.laws.proofs.Tests.{same}
-use Rattle.frame.specs.declared.LoopCount.{LoopCount}
-use Rattle.frame.specs.declared.Frequency.{Frequency}
 use Rattle.frame.specs.Agreement.{FrameAdmitted}
 use Rattle.frame.specs.Frame.{gain_code, timebase_code, first_byte, second_byte, bytes_of}
 use Rattle.frame.specs.Read.{gain_at, timebase_at, fields_in, one_byte, two_bytes, three_bytes, Parsed, parsed, read_third, read_second, read_after, read_frame}
@@ -23,7 +23,7 @@ timebase_there : (n : ℕ) → n < 4 → timebase_code (timebase_at n) ≡ n
 timebase_there = same (λ n. timebase_code (timebase_at n)) (λ n. n) 4 tt
 
 -- the first byte is its fields
-first_there : (a n : ℕ) (k : LoopCount) (q : Frequency) → a < 128 → n % 8 ≡ a % 8 → first_byte (fields_in a n k q) ≡ a
+first_there : (a n : ℕ) (k : rust.Option ℕ) (q : rust.Option ℕ) → a < 128 → n % 8 ≡ a % 8 → first_byte (fields_in a n k q) ≡ a
 first_there a n k q h e = omega (arith, gain_there (a / 32 % 4) (omega arith), timebase_there (a / 8 % 4) (omega arith))
 
 -- a byte is its bits
@@ -49,13 +49,13 @@ one_sound : (a : ℕ) (r : List ℕ) → a < 128 → Sound (a ∷ r) (record { f
 one_sound a r h =
     let e : leb 8 (a % 8 % 16) ≡ false = lt-leb 8 (a % 8 % 16) (omega arith) in (
       record { number_fits = omega arith; loop_fits = tt; frequency_fits = tt },
-      simp e (ap (λ (x : ℕ). x ∷ r) (first_there a (a % 8) LoopCount.Absent Frequency.Absent h (omega arith))),
+      simp e (ap (λ (x : ℕ). x ∷ r) (first_there a (a % 8) None None h (omega arith))),
     )
 
 two_sound : (a b : ℕ) (r : List ℕ) → a < 128 → 128 ≤ b → b < 256 → b / 4 % 2 < 1 → b / 2 % 2 < 1
     → Sound (a ∷ b ∷ r) (record { frame = two_bytes a b; rest = r })
 two_sound a b r h l u p q =
-    let f = first_there a (b % 2 * 8 + a % 8) (LoopCount.Given (b / 8 % 16)) Frequency.Absent h (omega arith) in
+    let f = first_there a (b % 2 * 8 + a % 8) (Some (b / 8 % 16)) None h (omega arith) in
     let s : second_byte (two_bytes a b) ≡ b = second_there a b 0 l u (omega arith) in (
       record { number_fits = omega arith; loop_fits = omega arith; frequency_fits = tt },
       λ i. f i ∷ s i ∷ r,
@@ -64,7 +64,7 @@ two_sound a b r h l u p q =
 three_sound : (a b c : ℕ) (r : List ℕ) → a < 128 → 128 ≤ b → b < 256 → c < 256 → 1 ≤ b / 4 % 2
     → Sound (a ∷ b ∷ c ∷ r) (record { frame = three_bytes a b c; rest = r })
 three_sound a b c r h l u v p =
-    let f = first_there a (b % 2 * 8 + a % 8) (LoopCount.Given (b / 8 % 16)) (Frequency.Given (b / 2 % 2 * 256 + c)) h (omega arith) in
+    let f = first_there a (b % 2 * 8 + a % 8) (Some (b / 8 % 16)) (Some (b / 2 % 2 * 256 + c)) h (omega arith) in
     let s : second_byte (three_bytes a b c) ≡ b = second_there a b _ l u (omega arith) in
     let t : (b / 2 % 2 * 256 + c) % 256 ≡ c = omega arith in (
       record { number_fits = omega arith; loop_fits = omega arith; frequency_fits = omega arith },

@@ -1,14 +1,13 @@
 -- When two frames agree, in the words of demand 3, and which frames the builders admit (document 01, 'The hundred bytes'); a frame is
 -- told by its builder's fields. Admitted frames agree exactly when their bytes are the same: proofs/Frames.antt.
-use Rattle.std.specs.Prelude.{◌≤◌, ◌≡◌, true, cond, leb}
-use Rattle.frame.specs.declared.LoopCount.{LoopCount}
+use Rattle.std.specs.Prelude.{ℕ, ◌≤◌, ◌≡◌, true, cond, leb, Option, Some, None}
 use Rattle.frame.specs.declared.FrameBuilder.{FrameBuilder}
-use Rattle.frame.specs.Frame.{on_loop, on_frequency}
+use Rattle.frame.specs.Frame.{on_given}
 
 -- "an absent loop count equals 0 if the snippet number is 8 or more or a frequency is given"
-abbrev pub loop_meant : FrameBuilder → LoopCount
+abbrev pub loop_meant : FrameBuilder → Option ℕ
 loop_meant f =
-    on_loop f.loop_count (cond (on_frequency f.frequency (leb 8 f.snippet_id) (λ _. true)) (LoopCount.Given 0) LoopCount.Absent) LoopCount.Given
+    on_given f.loop_count (cond (on_given f.frequency (leb 8 f.snippet_id) (λ _. true)) (Some 0) None) Some
 
 -- "Frames agree when gain, timebase, snippet number, frequency (or its absence) and loop count agree"
 pub record Agree (a b : FrameBuilder) : Type 0 where
@@ -21,5 +20,5 @@ pub record Agree (a b : FrameBuilder) : Type 0 where
 -- "number 0 (silence) to 15, loop count 0..15 or absent, frequency 0..511 or absent"; gain and timebase codes are 0..3 by their types
 pub record FrameAdmitted (b : FrameBuilder) : Type 0 where
   pub number_fits : b.snippet_id ≤ 15
-  pub loop_fits : on_loop b.loop_count Unit (λ k. k ≤ 15)
-  pub frequency_fits : on_frequency b.frequency Unit (λ f. f ≤ 511)
+  pub loop_fits : on_given b.loop_count Unit (λ k. k ≤ 15)
+  pub frequency_fits : on_given b.frequency Unit (λ f. f ≤ 511)

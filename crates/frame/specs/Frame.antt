@@ -1,13 +1,11 @@
 -- The bytes of a frame: document 01, 'Points, frames, sequences'.
 -- A builder's fields can hold any number of their types: of a snippet's number and a loop count the low four bits count, of a frequency
 -- the low nine.
-use Rattle.std.specs.Prelude.{ℕ, ◌+◌, ◌*◌, ◌/◌, ◌%◌, Bool, true, false, cond, ◌||◌, List, [], ◌∷◌, ◌++◌, leb, length, take, replicate}
+use Rattle.std.specs.Prelude.{ℕ, ◌+◌, ◌*◌, ◌/◌, ◌%◌, Bool, true, false, cond, ◌||◌, List, [], ◌∷◌, ◌++◌, leb, length, take, replicate, Option, Some, None}
 use Rattle.frame.specs.declared.Gain.{Gain}
 use Rattle.frame.specs.declared.Gain.TheVariants.{Full, Half, Quarter, Eighth}
 use Rattle.frame.specs.declared.Timebase.{Timebase}
 use Rattle.frame.specs.declared.Timebase.TheVariants.{Ms5_44, Ms21_76, Ms43_52, Ms87_04}
-use Rattle.frame.specs.declared.LoopCount.{LoopCount}
-use Rattle.frame.specs.declared.Frequency.{Frequency}
 use Rattle.frame.specs.declared.FrameBuilder.{FrameBuilder}
 use Rattle.frame.specs.declared.Frame.{Frame}
 
@@ -27,14 +25,10 @@ timebase_code Ms21_76 = 1
 timebase_code Ms43_52 = 2
 timebase_code Ms87_04 = 3
 
--- what is said of a loop count, one where it is absent and one where it is given; the same of a frequency
-abbrev pub on_loop {ℓ} : {A : Type ℓ} → LoopCount → A → (ℕ → A) → A
-on_loop LoopCount.Absent absent given = absent
-on_loop (LoopCount.Given k) absent given = given k
-
-abbrev pub on_frequency {ℓ} : {A : Type ℓ} → Frequency → A → (ℕ → A) → A
-on_frequency Frequency.Absent absent given = absent
-on_frequency (Frequency.Given f) absent given = given f
+-- what is said of a loop count or a frequency where it is absent, and where it is given
+abbrev pub on_given {ℓ} : {A : Type ℓ} → Option ℕ → A → (ℕ → A) → A
+on_given None absent given = absent
+on_given (Some n) absent given = given n
 
 -- ---- the bytes
 
@@ -45,15 +39,15 @@ first_byte b = gain_code b.gain * 32 + timebase_code b.timebase * 8 + b.snippet_
 -- bit 7 set, loop count (0 if absent) in bits 6..3, frequency-present in 2, frequency bit 8 in 1, snippet number bit 3 in 0
 abbrev pub second_byte : FrameBuilder → ℕ
 second_byte b =
-    128 + on_loop b.loop_count 0 (λ k. k % 16) * 8 + on_frequency b.frequency 0 (λ f. 4 + f / 256 % 2 * 2) + b.snippet_id / 8 % 2
+    128 + on_given b.loop_count 0 (λ k. k % 16) * 8 + on_given b.frequency 0 (λ f. 4 + f / 256 % 2 * 2) + b.snippet_id / 8 % 2
 
 -- a second byte follows if the number is 8 or more, or a loop count or a frequency was given
 abbrev pub has_second : FrameBuilder → Bool
-has_second b = on_frequency b.frequency false (λ _. true) || on_loop b.loop_count false (λ _. true) || leb 8 (b.snippet_id % 16)
+has_second b = on_given b.frequency false (λ _. true) || on_given b.loop_count false (λ _. true) || leb 8 (b.snippet_id % 16)
 
 -- one to three bytes: the third is the low eight bits of a frequency
 abbrev pub bytes_of : FrameBuilder → List ℕ
-bytes_of b = first_byte b ∷ cond (has_second b) (second_byte b ∷ on_frequency b.frequency [] (λ f. f % 256 ∷ [])) []
+bytes_of b = first_byte b ∷ cond (has_second b) (second_byte b ∷ on_given b.frequency [] (λ f. f % 256 ∷ [])) []
 
 -- ---- a built frame
 

@@ -1,17 +1,16 @@
 -- The first frame of bytes (each below 256) that are frames laid end to end, and the bytes after it; none where the first one to three
 -- bytes rule that out: document 01, 'The hundred bytes'. proofs/Reading.antt and Written.antt: this undoes writing, and nothing else.
-use Rattle.std.specs.Prelude.{ℕ, ◌+◌, ◌-◌, ◌*◌, ◌/◌, ◌%◌, cond, List, [], ◌∷◌, ltb, length, drop, get_or}
+use Rattle.std.specs.Prelude.{ℕ, Result, Ok, Err, ◌+◌, ◌-◌, ◌*◌, ◌/◌, ◌%◌, cond, List, [], ◌∷◌, ltb, length, get_or, Some, None}
+use Rattle.std.specs.declared.option.Option as rust
 use Rattle.std.proofs.Math.Option.{Option, none, some}
+use Rattle.errors.specs.declared.Error.{Error}
 use Rattle.errors.specs.Number.{error_number}
 use Rattle.errors.specs.Told.{Told, gives, refuses}
 use Rattle.frame.specs.declared.Gain.{Gain}
 use Rattle.frame.specs.declared.Gain.TheVariants.{Full, Half, Quarter, Eighth}
 use Rattle.frame.specs.declared.Timebase.{Timebase}
 use Rattle.frame.specs.declared.Timebase.TheVariants.{Ms5_44, Ms21_76, Ms43_52, Ms87_04}
-use Rattle.frame.specs.declared.LoopCount.{LoopCount}
-use Rattle.frame.specs.declared.Frequency.{Frequency}
 use Rattle.frame.specs.declared.FrameBuilder.{FrameBuilder}
-use Rattle.frame.specs.declared.FrameRead.{FrameRead}
 use Rattle.frame.specs.Builder.{frame_with}
 
 -- the gain with a code; a code past the last counts as the last
@@ -23,20 +22,20 @@ abbrev pub timebase_at : ℕ → Timebase
 timebase_at code = get_or (Ms5_44 ∷ Ms21_76 ∷ Ms43_52 ∷ []) code Ms87_04
 
 -- gain and timebase from the first byte a, the other fields as given
-abbrev pub fields_in : ℕ → ℕ → LoopCount → Frequency → FrameBuilder
+abbrev pub fields_in : ℕ → ℕ → rust.Option ℕ → rust.Option ℕ → FrameBuilder
 fields_in a n k f = frame_with n (gain_at (a / 32 % 4)) (timebase_at (a / 8 % 4)) k f
 
 -- "an absent loop count for a one-byte frame, a present one otherwise"
 abbrev pub one_byte : ℕ → FrameBuilder
-one_byte a = fields_in a (a % 8) LoopCount.Absent Frequency.Absent
+one_byte a = fields_in a (a % 8) None None
 
 -- the loop count from the second byte b, its bit 0 the number's bit 3
 abbrev pub two_bytes : ℕ → ℕ → FrameBuilder
-two_bytes a b = fields_in a (b % 2 * 8 + a % 8) (LoopCount.Given (b / 8 % 16)) Frequency.Absent
+two_bytes a b = fields_in a (b % 2 * 8 + a % 8) (Some (b / 8 % 16)) None
 
 -- with the frequency: its bit 8 from the second byte, the rest the third byte c
 abbrev pub three_bytes : ℕ → ℕ → ℕ → FrameBuilder
-three_bytes a b c = fields_in a (b % 2 * 8 + a % 8) (LoopCount.Given (b / 8 % 16)) (Frequency.Given (b / 2 % 2 * 256 + c))
+three_bytes a b c = fields_in a (b % 2 * 8 + a % 8) (Some (b / 8 % 16)) (Some (b / 2 % 2 * 256 + c))
 
 -- a frame and the bytes after it
 pub record Parsed : Type 0 where
@@ -82,11 +81,11 @@ taken_from n (some p) = gives (record { frame = p.frame; len = n - length p.rest
 abbrev pub first_frame : List ℕ → Told Taken
 first_frame l = taken_from (length l) (read_frame l)
 
--- the same where a first byte a and a second byte b, its bit 7 set, stand at an index
-abbrev pub second_at : List ℕ → ℕ → ℕ → ℕ → Told Taken
-second_at l at a b = taken_from (length (drop at l)) (read_second a b (drop (at + 2) l))
+-- the same where a first byte a, a second byte b, its bit 7 set, and others follow one another
+abbrev pub second_at : ℕ → ℕ → List ℕ → Told Taken
+second_at a b r = taken_from (length r + 2) (read_second a b r)
 
 -- what reading answers, in these terms
-abbrev pub read_told : FrameRead → Told Taken
-read_told (FrameRead.Frame f n) = gives (record { frame = f; len = n })
-read_told (FrameRead.Refused e) = refuses (error_number e)
+abbrev pub read_told : Result (FrameBuilder × ℕ) Error → Told Taken
+read_told (Ok r) = gives (record { frame = r.0; len = r.1 })
+read_told (Err e) = refuses (error_number e)

@@ -1,5 +1,6 @@
 pub mod Answers
 pub mod Copies
 pub mod Lists
+pub mod Maps
 pub mod Tests
 pub mod Whole

@@ -1,8 +1,9 @@
 -- A point is one byte: document 01, 'Points, frames, sequences'. "A bad length is told before a bad amplitude".
-use Rattle.std.specs.Prelude.{ℕ, ◌+◌, ◌-◌, ◌*◌, ◌/◌, ◌%◌, ◌≤◌, Bool, cond, ltb, eqb}
+use Rattle.std.specs.Prelude.{ℕ, ◌+◌, ◌-◌, ◌*◌, ◌/◌, ◌%◌, ◌≤◌, Bool, Result, Ok, Err, cond, ltb, eqb}
 use Rattle.errors.specs.Number.{error_number}
 use Rattle.errors.specs.Told.{Told, gives, refuses}
-use Rattle.snippet.specs.declared.PointAnswer.{PointAnswer}
+use Rattle.errors.specs.declared.Error.{Error}
+use Rattle.snippet.specs.declared.PwlPoint.{PwlPoint}
 
 -- bit 7 set for a ramp, bits 6..4 length − 1, bits 3..0 amplitude; for a length of 1..8 and an amplitude of 0..15 only
 abbrev pub point_byte : Bool → ℕ → ℕ → ℕ
@@ -15,9 +16,9 @@ point ramp timebases amplitude =
     (cond (ltb 15 amplitude) (refuses 2) (gives (point_byte ramp timebases amplitude))))
 
 -- what an answer tells: the point's byte, or the number
-abbrev pub point_told : PointAnswer → Told ℕ
-point_told (PointAnswer.Point p) = gives p.byte
-point_told (PointAnswer.Refused e) = refuses (error_number e)
+abbrev pub point_told : Result PwlPoint Error → Told ℕ
+point_told (Ok p) = gives p.byte
+point_told (Err e) = refuses (error_number e)
 
 -- the fields of a byte; every byte is a point's
 abbrev pub ramp_in : ℕ → Bool

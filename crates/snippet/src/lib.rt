@@ -1,57 +1,36 @@
 // Points and snippets (waveform/snippet.rs; document 01, 'Points, frames, sequences').
-// Proved: each function answers what specs/ says of its arguments, whatever the builder's fields hold, and a refusal hands the
-// builder back as it came in. proofs/Points.antt: same kind, length and amplitude exactly when same byte.
-// `points` gives the array, of which the first `byte_len` are the snippet's; `encode_into` copies all bytes or none (document 02, CR 5); no
-// function here takes a closure. Left out: `Default`, `==` and printing.
+// Proved: each function answers what specs/ says of its arguments, whatever the builder's fields hold; a builder that a call refuses is as it
+// was. proofs/Points.antt: same kind, length and amplitude exactly when same byte.
+// `bytes` (added) gives the bytes of all sixteen points, of which the first `byte_len` are the snippet's; `encode_into` copies all bytes or none
+// (document 02, CR 5); no function here takes a closure. Left out: `Default` and printing.
 #![tactic(auto)]
 
-ghost use Rattle.std.specs.Prelude.{◌≡◌, true, false, map, length};
+ghost use Rattle.std.specs.Prelude.{◌≡◌, true, false, map, ◌≤◌, length, take};
 ghost use Rattle.laws.specs.Whole.{whole, whole_out, length_of};
-ghost use Rattle.errors.specs.Number.{answer_number, encoded_told};
-ghost use Rattle.errors.specs.Told.{gives, handed, built};
+ghost use Rattle.errors.specs.Number.{told, handed_by, built_by};
+ghost use Rattle.errors.specs.Told.{gives};
 ghost use Rattle.snippet.specs.Point.{point, point_told, ramp_in, timebases_in, amplitude_in};
-ghost use Rattle.snippet.specs.Snippet.{point_of, pwl_byte, snippet_bytes, new_snippet, no_snippet, with_point, with_made, built_snippet};
+ghost use Rattle.snippet.specs.Snippet.{point_of, pwl_byte, snippet_bytes, no_snippet, new_snippet, with_point, with_made, built_snippet};
 
-use errors::{Answer, Encoded, Error};
+use errors::Error;
 
 pub const MAX_POINTS_PER_SNIPPET: usize = 16;
 
-#[derive(Clone, Copy)]
+#[derive(Debug, Clone, Copy, PartialEq, Eq)]
 pub struct PwlPoint {
     byte: u8,
 }
 
-#[derive(Clone, Copy)]
-pub enum PointAnswer {
-    Point(PwlPoint),
-    Refused(Error),
-}
-
-#[derive(Clone, Copy)]
+#[derive(Debug, Clone, Copy)]
 pub struct Snippet {
     points: [PwlPoint; MAX_POINTS_PER_SNIPPET],
     len: u8,
 }
 
-#[derive(Clone, Copy)]
+#[derive(Debug, Clone, Copy)]
 pub struct SnippetBuilder {
     points: [PwlPoint; MAX_POINTS_PER_SNIPPET],
     len: u8,
-}
-
-// What adding a point answers, with the builder to go on with.
-#[derive(Clone, Copy)]
-pub struct AddedPoint {
-    pub answer: Answer,
-    pub builder: SnippetBuilder,
-}
-
-// What building answers: the snippet (empty if refused), and the builder as it came in.
-#[derive(Clone, Copy)]
-pub struct BuiltSnippet {
-    pub answer: Answer,
-    pub snippet: Snippet,
-    pub builder: SnippetBuilder,
 }
 
 impl PwlPoint {
@@ -59,34 +38,31 @@ impl PwlPoint {
     pub fn from_byte(byte: u8) -> PwlPoint
         ensures { result ≡ point_of byte }
     {
-        PwlPoint { byte: byte }
+        PwlPoint { byte }
     }
 
-    pub fn ramp(timebases: u8, amplitude: u8) -> PointAnswer
+    pub fn ramp(timebases: u8, amplitude: u8) -> Result<PwlPoint, Error>
         ensures { point_told result ≡ point true timebases amplitude }
     {
         PwlPoint::new(true, timebases, amplitude)
     }
 
-    pub fn step(timebases: u8, amplitude: u8) -> PointAnswer
+    pub fn step(timebases: u8, amplitude: u8) -> Result<PwlPoint, Error>
         ensures { point_told result ≡ point false timebases amplitude }
     {
         PwlPoint::new(false, timebases, amplitude)
     }
 
-    fn new(ramp: bool, timebases: u8, amplitude: u8) -> PointAnswer
+    fn new(ramp: bool, timebases: u8, amplitude: u8) -> Result<PwlPoint, Error>
         ensures { point_told result ≡ point ramp timebases amplitude }
     {
-        if timebases < 1 {
-            return PointAnswer::Refused(Error::InvalidTimebase);
-        }
-        if 8 < timebases {
-            return PointAnswer::Refused(Error::InvalidTimebase);
+        if timebases < 1 || 8 < timebases {
+            return Err(Error::InvalidTimebase);
         }
         if 15 < amplitude {
-            return PointAnswer::Refused(Error::InvalidAmplitude);
+            return Err(Error::InvalidAmplitude);
         }
-        PointAnswer::Point(PwlPoint {
+        Ok(PwlPoint {
             byte: ((ramp as u8) << 7) | ((timebases - 1) << 4) | (amplitude & 0x0F),
         })
     }
@@ -117,41 +93,39 @@ impl PwlPoint {
 }
 
 impl Snippet {
-    // The points, in an array; the snippet's are the first `byte_len`.
-    pub fn points(self) -> [PwlPoint; MAX_POINTS_PER_SNIPPET]
-        ensures { result ≡ self.points }
+    // A snippet without points, which no builder makes.
+    pub const EMPTY: Snippet = Snippet {
+        points: [PwlPoint { byte: 0 }; MAX_POINTS_PER_SNIPPET],
+        len: 0,
+    };
+
+    // The points, in order.
+    pub fn points(&self) -> &[PwlPoint]
+        ensures { result.now ≡ take self.now.len self.now.points }
     {
-        self.points
+        &self.points[..self.byte_len()]
     }
 
-    pub fn byte_len(self) -> usize
-        ensures { result ≡ length (snippet_bytes self) }
+    pub fn byte_len(&self) -> usize
+        ensures value { result ≡ length (snippet_bytes self.now) }
+        ensures upper_bound { result ≤ 16 }
     {
-        if self.len < 16 { self.len as usize } else { 16 }
+        (self.len as usize).min(MAX_POINTS_PER_SNIPPET)
     }
 
     // The bytes of all sixteen points.
-    pub fn bytes(self) -> [u8; MAX_POINTS_PER_SNIPPET]
-        ensures { result ≡ map pwl_byte self.points }
+    pub fn bytes(&self) -> [u8; MAX_POINTS_PER_SNIPPET]
+        ensures { result ≡ map pwl_byte self.now.points }
     {
-        let mut out = [0u8; MAX_POINTS_PER_SNIPPET];
-        let mut i = 0usize;
-        while i < MAX_POINTS_PER_SNIPPET {
-            let p = self.points[i];
-            out[i] = p.byte;
-            i += 1;
-        }
-        out
+        self.points.map(|p| p.byte)
     }
 
     // Copies all bytes and answers how many, or copies none and answers BufferTooShort.
-    pub fn encode_into(self, buffer: &mut [u8]) -> Encoded
-        ensures result_value { encoded_told result ≡ length_of (whole buffer.old (gives (snippet_bytes self))) }
-        ensures buffer_after { buffer.new ≡ whole_out buffer.old (gives (snippet_bytes self)) }
+    pub fn encode_into(&self, buffer: &mut [u8]) -> Result<usize, Error>
+        ensures result_value { told result ≡ length_of (whole buffer.old (gives (snippet_bytes self.now))) }
+        ensures buffer_after { buffer.new ≡ whole_out buffer.old (gives (snippet_bytes self.now)) }
     {
-        let bytes = self.bytes();
-        let n = self.byte_len();
-        laws::copy_whole(buffer, &bytes[..n])
+        laws::copy_whole(buffer, &self.bytes()[..self.byte_len()])
     }
 }
 
@@ -159,80 +133,48 @@ impl SnippetBuilder {
     pub fn new() -> SnippetBuilder
         ensures { result ≡ new_snippet }
     {
-        let p = PwlPoint { byte: 0 };
-        let ps = [p; MAX_POINTS_PER_SNIPPET];
-        SnippetBuilder { points: ps, len: 0 }
+        SnippetBuilder {
+            points: [PwlPoint { byte: 0 }; MAX_POINTS_PER_SNIPPET],
+            len: 0,
+        }
     }
 
-    pub fn ramp(self, timebases: u8, amplitude: u8) -> AddedPoint
-        ensures { handed (answer_number result.answer) result.builder ≡ with_made self (point true timebases amplitude) }
+    pub fn ramp(self, timebases: u8, amplitude: u8) -> Result<SnippetBuilder, Error>
+        ensures { handed_by self result ≡ with_made self (point true timebases amplitude) }
     {
-        self.add(PwlPoint::ramp(timebases, amplitude))
+        self.point(PwlPoint::ramp(timebases, amplitude)?)
     }
 
-    pub fn step(self, timebases: u8, amplitude: u8) -> AddedPoint
-        ensures { handed (answer_number result.answer) result.builder ≡ with_made self (point false timebases amplitude) }
+    pub fn step(self, timebases: u8, amplitude: u8) -> Result<SnippetBuilder, Error>
+        ensures { handed_by self result ≡ with_made self (point false timebases amplitude) }
     {
-        self.add(PwlPoint::step(timebases, amplitude))
+        self.point(PwlPoint::step(timebases, amplitude)?)
     }
 
     // A point that was made before.
-    pub fn point(self, point: PwlPoint) -> AddedPoint
-        ensures { handed (answer_number result.answer) result.builder ≡ with_point self point }
+    pub fn point(self, point: PwlPoint) -> Result<SnippetBuilder, Error>
+        ensures { handed_by self result ≡ with_point self point }
     {
         let n = self.len as usize;
         if MAX_POINTS_PER_SNIPPET <= n {
-            return AddedPoint {
-                answer: Answer::Refused(Error::TooManySnippets),
-                builder: self,
-            };
+            return Err(Error::TooManySnippets);
         }
-        let mut b = self;
-        b.points[n] = point;
-        b.len = self.len + 1;
-        AddedPoint {
-            answer: Answer::Done,
-            builder: b,
-        }
+        let mut next = self;
+        next.points[n] = point;
+        next.len += 1;
+        Ok(next)
     }
 
-    fn add(self, made: PointAnswer) -> AddedPoint
-        ensures { handed (answer_number result.answer) result.builder ≡ with_made self (point_told made) }
+    pub fn build(self) -> Result<Snippet, Error>
+        ensures { built_by no_snippet self result ≡ built_snippet self }
     {
-        match made {
-            PointAnswer::Point(p) => self.point(p),
-            PointAnswer::Refused(e) => AddedPoint {
-                answer: Answer::Refused(e),
-                builder: self,
-            },
-        }
-    }
-
-    pub fn build(self) -> BuiltSnippet
-        ensures { built (answer_number result.answer) result.snippet result.builder ≡ built_snippet self }
-    {
-        let ps = self.points;
         if self.len < 1 {
-            let p = PwlPoint { byte: 0 };
-            let zeros = [p; MAX_POINTS_PER_SNIPPET];
-            let none = Snippet {
-                points: zeros,
-                len: 0,
-            };
-            return BuiltSnippet {
-                answer: Answer::Refused(Error::EmptySnippet),
-                snippet: none,
-                builder: self,
-            };
+            return Err(Error::EmptySnippet);
         }
-        let s = Snippet {
-            points: ps,
+        let points = self.points;
+        Ok(Snippet {
+            points,
             len: self.len,
-        };
-        BuiltSnippet {
-            answer: Answer::Done,
-            snippet: s,
-            builder: self,
-        }
+        })
     }
 }
