@@ -11,7 +11,7 @@ ghost use Rattle.config.specs.Codes.{variant_code};
 ghost use Rattle.config.specs.declared.Variant.TheVariants.{DA7281};
 ghost use Rattle.checks.specs.Checks as spec;
 
-use config::{ActuatorConfig, DeviceConfig, DrivingMode, OperationMode, Variant};
+use config::{ActuatorConfig, DeviceConfig, DrivingMode, OperationMode, TriggerConfig, Variant};
 use errors::Error;
 
 pub fn configure_checks(
@@ -40,6 +40,8 @@ pub fn configure_checks(
     if !(4000..=49999).contains(&actuator.impedance_mOhm) {
         return Err(Error::InvalidCurrentOrImpedance);
     }
+    // told below, behind the others; asked here, where it costs less
+    let above = triggers_above_15(device);
     if outside_band(device.driving_mode, actuator.frequency_Hz) {
         return Err(Error::InvalidDriveFrequency);
     }
@@ -50,7 +52,7 @@ pub fn configure_checks(
     if actuator.max_current_mA < 29 {
         return Err(Error::InvalidCurrentOrImpedance);
     }
-    if triggers_above_15(device) {
+    if above {
         return Err(Error::InvalidValue);
     }
     if device.rapid_stop {
@@ -115,13 +117,14 @@ fn triggers_given(device: DeviceConfig) -> u8
 fn triggers_above_15(device: DeviceConfig) -> bool
     ensures { result ≡ (spec.etwm device.operation_mode && spec.triggers_above15 device) }
 {
-    let triggers = [
-        device.gpi_trigger_0,
-        device.gpi_trigger_1,
-        device.gpi_trigger_2,
-    ];
     is_etwm(device.operation_mode)
-        && triggers
-            .iter()
-            .any(|t| t.is_some_and(|t| 15 < t.sequence_id))
+        && (sequence_above_15(device.gpi_trigger_0)
+            || sequence_above_15(device.gpi_trigger_1)
+            || sequence_above_15(device.gpi_trigger_2))
+}
+
+fn sequence_above_15(trigger: Option<TriggerConfig>) -> bool
+    ensures { result ≡ spec.sequence_above15 trigger }
+{
+    trigger.is_some_and(|t| 15 < t.sequence_id)
 }

@@ -221,7 +221,12 @@ fn two_at(bytes: &[u8], i: usize) -> u16
     requires { i < 256 }
     ensures { result ≡ two_at bytes.now i }
 {
-    u16::from_le_bytes([byte_at(bytes, i), byte_at(bytes, i + 1)])
+    // one test of the length instead of two, where it costs less
+    if i + 1 < bytes.len() {
+        u16::from_le_bytes([bytes[i], bytes[i + 1]])
+    } else {
+        u16::from_le_bytes([byte_at(bytes, i), byte_at(bytes, i + 1)])
+    }
 }
 
 // A byte past the end counts as 0.
