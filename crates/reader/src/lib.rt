@@ -7,7 +7,7 @@
 
 pub mod items;
 
-ghost use Rattle.std.specs.Prelude.{◌≡◌, ◌+◌, ◌≤◌, ◌<◌, List, ℕ, length, drop};
+ghost use Rattle.std.specs.Prelude.{◌≡◌, ◌+◌, ◌≤◌, ◌<◌, List, ℕ, length, take, drop};
 ghost use Rattle.std.proofs.Math.Option.{Option};
 ghost use Rattle.errors.specs.Number.{answer_number};
 ghost use Rattle.content.specs.ReadImage.{on_option, read_image, counts_fit, all_zero};
@@ -131,6 +131,15 @@ impl Frames {
         Ok(())
     }
 
+    // The frames in use, end to end.
+    pub fn as_slice(&self) -> &[FrameBuilder]
+        ensures value { result.now ≡ take self.now.len self.now.items }
+        ensures upper_bound { length result.now ≤ 96 }
+    {
+        let n = laws::wide(self.len).min(96);
+        &self.items[..n]
+    }
+
     #[tactic(auto, unfolding(crate::specs::Flat::end_sequence))]
     fn end(&mut self)
         ensures { self.new ≡ end_sequence self.old }
@@ -145,7 +154,7 @@ impl Frames {
 // ---- the items that end at the pointers
 
 // What an image's items of one kind are added to.
-trait Gather {
+pub trait Gather {
     // The items with those bytes added, or none where they are no such item.
     ghost step: { List ℕ → Self → Option Self };
 
@@ -183,7 +192,7 @@ impl Gather for Frames {
 
 // Adds the items that end at these indexes of the image, and answers the index of the last one's last byte; the byte before the first
 // stands at `first`.
-fn walk<T: Gather>(image: &[u8], ends: &[u8], first: usize, items: &mut T) -> Result<usize, Error>
+pub fn walk<T: Gather>(image: &[u8], ends: &[u8], first: usize, items: &mut T) -> Result<usize, Error>
     ensures { Walks (walk T.step image.now first ends.now items.old) result items.new }
 {
     let mut last = first;

@@ -12,6 +12,10 @@ absent_point = 256
 abbrev pub point_code : Option Point → ℕ
 point_code o = on_option o absent_point byte_of
 
+-- a point by its byte
+abbrev pub byte_code : Option ℕ → ℕ
+byte_code o = on_option o absent_point (λ b. b)
+
 abbrev pub absent_frame : ℕ
 absent_frame = 2 ^ 48
 

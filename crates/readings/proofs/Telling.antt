@@ -34,8 +34,8 @@ use Rattle.reader.specs.Reading.{parts, padded}
 use Rattle.reader.specs.Items.{element}
 use Rattle.reader.proofs.Cuts.{last_of}
 use Rattle.reader.proofs.Flats.{flat_of, shows}
-use Rattle.readings.specs.Readings.{counts_answer, point_answer, frame_answer, byte_code}
-use Rattle.readings.proofs.Codes.{point_code, frame_code}
+use Rattle.readings.specs.Readings.{counts_answer, point_answer, frame_answer}
+use Rattle.readings.proofs.Codes.{point_code, byte_code, frame_code}
 use Rattle.readings.specs.Lists.{words_bytes, lists_of, lists_item, lists_answer}
 use Rattle.readings.specs.Telling.{Alike, ReadingsTold}
 use Rattle.readings.proofs.Laying.{words_length}

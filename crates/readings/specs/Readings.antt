@@ -1,6 +1,6 @@
 -- What an image is read back to, as numbers for C: document 01, "functions exported for C on numbers and byte slices". Each of the three
 -- is a value or the refusal 18, and crosses as one number by errors/specs/Packed.antt; specs/Telling.antt: no two are confused.
-use Rattle.std.specs.Prelude.{ℕ, ◌+◌, ◌*◌, ◌^◌, ◌<◌, length}
+use Rattle.std.specs.Prelude.{ℕ, ◌+◌, ◌*◌, ◌^◌, length}
 use Rattle.std.proofs.Math.Option.{Option}
 use Rattle.errors.specs.Told.{Told, gives, refuses}
 use Rattle.frame.specs.Word.{frame_word}
@@ -19,13 +19,3 @@ point_answer o i j = on_option o (refuses 18) (λ c. gives (on_option (element c
 -- the fields of the j-th frame of the i-th sequence as one number, or above every such number where there is none
 abbrev pub frame_answer : Option Content → ℕ → ℕ → Told ℕ
 frame_answer o i j = on_option o (refuses 18) (λ c. gives (on_option (element c.sequences i j) (2 ^ 48) frame_word))
-
--- ---- as the private functions answer
-
--- a byte, or that of no point
-abbrev pub byte_code : Option ℕ → ℕ
-byte_code o = on_option o 256 (λ b. b)
-
--- what is there is a byte
-abbrev pub Small : Option ℕ → Type 0
-Small o = on_option o Unit (λ b. b < 256)

@@ -1,12 +1,29 @@
 -- By what is known of an image's content.
-use Rattle.std.proofs.Common.{sym, ◌∙◌}
-use Rattle.readings.proofs.Told.{frame_past, frame_there}
+use Rattle.std.proofs.Common.{◌≡◌, ◌+◌, ◌∙◌, ℕ, Some, None, arith, subst}
+use Rattle.readings.specs.InPlace.{item_at, Stands, NthFrame}
+use Rattle.readings.proofs.Told.{item_stands, frame_past, frame_there}
 use Rattle.readings.proofs.frame.Goals as goal
 
-pub returns-then-q-i : goal.returns-then-q-i
-returns-then-q-i c = frame_past _ (sym c.if-is_image.ensures) _ c.args.j _ c.byte-q.ensures.value c.if-q-i.true
+pub item-requires : goal.item-requires
+item-requires c =
+    let k : c.in-Ok.s + c.args.i ≡ c.wide-in-Ok.result + c.args.i = omega (arith, c.wide-in-Ok.ensures.value) in
+    subst (λ (n : ℕ). Stands c.args.image.now n) k (item_stands c.args.image.now _ _ c.in-Ok.ensures (c.in-Ok.s + c.args.i) (omega arith))
 
-pub returns-then-is_image : goal.returns-then-is_image
-returns-then-is_image c =
-    c.frame_code.ensures
-    ∙ frame_there _ (sym c.if-is_image.ensures) _ _ _ _ _ c.byte-s.ensures.value c.byte-q.ensures.value c.if-q-i.false c.frame_of.ensures
+pub returns-in-Some : goal.returns-in-Some
+returns-in-Some c =
+    let j = c.args.j in
+    let f = c.in-Some.frame in
+    let k : c.wide-in-Ok.result + c.args.i ≡ c.in-Ok.s + c.args.i = omega (arith, c.wide-in-Ok.ensures.value) in
+    c.word.ensures.value
+    ∙ frame_there c.args.image.now _ _ c.in-Ok.ensures c.args.i j (omega arith) (Some f)
+    (subst (λ n. NthFrame (item_at c.args.image.now n) j (Some f)) k (subst (λ l. NthFrame l j (Some f)) c.item.ensures c.in-Some.ensures))
+
+pub returns-in-None : goal.returns-in-None
+returns-in-None c =
+    let j = c.args.j in
+    let k : c.wide-in-Ok.result + c.args.i ≡ c.in-Ok.s + c.args.i = omega (arith, c.wide-in-Ok.ensures.value) in
+    frame_there c.args.image.now _ _ c.in-Ok.ensures c.args.i j (omega arith) None
+    (subst (λ n. NthFrame (item_at c.args.image.now n) j None) k (subst (λ l. NthFrame l j None) c.item.ensures c.in-None.ensures))
+
+pub returns-in-Ok-2 : goal.returns-in-Ok-2
+returns-in-Ok-2 c = frame_past c.args.image.now _ _ c.in-Ok.ensures c.args.i c.args.j (omega arith)
