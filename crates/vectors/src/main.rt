@@ -23,10 +23,10 @@ struct Replay {
 }
 
 fn main(rt: HostRuntime) -> io::Result<()> {
-    replay(&rt)
+    run(&rt)
 }
 
-fn replay(rt: &(impl Input + Print + AllocGlobal)) -> io::Result<()> {
+fn run(rt: &(impl Input + Print + AllocGlobal)) -> io::Result<()> {
     let mut replay = Replay {
         line: 0,
         kind: None,
