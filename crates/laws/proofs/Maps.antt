@@ -11,8 +11,8 @@ module _ {F A B : Type 0} (g : Mut F (A × Unit {0}) B) (h : A → B) (d : A)
       → ((i : ℕ) (d : A) (e : B) → i < n → (p : F) × (q : F) × Called g p (slice_index_or xs i d, tt) (slice_index_or ys i e) q) → ys ≡ map h xs
   mapped xs ys n long longs at =
       ext_get_or (h d) ys (map h xs) (longs ∙ sym long ∙ sym (length-map xs h)) each where
-    each : (i : ℕ) → i < length ys → get_or ys i (h d) ≡ get_or (map h xs) i (h d)
-    each i lt =
-        let below : i < n = subst (λ k. i < k) longs lt in
-        let r = at i d (h d) below in
-        computes r.0 r.1 _ _ r.2 ∙ sym (get_or-map h xs i d (h d) (subst (λ k. i < k) (sym long) below))
+        each : (i : ℕ) → i < length ys → get_or ys i (h d) ≡ get_or (map h xs) i (h d)
+        each i lt =
+            let below : i < n = subst (λ k. i < k) longs lt in
+            let r = at i d (h d) below in
+            computes r.0 r.1 _ _ r.2 ∙ sym (get_or-map h xs i d (h d) (subst (λ k. i < k) (sym long) below))

@@ -4,10 +4,10 @@
 // Proved: they leave and answer what specs/Whole.antt and specs/Copied.antt say, for any buffer and any bytes; `WholeOrNothing`.
 #![tactic(auto)]
 
-ghost use Rattle.std.specs.Prelude.{◌≡◌, min, ◌<◌, length};
+ghost use Rattle.std.specs.Prelude.{◌≡◌, ◌+◌, ◌≤◌, min, ◌<◌, length};
 ghost use Rattle.errors.specs.Told.{gives};
 ghost use Rattle.errors.specs.Number.{told};
-ghost use Rattle.laws.specs.Copied.{copied, placed};
+ghost use Rattle.laws.specs.Copied.{copied, over, placed};
 ghost use Rattle.laws.specs.Whole.{whole, whole_out, length_of};
 
 use errors::Error;
@@ -40,6 +40,14 @@ pub fn copy_at(buffer: &mut [u8], at: usize, bytes: &[u8])
     if at < buffer.len() {
         copy_into(&mut buffer[at..], bytes);
     }
+}
+
+// Lays bytes over the buffer's from an index on, where they fit.
+pub fn lay(buffer: &mut [u8], at: usize, bytes: &[u8])
+    requires { at + length bytes.now ≤ length buffer.old }
+    ensures { buffer.new ≡ over buffer.old at bytes.now }
+{
+    buffer[at..at + bytes.len()].copy_from_slice(bytes);
 }
 
 // A byte as a length or an index.

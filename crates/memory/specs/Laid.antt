@@ -13,12 +13,12 @@ unfoldable pub laid : List ℕ → ℕ → ℕ → List (List ℕ) → List ℕ
 laid image pointer at [] = image
 laid image pointer at (x ∷ xs) = laid (with_laid image pointer at x) (suc pointer) (at + length x) xs
 
--- n items, of m at most, fit in a hundred bytes: their end pointers from an index on, their bytes from a later one on
-abbrev pub HasRoom : ℕ → ℕ → List ℕ → ℕ → ℕ → List (List ℕ) → Type 0
-HasRoom m n image pointer at items =
-    (n ≤ m) × (length image ≡ 100) × (pointer + n ≤ at) × (at + length (joined items) ≤ 100)
+-- items fit in a hundred bytes: their end pointers from an index on, their bytes from a later one on
+abbrev pub HasRoom : List ℕ → ℕ → ℕ → List (List ℕ) → Type 0
+HasRoom image pointer at items = (length image ≡ 100) × (pointer + length items ≤ at) × (at + length (joined items) ≤ 100)
 
--- s snippets and q sequences fit in an image
-abbrev pub ImageFits : ℕ → ℕ → List (List ℕ) → List (List ℕ) → Type 0
-ImageFits s q snippets sequences =
-    (s ≤ 15) × (q ≤ 16) × (2 + s + q + length (joined snippets) + length (joined sequences) ≤ 100)
+-- snippets and sequences fit in an image
+abbrev pub ImageFits : List (List ℕ) → List (List ℕ) → Type 0
+ImageFits snippets sequences =
+    (length snippets ≤ 15) × (length sequences ≤ 16)
+    × (2 + length snippets + length sequences + length (joined snippets) + length (joined sequences) ≤ 100)

@@ -5,7 +5,7 @@
 // (document 02, CR 5); no function here takes a closure. Left out: `Default` and printing.
 #![tactic(auto)]
 
-ghost use Rattle.std.specs.Prelude.{◌≡◌, true, false, map, length, take};
+ghost use Rattle.std.specs.Prelude.{◌≡◌, true, false, map, ◌≤◌, length, take};
 ghost use Rattle.laws.specs.Whole.{whole, whole_out, length_of};
 ghost use Rattle.errors.specs.Number.{told, handed_by, built_by};
 ghost use Rattle.errors.specs.Told.{gives};
@@ -107,7 +107,8 @@ impl Snippet {
     }
 
     pub fn byte_len(&self) -> usize
-        ensures { result ≡ length (snippet_bytes self.now) }
+        ensures value { result ≡ length (snippet_bytes self.now) }
+        ensures upper_bound { result ≤ 16 }
     {
         (self.len as usize).min(MAX_POINTS_PER_SNIPPET)
     }
