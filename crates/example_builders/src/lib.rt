@@ -10,9 +10,9 @@ use show::Refusal;
 use snippet::SnippetBuilder;
 use std::io;
 
-/// A frame with all its fields.
+/// All fields of a frame.
 #[derive(Clone, Copy, Debug)]
-pub struct Play {
+pub struct FrameFields {
     pub snippet_id: u8,
     pub gain: Gain,
     pub timebase: Timebase,
@@ -71,7 +71,7 @@ pub fn new_sequence(rt: &impl Print, b: WaveformMemoryBuilder) -> io::Result<Seq
     Ok(SequenceBuilder::new())
 }
 
-pub fn play(rt: &impl Print, q: SequenceBuilder, frame: Play) -> io::Result<SequenceBuilder> {
+pub fn play(rt: &impl Print, q: SequenceBuilder, frame: FrameFields) -> io::Result<SequenceBuilder> {
     let snippet_id = frame.snippet_id;
     print!(rt; "    new({snippet_id})")?;
     match FrameBuilder::new(snippet_id) {
@@ -85,7 +85,7 @@ pub fn play(rt: &impl Print, q: SequenceBuilder, frame: Play) -> io::Result<Sequ
 }
 
 // The calls after the first.
-fn played(rt: &impl Print, f: FrameBuilder, frame: Play) -> io::Result<Frame> {
+fn played(rt: &impl Print, f: FrameBuilder, frame: FrameFields) -> io::Result<Frame> {
     let gain = show::gain(frame.gain);
     let timebase = show::timebase(frame.timebase);
     print!(rt; " gain({gain}) timebase({timebase})")?;
@@ -125,6 +125,16 @@ pub fn add_sequence(
     match q.build() {
         Ok(sequence) => or_as_before(rt, b, b.add_sequence(sequence)),
         Err(e) => refused(rt, b, e),
+    }
+}
+
+pub fn build(rt: &impl Print, b: WaveformMemoryBuilder) -> io::Result<WaveformMemory> {
+    match b.build() {
+        Ok(memory) => Ok(memory),
+        Err(e) => {
+            refused(rt, b, e)?;
+            Err(io::Error::other("no image"))
+        }
     }
 }
 
