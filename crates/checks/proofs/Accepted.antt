@@ -12,10 +12,15 @@ use Rattle.config.specs.declared.DeviceConfig.{DeviceConfig}
 use Rattle.config.specs.declared.Variant.{Variant}
 use Rattle.checks.specs.Checks.{tracking, etwm, triggers_given, sequence_above15, triggers_above15, Check, configure_checks, first_failing, configure_number}
 use Rattle.checks.specs.InRange.{SequenceTo15, InRange}
-use Rattle.checks.proofs.First.{fails_at}
 use Rattle.checks.proofs.Tests.{and_off, and_on, neither, both_off, between, either, tracks, untracks, is_etwm, is_da7281, is_da7281_lem, to15, some, lone}
 
 -- ---- the list
+
+-- whether check k fails
+abbrev fails_at : ℕ → List Check → Bool
+fails_at k [] = false
+fails_at zero (c ∷ cs) = c.0
+fails_at (suc k) (c ∷ cs) = fails_at k cs
 
 -- every check has a number above 0
 abbrev numbered : List Check → Bool

@@ -1,4 +1,5 @@
 -- The first check that fails is the first fault: test by test. Assumes nothing.
+use Rattle.std.specs.Prelude.{Option, Some, None}
 use Prim.Native.Nat.{ℕ, ◌+◌, ◌<◌}
 use native.Mathlib.Omega.{arith}
 use mathlib.Core.Path.{◌≡◌, refl, ◌∙◌, sym, ap}
@@ -11,8 +12,7 @@ use Rattle.config.specs.declared.DrivingMode.{DrivingMode}
 use Rattle.config.specs.declared.DrivingMode.TheVariants.{FREQUENCY_TRACK}
 use Rattle.config.specs.declared.OperationMode.{OperationMode}
 use Rattle.config.specs.declared.OperationMode.TheVariants.{ETWM_MODE}
-use Rattle.config.specs.declared.Trigger.{Trigger}
-use Rattle.config.specs.declared.Trigger.TheVariants.{Absent, Given}
+use Rattle.config.specs.declared.TriggerConfig.{TriggerConfig}
 use Rattle.checks.specs.Checks.{tracking, etwm, one_if_given, sequence_above15, outside_band, Check, configure_checks, first_failing}
 use Rattle.checks.specs.InRange.{OneAbsent}
 use Rattle.checks.specs.Blames.{Outside, OutOfBand, NumberAbove15, Fault, faults, OfFirst, among, Blames}
@@ -93,21 +93,21 @@ out_of_band m hz = (λ e. (λ p. (outside 50 300 hz).0 (there true (ap tracking 
 in_etwm_lem : (m : OperationMode) → (etwm m ≡ true) ↔ (m ≡ ETWM_MODE)
 in_etwm_lem m = (is_etwm m, λ p. ap etwm p)
 
-no_trigger : (r s t : Trigger) → (eqb (one_if_given r + one_if_given s + one_if_given t) 0 ≡ true) ↔ ((r ≡ Absent) × (s ≡ Absent) × (t ≡ Absent))
+no_trigger : (r s t : Option TriggerConfig) → (eqb (one_if_given r + one_if_given s + one_if_given t) 0 ≡ true) ↔ ((r ≡ None) × (s ≡ None) × (t ≡ None))
 no_trigger r s t = (
   λ e. let none = eqb-true (one_if_given r + one_if_given s + one_if_given t) 0 e in (absent r (omega (arith, none)), absent s (omega (arith, none)), absent t (omega (arith, none))),
   λ p. eq-eqb (one_if_given r + one_if_given s + one_if_given t) 0 (λ i. one_if_given (p.0 i) + one_if_given (p.1 i) + one_if_given (p.2 i)),
 )
 
-several : (r s t : Trigger) → (ltb 1 (one_if_given r + one_if_given s + one_if_given t) ≡ true) ↔ ¬ (OneAbsent r s × OneAbsent r t × OneAbsent s t)
+several : (r s t : Option TriggerConfig) → (ltb 1 (one_if_given r + one_if_given s + one_if_given t) ≡ true) ↔ ¬ (OneAbsent r s × OneAbsent r t × OneAbsent s t)
 several r s t = (
   λ e p. omega (arith, ltb-true 1 (one_if_given r + one_if_given s + one_if_given t) e, (lone r s t).1 p),
   λ n. on (ltb 1 (one_if_given r + one_if_given s + one_if_given t)) (λ f. n ((lone r s t).0 (ltb-false 1 (one_if_given r + one_if_given s + one_if_given t) f))),
 )
 
-number_above : (s : Trigger) → (sequence_above15 s ≡ true) ↔ NumberAbove15 s
-number_above Absent = (λ e. false≢true e, λ f. absurd f)
-number_above (Given t) = above 15 t.sequence_id
+number_above : (s : Option TriggerConfig) → (sequence_above15 s ≡ true) ↔ NumberAbove15 s
+number_above None = (λ e. false≢true e, λ f. absurd f)
+number_above (Some t) = above 15 t.sequence_id
 
 -- ---- the claim
 

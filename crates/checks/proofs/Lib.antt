@@ -1,4 +1,3 @@
 pub mod Accepted
 pub mod Blames
-pub mod First
 pub mod Tests

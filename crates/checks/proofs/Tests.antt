@@ -1,4 +1,5 @@
 -- What a test of a check says of the settings, both ways. Assumes nothing.
+use Rattle.std.specs.Prelude.{Option, Some, None}
 use Prim.Native.Nat.{ℕ, ◌+◌, ◌≤◌}
 use native.Mathlib.Omega.{arith}
 use mathlib.Core.Path.{◌≡◌, refl, ◌∙◌, sym, ap}
@@ -10,8 +11,7 @@ use Rattle.config.specs.declared.DrivingMode.{DrivingMode}
 use Rattle.config.specs.declared.DrivingMode.TheVariants.{FREQUENCY_TRACK, WIDEBAND, CUSTOM_WAVEFORM}
 use Rattle.config.specs.declared.OperationMode.{OperationMode}
 use Rattle.config.specs.declared.OperationMode.TheVariants.{INACTIVE, DRO_MODE, PWM_MODE, RTWM_MODE, ETWM_MODE}
-use Rattle.config.specs.declared.Trigger.{Trigger}
-use Rattle.config.specs.declared.Trigger.TheVariants.{Absent, Given}
+use Rattle.config.specs.declared.TriggerConfig.{TriggerConfig}
 use Rattle.config.specs.declared.Variant.{Variant}
 use Rattle.config.specs.declared.Variant.TheVariants.{DA7280, DA7281, DA7282}
 use Rattle.config.specs.Codes.{variant_code}
@@ -78,38 +78,38 @@ is_da7281_lem DA7280 e = absurd (false≢true e)
 is_da7281_lem DA7281 e = refl
 is_da7281_lem DA7282 e = absurd (false≢true e)
 
-pub to15 : (s : Trigger) → (sequence_above15 s ≡ false) ↔ SequenceTo15 s
+pub to15 : (s : Option TriggerConfig) → (sequence_above15 s ≡ false) ↔ SequenceTo15 s
 to15 s = (λ e t p. ltb-false 15 t.sequence_id (sym (ap sequence_above15 p) ∙ e), back s)
   where
-    back : (r : Trigger) → SequenceTo15 r → sequence_above15 r ≡ false
-    back Absent h = refl
-    back (Given t) h = le-ltb 15 t.sequence_id (h t refl)
+    back : (r : Option TriggerConfig) → SequenceTo15 r → sequence_above15 r ≡ false
+    back None h = refl
+    back (Some t) h = le-ltb 15 t.sequence_id (h t refl)
 
 -- ---- how many triggers are given
 
-pub absent : (s : Trigger) → one_if_given s ≡ 0 → s ≡ Absent
-absent Absent e = refl
-absent (Given t) e = absurd (omega (arith, e))
+pub absent : (s : Option TriggerConfig) → one_if_given s ≡ 0 → s ≡ None
+absent None e = refl
+absent (Some t) e = absurd (omega (arith, e))
 
 -- not 0 where not all are absent
-pub some : (r s t : Trigger) → (eqb (one_if_given r + one_if_given s + one_if_given t) 0 ≡ false) ↔ ¬ ((r ≡ Absent) × (s ≡ Absent) × (t ≡ Absent))
+pub some : (r s t : Option TriggerConfig) → (eqb (one_if_given r + one_if_given s + one_if_given t) 0 ≡ false) ↔ ¬ ((r ≡ None) × (s ≡ None) × (t ≡ None))
 some r s t = (
   λ e p. true≢false ((λ i. eqb (one_if_given (sym p.0 i) + one_if_given (sym p.1 i) + one_if_given (sym p.2 i)) 0) ∙ e),
   λ n. ne_eqb (one_if_given r + one_if_given s + one_if_given t) 0 (λ e. n (absent r (omega (arith, e)), absent s (omega (arith, e)), absent t (omega (arith, e)))),
 )
 
-pair : (s t : Trigger) → (one_if_given s + one_if_given t ≤ 1) ↔ OneAbsent s t
-pair Absent Absent = (λ h. inl refl, λ p. omega arith)
-pair Absent (Given t) = (λ h. inl refl, λ p. omega arith)
-pair (Given s) Absent = (λ h. inr refl, λ p. omega arith)
-pair (Given s) (Given t) = (λ h. absurd (omega (arith, h)), go)
+pair : (s t : Option TriggerConfig) → (one_if_given s + one_if_given t ≤ 1) ↔ OneAbsent s t
+pair None None = (λ h. inl refl, λ p. omega arith)
+pair None (Some t) = (λ h. inl refl, λ p. omega arith)
+pair (Some s) None = (λ h. inr refl, λ p. omega arith)
+pair (Some s) (Some t) = (λ h. absurd (omega (arith, h)), go)
   where
-    go : OneAbsent (Given s) (Given t) → one_if_given (Given s) + one_if_given (Given t) ≤ 1
+    go : OneAbsent (Some s) (Some t) → one_if_given (Some s) + one_if_given (Some t) ≤ 1
     go (inl e) = omega (arith, ap one_if_given e)
     go (inr e) = omega (arith, ap one_if_given e)
 
 -- at most 1 where no two are given
-pub lone : (r s t : Trigger) → (one_if_given r + one_if_given s + one_if_given t ≤ 1) ↔ (OneAbsent r s × OneAbsent r t × OneAbsent s t)
+pub lone : (r s t : Option TriggerConfig) → (one_if_given r + one_if_given s + one_if_given t ≤ 1) ↔ (OneAbsent r s × OneAbsent r t × OneAbsent s t)
 lone r s t = (
   λ h. ((pair r s).0 (omega (arith, h)), (pair r t).0 (omega (arith, h)), (pair s t).0 (omega (arith, h))),
   λ p. omega (arith, (pair r s).1 p.0, (pair r t).1 p.1, (pair s t).1 p.2),

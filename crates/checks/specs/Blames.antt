@@ -1,14 +1,13 @@
 -- Which number `configure` tells of settings: that of the first fault in document 01's order, with document 02's numbers (CR 3). So where a number
 -- is told, an entry that it stands for is wrong; a voltage that alone is wrong is told by 21, a current or an impedance by 22, a frequency
 -- by 23, a trigger's number by 11. That it is so: proofs/Blames.antt.
-use Rattle.std.specs.Prelude.{ℕ, ◌<◌, ◌≡◌, Bool, true, false, ◌||◌, ◌⊎◌, List, [], ◌∷◌, eqb}
+use Rattle.std.specs.Prelude.{ℕ, ◌<◌, ◌≡◌, Bool, true, false, ◌||◌, ◌⊎◌, List, [], ◌∷◌, eqb, Option, Some, None}
 use Rattle.config.specs.declared.ActuatorConfig.{ActuatorConfig}
 use Rattle.config.specs.declared.DeviceConfig.{DeviceConfig}
 use Rattle.config.specs.declared.DrivingMode.{DrivingMode}
 use Rattle.config.specs.declared.DrivingMode.TheVariants.{FREQUENCY_TRACK}
 use Rattle.config.specs.declared.OperationMode.TheVariants.{ETWM_MODE}
-use Rattle.config.specs.declared.Trigger.{Trigger}
-use Rattle.config.specs.declared.Trigger.TheVariants.{Absent, Given}
+use Rattle.config.specs.declared.TriggerConfig.{TriggerConfig}
 use Rattle.config.specs.declared.Variant.{Variant}
 use Rattle.config.specs.declared.Variant.TheVariants.{DA7281}
 use Rattle.checks.specs.Checks.{configure_number}
@@ -23,9 +22,9 @@ Outside low high n = (n < low) ⊎ (high < n)
 abbrev pub OutOfBand : DrivingMode → ℕ → Type 0
 OutOfBand m hz = (m ≡ FREQUENCY_TRACK → Outside 50 300 hz) × (¬ (m ≡ FREQUENCY_TRACK) → Outside 25 1024 hz)
 
-abbrev pub NumberAbove15 : Trigger → Type 0
-NumberAbove15 Absent = ⊥
-NumberAbove15 (Given t) = 15 < t.sequence_id
+abbrev pub NumberAbove15 : Option TriggerConfig → Type 0
+NumberAbove15 None = ⊥
+NumberAbove15 (Some t) = 15 < t.sequence_id
 
 abbrev pub Fault : Type 1
 Fault = ℕ × Type 0
@@ -34,7 +33,7 @@ Fault = ℕ × Type 0
 abbrev pub faults : Variant → ActuatorConfig → DeviceConfig → List Fault
 faults v a d =
     (12, (¬ (d.driving_mode ≡ FREQUENCY_TRACK)) × ((d.acceleration ≡ true) ⊎ (d.rapid_stop ≡ true)))
-    ∷ (13, (d.operation_mode ≡ ETWM_MODE) × ((d.gpi_trigger_0 ≡ Absent) × (d.gpi_trigger_1 ≡ Absent) × (d.gpi_trigger_2 ≡ Absent)))
+    ∷ (13, (d.operation_mode ≡ ETWM_MODE) × ((d.gpi_trigger_0 ≡ None) × (d.gpi_trigger_1 ≡ None) × (d.gpi_trigger_2 ≡ None)))
     ∷ (
       14,
       (d.operation_mode ≡ ETWM_MODE) × ((v ≡ DA7281)

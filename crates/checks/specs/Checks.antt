@@ -1,14 +1,13 @@
 -- `configure`'s checks: document 01, 'Settings to registers'. A check is what fails and the number that it then gives; the first of the
 -- list that fails is told.
-use Rattle.std.specs.Prelude.{ℕ, ◌+◌, Bool, true, false, not, cond, ◌&&◌, ◌||◌, List, [], ◌∷◌, ltb, eqb}
+use Rattle.std.specs.Prelude.{ℕ, ◌+◌, Bool, false, not, cond, ◌&&◌, ◌||◌, List, [], ◌∷◌, ltb, eqb, Option, Some, None}
 use Rattle.config.specs.declared.ActuatorConfig.{ActuatorConfig}
 use Rattle.config.specs.declared.DeviceConfig.{DeviceConfig}
 use Rattle.config.specs.declared.DrivingMode.{DrivingMode}
 use Rattle.config.specs.declared.DrivingMode.TheVariants.{FREQUENCY_TRACK}
 use Rattle.config.specs.declared.OperationMode.{OperationMode}
 use Rattle.config.specs.declared.OperationMode.TheVariants.{ETWM_MODE}
-use Rattle.config.specs.declared.Trigger.{Trigger}
-use Rattle.config.specs.declared.Trigger.TheVariants.{Absent, Given}
+use Rattle.config.specs.declared.TriggerConfig.{TriggerConfig}
 use Rattle.config.specs.declared.Variant.{Variant}
 use Rattle.config.specs.declared.Variant.TheVariants.{DA7281}
 use Rattle.config.specs.Codes.{operation_code, driving_code, variant_code}
@@ -21,17 +20,17 @@ tracking mode = eqb (driving_code mode) (driving_code FREQUENCY_TRACK)
 abbrev pub etwm : OperationMode → Bool
 etwm mode = eqb (operation_code mode) (operation_code ETWM_MODE)
 
-abbrev pub one_if_given : Trigger → ℕ
-one_if_given Absent = 0
-one_if_given (Given t) = 1
+abbrev pub one_if_given : Option TriggerConfig → ℕ
+one_if_given None = 0
+one_if_given (Some t) = 1
 
 abbrev pub triggers_given : DeviceConfig → ℕ
 triggers_given d = one_if_given d.gpi_trigger_0 + one_if_given d.gpi_trigger_1 + one_if_given d.gpi_trigger_2
 
 -- "a given trigger's sequence number above 15"
-abbrev pub sequence_above15 : Trigger → Bool
-sequence_above15 Absent = false
-sequence_above15 (Given t) = ltb 15 t.sequence_id
+abbrev pub sequence_above15 : Option TriggerConfig → Bool
+sequence_above15 None = false
+sequence_above15 (Some t) = ltb 15 t.sequence_id
 
 abbrev pub triggers_above15 : DeviceConfig → Bool
 triggers_above15 d = sequence_above15 d.gpi_trigger_0 || (sequence_above15 d.gpi_trigger_1 || sequence_above15 d.gpi_trigger_2)

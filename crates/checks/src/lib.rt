@@ -5,57 +5,58 @@
 // fault, each said in plain numbers (specs/Blames.antt).
 #![tactic(auto)]
 
-ghost use Rattle.std.specs.Prelude.{◌≡◌, cond, not, ◌&&◌, ◌||◌, ltb, eqb};
+ghost use Rattle.std.specs.Prelude.{◌≡◌, not, ◌&&◌, ◌||◌, ltb, eqb};
 ghost use Rattle.errors.specs.Number.{answer_number};
 ghost use Rattle.config.specs.Codes.{variant_code};
 ghost use Rattle.config.specs.declared.Variant.TheVariants.{DA7281};
 ghost use Rattle.checks.specs.Checks as spec;
 
-use config::{ActuatorConfig, DeviceConfig, DrivingMode, OperationMode, Trigger, Variant};
-use errors::{Answer, Error};
+use config::{ActuatorConfig, DeviceConfig, DrivingMode, OperationMode, TriggerConfig, Variant};
+use errors::Error;
 
-pub fn configure_checks(variant: Variant, actuator: ActuatorConfig, device: DeviceConfig) -> Answer
+pub fn configure_checks(
+    variant: Variant,
+    actuator: ActuatorConfig,
+    device: DeviceConfig,
+) -> Result<(), Error>
     ensures { answer_number result ≡ spec.configure_number variant actuator device }
 {
-    let mode = device.driving_mode;
     if needs_tracking(device) {
-        return Answer::Refused(Error::WrongMode);
+        return Err(Error::WrongMode);
     }
     if lacks_trigger(device) {
-        return Answer::Refused(Error::MissingTriggerConfigInEtwmMode);
+        return Err(Error::MissingTriggerConfigInEtwmMode);
     }
     if has_too_many_triggers(variant, device) {
-        return Answer::Refused(Error::NotSupported);
+        return Err(Error::NotSupported);
     }
-    let voltage = higher(actuator.nominal_max_mV, actuator.absolute_max_mV);
+    let voltage = actuator.nominal_max_mV.max(actuator.absolute_max_mV);
     if 6000 < voltage {
-        return Answer::Refused(Error::InvalidVoltage);
+        return Err(Error::InvalidVoltage);
     }
     if 252 < actuator.max_current_mA {
-        return Answer::Refused(Error::InvalidCurrentOrImpedance);
+        return Err(Error::InvalidCurrentOrImpedance);
     }
-    if outside_impedance(actuator.impedance_mOhm) {
-        return Answer::Refused(Error::InvalidCurrentOrImpedance);
+    if !(4000..=49999).contains(&actuator.impedance_mOhm) {
+        return Err(Error::InvalidCurrentOrImpedance);
     }
-    // told below, behind the others; asked here, where it costs less
-    let above = triggers_above_15(device);
-    if outside_band(mode, actuator.frequency_Hz) {
-        return Answer::Refused(Error::InvalidDriveFrequency);
+    if outside_band(device.driving_mode, actuator.frequency_Hz) {
+        return Err(Error::InvalidDriveFrequency);
     }
     // from here on the checks that the Rust lacks; they stay behind the others
     if 5990 < voltage {
-        return Answer::Refused(Error::InvalidVoltage);
+        return Err(Error::InvalidVoltage);
     }
     if actuator.max_current_mA < 29 {
-        return Answer::Refused(Error::InvalidCurrentOrImpedance);
+        return Err(Error::InvalidCurrentOrImpedance);
     }
-    if above {
-        return Answer::Refused(Error::InvalidValue);
+    if triggers_above_15(device) {
+        return Err(Error::InvalidValue);
     }
     if device.rapid_stop {
-        return Answer::Refused(Error::NotSupported);
+        return Err(Error::NotSupported);
     }
-    Answer::Done
+    Ok(())
 }
 
 // Whether a frequency lies outside the band of the driving mode.
@@ -63,139 +64,65 @@ pub fn outside_band(mode: DrivingMode, hz: u16) -> bool
     ensures { result ≡ spec.outside_band mode hz }
 {
     if is_tracking(mode) {
-        if hz < 50 {
-            return true;
-        }
-        return 300 < hz;
+        !(50..=300).contains(&hz)
+    } else {
+        !(25..=1024).contains(&hz)
     }
-    if hz < 25 {
-        return true;
-    }
-    1024 < hz
 }
 
 pub fn is_tracking(mode: DrivingMode) -> bool
     ensures { result ≡ spec.tracking mode }
 {
-    let tracks = DrivingMode::FREQUENCY_TRACK;
-    mode.code() == tracks.code()
+    mode == DrivingMode::FREQUENCY_TRACK
 }
 
 pub fn is_etwm(mode: OperationMode) -> bool
     ensures { result ≡ spec.etwm mode }
 {
-    let etwm = OperationMode::ETWM_MODE;
-    mode.code() == etwm.code()
+    mode == OperationMode::ETWM_MODE
 }
 
 // Acceleration or rapid stop when not tracking.
 fn needs_tracking(device: DeviceConfig) -> bool
     ensures { result ≡ (not (spec.tracking device.driving_mode) && (device.acceleration || device.rapid_stop)) }
 {
-    let mode = device.driving_mode;
-    if is_tracking(mode) {
-        return false;
-    }
-    if device.acceleration {
-        return true;
-    }
-    device.rapid_stop
+    !is_tracking(device.driving_mode) && (device.acceleration || device.rapid_stop)
 }
 
 // In ETWM mode, no trigger.
 fn lacks_trigger(device: DeviceConfig) -> bool
     ensures { result ≡ (spec.etwm device.operation_mode && eqb (spec.triggers_given device) 0) }
 {
-    let mode = device.operation_mode;
-    if is_etwm(mode) {
-        return triggers_given(device) == 0;
-    }
-    false
+    is_etwm(device.operation_mode) && triggers_given(device) == 0
 }
 
 // In ETWM mode, more than one trigger on the DA7281.
 fn has_too_many_triggers(variant: Variant, device: DeviceConfig) -> bool
     ensures { result ≡ (spec.etwm device.operation_mode && (eqb (variant_code variant) (variant_code DA7281) && ltb 1 (spec.triggers_given device))) }
 {
-    let mode = device.operation_mode;
-    if is_etwm(mode) {
-        if is_DA7281(variant) {
-            return 1 < triggers_given(device);
-        }
-        return false;
-    }
-    false
-}
-
-fn is_DA7281(variant: Variant) -> bool
-    ensures { result ≡ eqb (variant_code variant) (variant_code DA7281) }
-{
-    let other = Variant::DA7281;
-    variant.code() == other.code()
-}
-
-// The higher of two voltages.
-fn higher(a: u16, b: u16) -> u16
-    ensures { result ≡ cond (ltb a b) b a }
-{
-    if a < b {
-        return b;
-    }
-    a
-}
-
-fn outside_impedance(mOhm: u16) -> bool
-    ensures { result ≡ (ltb mOhm 4000 || ltb 49999 mOhm) }
-{
-    if mOhm < 4000 {
-        return true;
-    }
-    49999 < mOhm
+    is_etwm(device.operation_mode) && variant == Variant::DA7281 && 1 < triggers_given(device)
 }
 
 fn triggers_given(device: DeviceConfig) -> u8
     ensures { result ≡ spec.triggers_given device }
 {
-    let t0 = device.gpi_trigger_0;
-    let t1 = device.gpi_trigger_1;
-    let t2 = device.gpi_trigger_2;
-    one_if_given(t0) + one_if_given(t1) + one_if_given(t2)
-}
-
-fn one_if_given(trigger: Trigger) -> u8
-    ensures { result ≡ spec.one_if_given trigger }
-{
-    match trigger {
-        Trigger::Absent => 0,
-        Trigger::Given(_) => 1,
-    }
+    device.gpi_trigger_0.is_some() as u8
+        + device.gpi_trigger_1.is_some() as u8
+        + device.gpi_trigger_2.is_some() as u8
 }
 
 // In ETWM mode, a given trigger's sequence number above 15.
 fn triggers_above_15(device: DeviceConfig) -> bool
     ensures { result ≡ (spec.etwm device.operation_mode && spec.triggers_above15 device) }
 {
-    let mode = device.operation_mode;
-    if is_etwm(mode) {
-        let t0 = device.gpi_trigger_0;
-        let t1 = device.gpi_trigger_1;
-        let t2 = device.gpi_trigger_2;
-        if sequence_above_15(t0) {
-            return true;
-        }
-        if sequence_above_15(t1) {
-            return true;
-        }
-        return sequence_above_15(t2);
-    }
-    false
+    is_etwm(device.operation_mode)
+        && (sequence_above_15(device.gpi_trigger_0)
+            || sequence_above_15(device.gpi_trigger_1)
+            || sequence_above_15(device.gpi_trigger_2))
 }
 
-fn sequence_above_15(trigger: Trigger) -> bool
+fn sequence_above_15(trigger: Option<TriggerConfig>) -> bool
     ensures { result ≡ spec.sequence_above15 trigger }
 {
-    match trigger {
-        Trigger::Absent => false,
-        Trigger::Given(t) => 15 < t.sequence_id,
-    }
+    trigger.is_some_and(|t| 15 < t.sequence_id)
 }

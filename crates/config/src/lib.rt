@@ -1,13 +1,12 @@
 // The settings of an actuator and of the chip (config.rs; document 01, 'Settings to registers'), and the chip's variant (lib.rs).
-// An `Option` is an enum of given or absent, and the three triggers are three fields, each with its own place in the record.
-// Proved: each choice's code is the Rust's number for it, and a code past the last counts as the last (specs/Codes.antt).
-// Left out: what the Rust derives beside `Clone` and `Copy`, as comparing and printing.
+// The three triggers are three fields, as each has its own place in the record, and a list of three would need its length said in each claim.
+// Proved: each choice's code is the Rust's number for it, and a code past the last counts as the last (specs/Codes.antt). Nothing is left out.
 #![tactic(auto)]
 
 ghost use Rattle.std.specs.Prelude.{◌≡◌};
 ghost use Rattle.config.specs.Codes.{actuator_code, trigger_mode_code, polarity_code, operation_code, driving_code, variant_code, actuator_at, trigger_mode_at, polarity_at, operation_at, driving_at, variant_at};
 
-#[derive(Clone, Copy)]
+#[derive(Debug, Clone, Copy, PartialEq, Eq)]
 pub struct ActuatorConfig {
     pub actuator_type: ActuatorType,
     pub nominal_max_mV: u16,
@@ -16,59 +15,47 @@ pub struct ActuatorConfig {
     pub impedance_mOhm: u16,
     pub inductance_uH: u16,
     pub frequency_Hz: u16,
-    pub pid_Kp_Ki: Pid,
+    pub pid_Kp_Ki: Option<(u16, u16)>,
 }
 
-#[derive(Clone, Copy)]
-pub enum Pid {
-    Absent,
-    Given(u16, u16),
-}
-
-#[derive(Clone, Copy)]
+#[derive(Debug, Clone, Copy, PartialEq, Eq)]
 pub enum ActuatorType {
     LRA,
     ERM,
 }
 
-#[derive(Clone, Copy)]
+#[derive(Debug, Clone, Copy, PartialEq, Eq)]
 pub enum TriggerMode {
     SingleSequence,
     MultiSequence,
 }
 
-#[derive(Clone, Copy)]
+#[derive(Debug, Clone, Copy, PartialEq, Eq)]
 pub enum TriggerPolarity {
     Rising,
     Falling,
     Both,
 }
 
-#[derive(Clone, Copy)]
+#[derive(Debug, Clone, Copy, PartialEq, Eq)]
 pub struct TriggerConfig {
     pub sequence_id: u8,
     pub polarity: TriggerPolarity,
     pub mode: TriggerMode,
 }
 
-#[derive(Clone, Copy)]
-pub enum Trigger {
-    Absent,
-    Given(TriggerConfig),
-}
-
-#[derive(Clone, Copy)]
+#[derive(Debug, Clone, Copy, PartialEq, Eq)]
 pub struct DeviceConfig {
     pub operation_mode: OperationMode,
     pub driving_mode: DrivingMode,
-    pub gpi_trigger_0: Trigger,
-    pub gpi_trigger_1: Trigger,
-    pub gpi_trigger_2: Trigger,
+    pub gpi_trigger_0: Option<TriggerConfig>,
+    pub gpi_trigger_1: Option<TriggerConfig>,
+    pub gpi_trigger_2: Option<TriggerConfig>,
     pub acceleration: bool,
     pub rapid_stop: bool,
 }
 
-#[derive(Clone, Copy)]
+#[derive(Debug, Clone, Copy, PartialEq, Eq)]
 pub enum OperationMode {
     INACTIVE,
     DRO_MODE,
@@ -77,7 +64,7 @@ pub enum OperationMode {
     ETWM_MODE,
 }
 
-#[derive(Clone, Copy)]
+#[derive(Debug, Clone, Copy, PartialEq, Eq)]
 pub enum DrivingMode {
     FREQUENCY_TRACK,
     WIDEBAND,
@@ -85,26 +72,25 @@ pub enum DrivingMode {
 }
 
 // lib.rs
-#[derive(Clone, Copy)]
+#[derive(Debug, Clone, Copy, PartialEq, Eq)]
 pub enum Variant {
     DA7280,
     DA7281,
     DA7282,
 }
 
-impl ActuatorType {
-    pub fn code(self) -> u8
-        ensures { result ≡ actuator_code self }
-    {
-        match self {
-            ActuatorType::LRA => 0,
-            ActuatorType::ERM => 1,
-        }
-    }
+impl From<ActuatorType> for u8 {
+    ghost from_gives = { λ actuator_type code. code ≡ actuator_code actuator_type };
 
-    pub fn from_code(code: u8) -> ActuatorType
-        ensures { result ≡ actuator_at code }
-    {
+    fn from(actuator_type: ActuatorType) -> u8 {
+        actuator_type as u8
+    }
+}
+
+impl From<u8> for ActuatorType {
+    ghost from_gives = { λ code actuator_type. actuator_type ≡ actuator_at code };
+
+    fn from(code: u8) -> ActuatorType {
         match code {
             0 => ActuatorType::LRA,
             _ => ActuatorType::ERM,
@@ -112,19 +98,18 @@ impl ActuatorType {
     }
 }
 
-impl TriggerMode {
-    pub fn code(self) -> u8
-        ensures { result ≡ trigger_mode_code self }
-    {
-        match self {
-            TriggerMode::SingleSequence => 0,
-            TriggerMode::MultiSequence => 1,
-        }
-    }
+impl From<TriggerMode> for u8 {
+    ghost from_gives = { λ mode code. code ≡ trigger_mode_code mode };
 
-    pub fn from_code(code: u8) -> TriggerMode
-        ensures { result ≡ trigger_mode_at code }
-    {
+    fn from(mode: TriggerMode) -> u8 {
+        mode as u8
+    }
+}
+
+impl From<u8> for TriggerMode {
+    ghost from_gives = { λ code mode. mode ≡ trigger_mode_at code };
+
+    fn from(code: u8) -> TriggerMode {
         match code {
             0 => TriggerMode::SingleSequence,
             _ => TriggerMode::MultiSequence,
@@ -132,20 +117,18 @@ impl TriggerMode {
     }
 }
 
-impl TriggerPolarity {
-    pub fn code(self) -> u8
-        ensures { result ≡ polarity_code self }
-    {
-        match self {
-            TriggerPolarity::Rising => 0,
-            TriggerPolarity::Falling => 1,
-            TriggerPolarity::Both => 2,
-        }
-    }
+impl From<TriggerPolarity> for u8 {
+    ghost from_gives = { λ polarity code. code ≡ polarity_code polarity };
 
-    pub fn from_code(code: u8) -> TriggerPolarity
-        ensures { result ≡ polarity_at code }
-    {
+    fn from(polarity: TriggerPolarity) -> u8 {
+        polarity as u8
+    }
+}
+
+impl From<u8> for TriggerPolarity {
+    ghost from_gives = { λ code polarity. polarity ≡ polarity_at code };
+
+    fn from(code: u8) -> TriggerPolarity {
         match code {
             0 => TriggerPolarity::Rising,
             1 => TriggerPolarity::Falling,
@@ -154,22 +137,18 @@ impl TriggerPolarity {
     }
 }
 
-impl OperationMode {
-    pub fn code(self) -> u8
-        ensures { result ≡ operation_code self }
-    {
-        match self {
-            OperationMode::INACTIVE => 0,
-            OperationMode::DRO_MODE => 1,
-            OperationMode::PWM_MODE => 2,
-            OperationMode::RTWM_MODE => 3,
-            OperationMode::ETWM_MODE => 4,
-        }
-    }
+impl From<OperationMode> for u8 {
+    ghost from_gives = { λ mode code. code ≡ operation_code mode };
 
-    pub fn from_code(code: u8) -> OperationMode
-        ensures { result ≡ operation_at code }
-    {
+    fn from(mode: OperationMode) -> u8 {
+        mode as u8
+    }
+}
+
+impl From<u8> for OperationMode {
+    ghost from_gives = { λ code mode. mode ≡ operation_at code };
+
+    fn from(code: u8) -> OperationMode {
         match code {
             0 => OperationMode::INACTIVE,
             1 => OperationMode::DRO_MODE,
@@ -180,20 +159,18 @@ impl OperationMode {
     }
 }
 
-impl DrivingMode {
-    pub fn code(self) -> u8
-        ensures { result ≡ driving_code self }
-    {
-        match self {
-            DrivingMode::FREQUENCY_TRACK => 0,
-            DrivingMode::WIDEBAND => 1,
-            DrivingMode::CUSTOM_WAVEFORM => 2,
-        }
-    }
+impl From<DrivingMode> for u8 {
+    ghost from_gives = { λ mode code. code ≡ driving_code mode };
 
-    pub fn from_code(code: u8) -> DrivingMode
-        ensures { result ≡ driving_at code }
-    {
+    fn from(mode: DrivingMode) -> u8 {
+        mode as u8
+    }
+}
+
+impl From<u8> for DrivingMode {
+    ghost from_gives = { λ code mode. mode ≡ driving_at code };
+
+    fn from(code: u8) -> DrivingMode {
         match code {
             0 => DrivingMode::FREQUENCY_TRACK,
             1 => DrivingMode::WIDEBAND,
@@ -202,20 +179,18 @@ impl DrivingMode {
     }
 }
 
-impl Variant {
-    pub fn code(self) -> u8
-        ensures { result ≡ variant_code self }
-    {
-        match self {
-            Variant::DA7280 => 0,
-            Variant::DA7281 => 1,
-            Variant::DA7282 => 2,
-        }
-    }
+impl From<Variant> for u8 {
+    ghost from_gives = { λ variant code. code ≡ variant_code variant };
 
-    pub fn from_code(code: u8) -> Variant
-        ensures { result ≡ variant_at code }
-    {
+    fn from(variant: Variant) -> u8 {
+        variant as u8
+    }
+}
+
+impl From<u8> for Variant {
+    ghost from_gives = { λ code variant. variant ≡ variant_at code };
+
+    fn from(code: u8) -> Variant {
         match code {
             0 => Variant::DA7280,
             1 => Variant::DA7281,

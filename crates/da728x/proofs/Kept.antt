@@ -4,6 +4,7 @@ use mathlib.Core.Bool.{Bool, true, false}
 use mathlib.Core.List.{List, [], ◌∷◌, ◌++◌, append_assoc}
 use Prim.Native.Nat.{ℕ, suc, ◌+◌, ◌*◌, ◌/◌, ◌%◌}
 use native.Mathlib.Omega.{arith}
+use Rattle.std.specs.Prelude.{Option, Some, None}
 use lib.Dec.{ltb}
 use lib.ListN.{length, get_or, length-append}
 use lib.Seq.{get_or-append_seam}
@@ -12,10 +13,7 @@ use Rattle.laws.specs.Lists.{at}
 use Rattle.field.specs.Field.{code_of}
 use Rattle.config.specs.declared.ActuatorConfig.{ActuatorConfig}
 use Rattle.config.specs.declared.DeviceConfig.{DeviceConfig}
-use Rattle.config.specs.declared.Pid.{Pid}
-use Rattle.config.specs.declared.Pid.TheVariants as pid
-use Rattle.config.specs.declared.Trigger.{Trigger}
-use Rattle.config.specs.declared.Trigger.TheVariants as trigger
+use Rattle.config.specs.declared.TriggerConfig.{TriggerConfig}
 use Rattle.config.specs.declared.ActuatorType.{ActuatorType}
 use Rattle.config.specs.declared.ActuatorType.TheVariants.{LRA, ERM}
 use Rattle.config.specs.declared.TriggerMode.{TriggerMode}
@@ -30,8 +28,6 @@ use Rattle.config.specs.declared.Variant.{Variant}
 use Rattle.config.specs.declared.Variant.TheVariants.{DA7280, DA7281, DA7282}
 use Rattle.config.specs.Codes.{actuator_code, actuator_at, operation_code, operation_at, driving_code, driving_at, polarity_code, polarity_at, trigger_mode_code, trigger_mode_at, variant_code, variant_at}
 use Rattle.da728x.specs.declared.DA728x.{DA728x}
-use Rattle.da728x.specs.declared.Settings.{Settings}
-use Rattle.da728x.specs.declared.Settings.TheVariants.{Absent, Given}
 use Rattle.da728x.specs.Record.{record_bytes, record_at, settings_bytes, settings_at, actuator_bytes, actuator_config_at, device_bytes, device_config_at, pid_bytes, pid_at, trigger_bytes, trigger_at}
 
 -- ---- each choice from its code
@@ -75,42 +71,42 @@ two_kept n = omega arith
 
 -- ---- the parts, and what stands after them
 
-pid_kept : (p : Pid) (r : List ℕ) → pid_at (pid_bytes p ++ r) 0 ≡ p
-pid_kept pid.Absent r = refl
-pid_kept (pid.Given kp ki) r = λ i. pid.Given (two_kept kp i) (two_kept ki i)
+pid_kept : (p : Option (ℕ × ℕ)) (r : List ℕ) → pid_at (pid_bytes p ++ r) 0 ≡ p
+pid_kept None r = refl
+pid_kept (Some (kp, ki)) r = λ i. Some (two_kept kp i, two_kept ki i)
 
-after_pid : (p : Pid) (r : List ℕ) → device_config_at (pid_bytes p ++ r) 5 ≡ device_config_at r 0
-after_pid pid.Absent r = refl
-after_pid (pid.Given kp ki) r = refl
+after_pid : (p : Option (ℕ × ℕ)) (r : List ℕ) → device_config_at (pid_bytes p ++ r) 5 ≡ device_config_at r 0
+after_pid None r = refl
+after_pid (Some (kp, ki)) r = refl
 
-pid_length : (p : Pid) (r : List ℕ) → length (pid_bytes p ++ r) ≡ length r + 5
-pid_length pid.Absent r = omega arith
-pid_length (pid.Given kp ki) r = omega arith
+pid_length : (p : Option (ℕ × ℕ)) (r : List ℕ) → length (pid_bytes p ++ r) ≡ length r + 5
+pid_length None r = omega arith
+pid_length (Some (kp, ki)) r = omega arith
 
-trigger_kept : (t : Trigger) (r : List ℕ) → trigger_at (trigger_bytes t ++ r) 0 ≡ t
-trigger_kept trigger.Absent r = refl
-trigger_kept (trigger.Given t) r =
-    λ i. trigger.Given (record { sequence_id = t.sequence_id; polarity = polarity_kept t.polarity i; mode = mode_kept t.mode i })
+trigger_kept : (t : Option TriggerConfig) (r : List ℕ) → trigger_at (trigger_bytes t ++ r) 0 ≡ t
+trigger_kept None r = refl
+trigger_kept (Some t) r =
+    λ i. Some (record { sequence_id = t.sequence_id; polarity = polarity_kept t.polarity i; mode = mode_kept t.mode i })
 
-after_trigger : (t : Trigger) (r : List ℕ) → trigger_at (trigger_bytes t ++ r) 4 ≡ trigger_at r 0
-after_trigger trigger.Absent r = refl
-after_trigger (trigger.Given t) r = refl
+after_trigger : (t : Option TriggerConfig) (r : List ℕ) → trigger_at (trigger_bytes t ++ r) 4 ≡ trigger_at r 0
+after_trigger None r = refl
+after_trigger (Some t) r = refl
 
-further_trigger : (t : Trigger) (r : List ℕ) → trigger_at (trigger_bytes t ++ r) 8 ≡ trigger_at r 4
-further_trigger trigger.Absent r = refl
-further_trigger (trigger.Given t) r = refl
+further_trigger : (t : Option TriggerConfig) (r : List ℕ) → trigger_at (trigger_bytes t ++ r) 8 ≡ trigger_at r 4
+further_trigger None r = refl
+further_trigger (Some t) r = refl
 
 -- a place after a trigger's four bytes
 abbrev later : ℕ → ℕ
 later i = suc (suc (suc (suc i)))
 
-byte_after : (t : Trigger) (r : List ℕ) (i : ℕ) → get_or (trigger_bytes t ++ r) (later i) 0 ≡ get_or r i 0
-byte_after trigger.Absent r i = refl
-byte_after (trigger.Given t) r i = refl
+byte_after : (t : Option TriggerConfig) (r : List ℕ) (i : ℕ) → get_or (trigger_bytes t ++ r) (later i) 0 ≡ get_or r i 0
+byte_after None r i = refl
+byte_after (Some t) r i = refl
 
-trigger_length : (t : Trigger) (r : List ℕ) → length (trigger_bytes t ++ r) ≡ length r + 4
-trigger_length trigger.Absent r = omega arith
-trigger_length (trigger.Given t) r = omega arith
+trigger_length : (t : Option TriggerConfig) (r : List ℕ) → length (trigger_bytes t ++ r) ≡ length r + 4
+trigger_length None r = omega arith
+trigger_length (Some t) r = omega arith
 
 -- ---- the settings
 
@@ -154,22 +150,22 @@ device_config_kept a d r = after_pid a.pid_Kp_Ki (device_bytes d ++ r) ∙ devic
 
 -- ---- the record
 
-settings_length : (s : Settings) → length (settings_bytes s) ≡ 35
-settings_length Absent = refl
-settings_length (Given a d) = simp (pid_length, trigger_length)
+settings_length : (s : Option (ActuatorConfig × DeviceConfig)) → length (settings_bytes s) ≡ 35
+settings_length None = refl
+settings_length (Some (a, d)) = simp (pid_length, trigger_length)
 
 pub record_length : (r : DA728x) → length (record_bytes r) ≡ 38
 unfolding record_bytes
 record_length r = simp length-append (omega (arith, settings_length r.settings))
 
-settings_kept : (x y : ℕ) (s : Settings) (r : List ℕ) → settings_at (x ∷ y ∷ (settings_bytes s ++ r)) ≡ s
-settings_kept x y Absent r = refl
-settings_kept x y (Given a d) r =
-    let laid : settings_bytes (Given a d) ++ r ≡ 2 ∷ (actuator_bytes a ++ (device_bytes d ++ r)) = ap (λ (l : List ℕ). 2 ∷ l) (append_assoc (actuator_bytes a) (device_bytes d) r) in
-    ap (λ (l : List ℕ). settings_at (x ∷ y ∷ l)) laid ∙ λ i. Given (actuator_config_kept a (device_bytes d ++ r) i) (device_config_kept a d r i)
+settings_kept : (x y : ℕ) (s : Option (ActuatorConfig × DeviceConfig)) (r : List ℕ) → settings_at (x ∷ y ∷ (settings_bytes s ++ r)) ≡ s
+settings_kept x y None r = refl
+settings_kept x y (Some (a, d)) r =
+    let laid : settings_bytes (Some (a, d)) ++ r ≡ 2 ∷ (actuator_bytes a ++ (device_bytes d ++ r)) = ap (λ (l : List ℕ). 2 ∷ l) (append_assoc (actuator_bytes a) (device_bytes d) r) in
+    ap (λ (l : List ℕ). settings_at (x ∷ y ∷ l)) laid ∙ λ i. Some (actuator_config_kept a (device_bytes d ++ r) i, device_config_kept a d r i)
 
 -- the last byte
-sequences_kept : (s : Settings) (n : ℕ) → at (settings_bytes s ++ (n ∷ [])) 35 ≡ n
+sequences_kept : (s : Option (ActuatorConfig × DeviceConfig)) (n : ℕ) → at (settings_bytes s ++ (n ∷ [])) 35 ≡ n
 sequences_kept s n = ap (at (settings_bytes s ++ (n ∷ []))) (sym (settings_length s)) ∙ get_or-append_seam (settings_bytes s) n [] 0
 
 -- what `from_bytes` makes of what `to_bytes` made

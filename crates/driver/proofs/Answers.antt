@@ -23,8 +23,7 @@ use Rattle.exchange.specs.Session.{AnswerCall, exchanges_of}
 use Rattle.plans.specs.Configure.{configure_steps, frequency_steps}
 use Rattle.plans.proofs.Lengths.{at_least, at_most, frequency}
 use Rattle.da728x.specs.declared.DA728x.{DA728x}
-use Rattle.da728x.specs.declared.Settings.{Settings}
-use Rattle.da728x.specs.declared.Settings.TheVariants.{Absent, Given}
+use Rattle.std.specs.Prelude.{Option, Some, None}
 use Rattle.da728x.proofs.Kept.{record_length}
 use Rattle.convert.specs.Convert.{override_byte}
 use Rattle.memory.specs.Timebase.{timebase_bit}
@@ -52,10 +51,10 @@ pub by_unless : (Q : Begun → List Step → Type 0) (n : ℕ) (s : Start) → B
 by_unless Q zero s q = q
 by_unless Q (suc n) s q = tt
 
-by_settings : (Q : Begun → List Step → Type 0) (s : Settings) (f : ActuatorConfig → DeviceConfig → Start) →
+by_settings : (Q : Begun → List Step → Type 0) (s : Option (ActuatorConfig × DeviceConfig)) (f : ActuatorConfig → DeviceConfig → Start) →
     ((a : ActuatorConfig) (d : DeviceConfig) → By Q (f a d)) → By Q (with_settings s f)
-by_settings Q Absent f q = tt
-by_settings Q (Given a d) f q = q a d
+by_settings Q None f q = tt
+by_settings Q (Some (a, d)) f q = q a d
 
 -- its session answers as its result says
 abbrev pub Gives : (List ℕ → ℕ) → Begun → List Step → Type 0
@@ -182,10 +181,10 @@ courses r q t = answers_as r.address (operation_of r q) (by_both {P = Calm r.add
 -- ---- custom drive points
 
 -- where CUSTOM_WAVEFORM is stored, nothing is refused
-custom_begins : (s : Settings) (x : Start) → InStored (λ a d. d.driving_mode ≡ CUSTOM_WAVEFORM) s →
+custom_begins : (s : Option (ActuatorConfig × DeviceConfig)) (x : Start) → InStored (λ a d. d.driving_mode ≡ CUSTOM_WAVEFORM) s →
     with_settings s (λ a d. unless (first_failing (drive_point_checks d)) x) ≡ x
-custom_begins Absent x h = absurd h
-custom_begins (Given a d) x h = λ i. unless (first_failing ((not (is_custom (h i)), 12) ∷ [])) x
+custom_begins None x h = absurd h
+custom_begins (Some (a, d)) x h = λ i. unless (first_failing ((not (is_custom (h i)), 12) ∷ [])) x
 
 -- a field as wide as the register is the byte
 whole_register : (p : ℕ) → p < 256 → with_of 0 0 8 p ≡ p

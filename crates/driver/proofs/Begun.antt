@@ -22,6 +22,7 @@ use Rattle.exchange.proofs.Comes.{comes}
 use Rattle.exchange.proofs.Keeps.{keeps}
 use Rattle.exchange.proofs.Session.{session}
 use Rattle.sessions.specs.Sessions.{no_image, blank_record}
+use Rattle.std.specs.Prelude.{Option, Some, None}
 use Rattle.outcome.specs.Outcome.{big_endian, value_in, outcome_of}
 use Rattle.driver.specs.Theorems.{all_steps, Course}
 
@@ -179,9 +180,9 @@ module _ {s : List ℕ} {b : Begun} {xs : List Step} (h : Holds s b xs) (cs : Li
     next = session.end s cs ∙ ap (λ (l : List Step). cond (broken_off s cs) [] (drop (length (sent s cs)) l)) h.steps;
     completes = completes;
     whole = all_sent;
-    outcome = λ i. record { made = counted i; completed = completed (final s cs); value = go (completed (final s cs)) refl i };
+    outcome = λ i. record { made = counted i; value = go (completed (final s cs)) refl i };
   }
     where
-      go : (k : Bool) → completed (final s cs) ≡ k → cond k (value_in (final s cs)) 0 ≡ cond k (result (came s cs)) 0
-      go true e = value_as ∙ g (came s cs) (all_came e)
+      go : (k : Bool) → completed (final s cs) ≡ k → cond k (Some (value_in (final s cs))) None ≡ cond k (Some (result (came s cs))) None
+      go true e = ap Some (value_as ∙ g (came s cs) (all_came e))
       go false e = refl

@@ -19,7 +19,7 @@ use Rattle.exchange.specs.Session.{AnswerCall, final}
 use Rattle.da728x.specs.declared.DA728x.{DA728x}
 use Rattle.outcome.specs.declared.Change.{Change}
 use Rattle.outcome.specs.Outcome.{is_chip_of, record_by}
-use Rattle.da728x.specs.declared.Settings.TheVariants.{Given}
+use Rattle.std.specs.Prelude.{Some}
 use Rattle.plans.specs.Configure.{configure_steps}
 use Rattle.sessions.specs.Sessions.{carrying, seq_ctl2, select_step, start_steps}
 use Rattle.driver.specs.Operations as operation
@@ -69,7 +69,7 @@ module _ (r : DA728x) (st : List ℕ) (cs : List AnswerCall) (s : is_session st 
       start n = unless n (begins (carrying 2 (configured r a d)) (configure_steps a d))
 
       stay : (done own : Bool) →
-          (cond done (cond own (record { address = r.address; variant = r.variant; settings = Given a d; sequences = r.sequences }) r) r).sequences ≡ r.sequences
+          (cond done (cond own (record { address = r.address; variant = r.variant; settings = Some (a, d); sequences = r.sequences }) r) r).sequences ≡ r.sequences
       stay true true = refl
       stay true false = refl
       stay false own = refl

@@ -15,10 +15,8 @@ use Rattle.laws.proofs.Lists.{all_append}
 use Rattle.laws.proofs.Tests.{choice}
 use Rattle.config.specs.declared.ActuatorConfig.{ActuatorConfig}
 use Rattle.config.specs.declared.DeviceConfig.{DeviceConfig}
-use Rattle.config.specs.declared.Pid.{Pid}
-use Rattle.config.specs.declared.Pid.TheVariants as pid
-use Rattle.config.specs.declared.Trigger.{Trigger}
-use Rattle.config.specs.declared.Trigger.TheVariants as trigger
+use Rattle.config.specs.declared.TriggerConfig.{TriggerConfig}
+use Rattle.std.specs.Prelude.{Option, Some, None}
 use Rattle.config.specs.declared.DrivingMode.{DrivingMode}
 use Rattle.config.specs.declared.DrivingMode.TheVariants.{FREQUENCY_TRACK, WIDEBAND, CUSTOM_WAVEFORM}
 use Rattle.checks.specs.Checks.{etwm}
@@ -121,10 +119,10 @@ pub frequency_tame : (hz : ℕ) → AllTame (frequency_steps hz)
 unfolding frequency_steps
 frequency_tame hz = (refl, (refl, tt))
 
-pid_tame : (p : Pid) → AllTame (pid_steps p)
+pid_tame : (p : Option (ℕ × ℕ)) → AllTame (pid_steps p)
 unfolding pid_steps
-pid_tame pid.Absent = tt
-pid_tame (pid.Given kp ki) = (refl, (refl, (refl, (refl, tt))))
+pid_tame None = tt
+pid_tame (Some (kp, ki)) = (refl, (refl, (refl, (refl, tt))))
 
 driving_tame : (m : DrivingMode) → AllTame (driving_steps m)
 unfolding driving_steps phase_steps custom_steps
@@ -132,12 +130,12 @@ driving_tame FREQUENCY_TRACK = tt
 driving_tame WIDEBAND = (refl, (refl, tt))
 driving_tame CUSTOM_WAVEFORM = (refl, (refl, (refl, (refl, tt))))
 
-gpi_tame : (digit : String) (t : Trigger) → ltb (address_of ("GPI_" & digit & "_CTL")) 132 ≡ true → AllTame (gpi_steps digit t)
+gpi_tame : (digit : String) (t : Option TriggerConfig) → ltb (address_of ("GPI_" & digit & "_CTL")) 132 ≡ true → AllTame (gpi_steps digit t)
 unfolding gpi_steps
-gpi_tame digit trigger.Absent e = tt
-gpi_tame digit (trigger.Given t) e = (e, tt)
+gpi_tame digit None e = tt
+gpi_tame digit (Some t) e = (e, tt)
 
-given_tame : (r s t : Trigger) → AllTame (given_steps r s t)
+given_tame : (r s t : Option TriggerConfig) → AllTame (given_steps r s t)
 unfolding given_steps
 given_tame r s t =
     all_append Tame (gpi_steps "0" r) (gpi_steps "1" s ++ gpi_steps "2" t) (gpi_tame "0" r refl)

@@ -21,8 +21,7 @@ use Rattle.checks.proofs.Blames.{Agree, of_first, flag, and_says, above, out_of_
 use Rattle.exchange.specs.declared.Step.{Step}
 use Rattle.exchange.specs.State.{Begun}
 use Rattle.da728x.specs.declared.DA728x.{DA728x}
-use Rattle.da728x.specs.declared.Settings.{Settings}
-use Rattle.da728x.specs.declared.Settings.TheVariants.{Absent, Given}
+use Rattle.std.specs.Prelude.{Option, Some, None}
 use Rattle.driver.specs.Operations.{Start, declines, begins, unless, with_settings, negative, override_checks, is_custom, drive_point_checks, sequence_checks}
 use Rattle.driver.specs.Theorems.{InStored, BelowZero, BeginsUnless, Refusals}
 
@@ -40,14 +39,14 @@ later (declines number) f fs n h = (h.0, inr (n, h.1))
 later (begins b xs) f fs n h = inr (n, h)
 
 -- 15 first
-settled : (s : Settings) (f : ActuatorConfig → DeviceConfig → Start) (fs : Settings → List Fault) →
-    ((a : ActuatorConfig) (d : DeviceConfig) → BeginsUnless (f a d) (fs (Given a d))) → BeginsUnless (with_settings s f) ((15, s ≡ Absent) ∷ fs s)
-settled Absent f fs h = (omega arith, inl (refl, refl))
-settled (Given a d) f fs h = later (f a d) (15, Given a d ≡ Absent) (fs (Given a d)) (λ e. true≢false (ap given e)) (h a d)
+settled : (s : Option (ActuatorConfig × DeviceConfig)) (f : ActuatorConfig → DeviceConfig → Start) (fs : Option (ActuatorConfig × DeviceConfig) → List Fault) →
+    ((a : ActuatorConfig) (d : DeviceConfig) → BeginsUnless (f a d) (fs (Some (a, d)))) → BeginsUnless (with_settings s f) ((15, s ≡ None) ∷ fs s)
+settled None f fs h = (omega arith, inl (refl, refl))
+settled (Some (a, d)) f fs h = later (f a d) (15, Some (a, d) ≡ None) (fs (Some (a, d))) (λ e. true≢false (ap given e)) (h a d)
   where
-    given : Settings → Bool
-    given Absent = false
-    given (Given a d) = true
+    given : Option (ActuatorConfig × DeviceConfig) → Bool
+    given None = false
+    given (Some (a, d)) = true
 
 below_zero : (value : ℤ) → (negative value ≡ true) ↔ BelowZero value
 below_zero (pos n) = (λ e. false≢true e, λ f. absurd f)

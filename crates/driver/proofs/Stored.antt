@@ -25,7 +25,7 @@ use Rattle.exchange.proofs.Keeps.{keeps}
 use Rattle.plans.proofs.Lengths.{at_least}
 use Rattle.plans.specs.Configure.{configure_steps}
 use Rattle.da728x.specs.declared.DA728x.{DA728x}
-use Rattle.da728x.specs.declared.Settings.TheVariants.{Given}
+use Rattle.std.specs.Prelude.{Some}
 use Rattle.da728x.specs.Record.{record_at}
 use Rattle.da728x.proofs.Kept.{variant_kept, record_kept}
 use Rattle.sessions.specs.Sessions.{carrying, send_steps}
@@ -129,7 +129,7 @@ module _ (r : DA728x) (a : ActuatorConfig) (d : DeviceConfig) where
 
   -- a record with these settings
   abbrev storing : DA728x → DA728x
-  storing s = record { address = s.address; variant = s.variant; settings = Given a d; sequences = s.sequences }
+  storing s = record { address = s.address; variant = s.variant; settings = Some (a, d); sequences = s.sequences }
 
   own_chip : (s : DA728x) → made_by b s ≡ cond (is_chip_of r s) (storing s) s
   own_chip s = settled_as s ∙ go (is_chip_of r s)

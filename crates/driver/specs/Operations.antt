@@ -1,6 +1,6 @@
 -- Every operation of lib.rs: what it refuses before its first exchange, else its steps, and what it answers once they are made.
 -- Document 01, 'Settings to registers', 'Exchanges' and 'Who can cause which answer'; document 02, CR 3, CR 8 and CR 10.
-use Rattle.std.specs.Prelude.{ℕ, zero, suc, min, Bool, true, false, cond, not, ◌&&◌, List, [], ◌∷◌, ltb, leb, eqb, ℤ, pos, negsuc}
+use Rattle.std.specs.Prelude.{ℕ, zero, suc, min, Bool, true, false, cond, not, ◌&&◌, List, [], ◌∷◌, ltb, leb, eqb, ℤ, pos, negsuc, Option, Some, None}
 use Rattle.registers.specs.Table.{address_of}
 use Rattle.config.specs.declared.ActuatorConfig.{ActuatorConfig}
 use Rattle.config.specs.declared.DeviceConfig.{DeviceConfig}
@@ -23,8 +23,6 @@ use Rattle.exchange.specs.Turn.{state_after, report_of}
 use Rattle.plans.specs.Fields.{put, written, written_with, updated}
 use Rattle.plans.specs.Configure.{frequency_steps, configure_steps}
 use Rattle.da728x.specs.declared.DA728x.{DA728x}
-use Rattle.da728x.specs.declared.Settings.{Settings}
-use Rattle.da728x.specs.declared.Settings.TheVariants.{Absent, Given}
 use Rattle.da728x.specs.Record.{record_bytes}
 use Rattle.sessions.specs.Sessions.{no_image, blank_record, blank, carrying, enabled, select_step, start_steps, set_unlocked, send_steps}
 use Rattle.outcome.specs.declared.Change.{Change}
@@ -57,9 +55,9 @@ unless zero s = s
 unless (suc n) s = declines (suc n)
 
 -- "15 comes first, while no settings are stored"
-abbrev pub with_settings : Settings → (ActuatorConfig → DeviceConfig → Start) → Start
-with_settings Absent f = declines 15
-with_settings (Given a d) f = f a d
+abbrev pub with_settings : Option (ActuatorConfig × DeviceConfig) → (ActuatorConfig → DeviceConfig → Start) → Start
+with_settings None f = declines 15
+with_settings (Some (a, d)) f = f a d
 
 -- ---- what an answer gives
 
@@ -97,7 +95,7 @@ revision DA7281 = 0xCA
 revision DA7282 = 0xDA
 
 abbrev pub new_record : ℕ → Variant → DA728x
-new_record address variant = record { address = address; variant = variant; settings = Absent; sequences = 0 }
+new_record address variant = record { address = address; variant = variant; settings = None; sequences = 0 }
 
 abbrev pub new : ℕ → Variant → Operation
 new address variant = plain (begins (carrying 1 (new_record address variant)) (Match (address_of "CHIP_REV") (revision variant) ∷ []))
@@ -105,7 +103,7 @@ new address variant = plain (begins (carrying 1 (new_record address variant)) (M
 -- the count of the record that its session carries is not looked at
 abbrev pub configure : DA728x → ActuatorConfig → DeviceConfig → Operation
 configure r a d =
-    plain (unless (configure_number r.variant a d) (begins (carrying 2 (record { address = r.address; variant = r.variant; settings = Given a d; sequences = 0 })) (configure_steps a d)))
+    plain (unless (configure_number r.variant a d) (begins (carrying 2 (record { address = r.address; variant = r.variant; settings = Some (a, d); sequences = 0 })) (configure_steps a d)))
 
 abbrev pub get_chip_rev : DA728x → Operation
 get_chip_rev r = asking 3 r (Read (address_of "CHIP_REV") ∷ [])
@@ -172,7 +170,7 @@ upload_steps m lock_after = send_steps (min m.len 100) lock_after
 
 -- what the session of an upload carries: the address where it goes, and the count that it gives in the end, "taken from its `num_sequences`"
 abbrev pub upload_record : DA728x → WaveformMemory → DA728x
-upload_record r m = record { address = r.address; variant = r.variant; settings = Absent; sequences = m.num_sequences }
+upload_record r m = record { address = r.address; variant = r.variant; settings = None; sequences = m.num_sequences }
 
 abbrev pub upload_begun : DA728x → WaveformMemory → Begun
 upload_begun r m = begun_with r.address 0 0 for_upload m.«data» (record_bytes (upload_record r m))

@@ -23,8 +23,7 @@ use Rattle.checks.specs.Checks.{configure_number}
 use Rattle.plans.specs.Configure.{configure_steps}
 use Rattle.checks.specs.Blames.{OutOfBand, Fault, faults, OfFirst}
 use Rattle.da728x.specs.declared.DA728x.{DA728x}
-use Rattle.da728x.specs.declared.Settings.{Settings}
-use Rattle.da728x.specs.declared.Settings.TheVariants.{Absent, Given}
+use Rattle.std.specs.Prelude.{Option, Some, None}
 use Rattle.da728x.specs.Record.{record_at}
 use Rattle.sessions.specs.Sessions.{no_image}
 use Rattle.outcome.specs.declared.Change.{Change}
@@ -104,7 +103,7 @@ pub record Course (s : List ℕ) (address : ℕ) (image : List ℕ) (xs : List S
   pub whole : completed (final s cs) ≡ true → sent s cs ≡ exchanges_of address 0 image xs (came s cs)
   -- the count, completed or not, and once completed what the operation answers
   pub outcome : outcome_of (final s cs)
-      ≡ record { made = length (sent s cs); completed = completed (final s cs); value = cond (completed (final s cs)) (result (came s cs)) 0 }
+      ≡ record { made = length (sent s cs); value = cond (completed (final s cs)) (Some (result (came s cs))) None }
 
 -- the steps, and behind them a memory read for each index
 abbrev pub all_steps : Begun → List Step → List Step
@@ -120,9 +119,9 @@ NoMismatch o = (b : Begun) (xs : List Step) → o.start ≡ begins b xs → (st 
     ¬ (number_at (final (begun_in st b xs) cs) c ≡ 16)
 
 -- something that is said of the settings stored; where none are, it does not hold
-abbrev pub InStored : (ActuatorConfig → DeviceConfig → Type 0) → Settings → Type 0
-InStored P Absent = ⊥
-InStored P (Given a d) = P a d
+abbrev pub InStored : (ActuatorConfig → DeviceConfig → Type 0) → Option (ActuatorConfig × DeviceConfig) → Type 0
+InStored P None = ⊥
+InStored P (Some (a, d)) = P a d
 
 pub record Answers : Type 0 where
   pub news : (address : ℕ) (variant : Variant) → AnswersAs address (operation.new address variant)
@@ -157,19 +156,19 @@ pub record Refusals : Type 0 where
   pub configure : (r : DA728x) (a : ActuatorConfig) (d : DeviceConfig) → BeginsUnless (operation.configure r a d).start (faults r.variant a d)
   -- "a frequency, also in `set_frequency`, 23"
   pub set_frequency : (r : DA728x) (hz : ℕ) → BeginsUnless (operation.set_frequency r hz).start
-      ((15, r.settings ≡ Absent) ∷ (23, InStored (λ a d. OutOfBand d.driving_mode hz) r.settings) ∷ [])
+      ((15, r.settings ≡ None) ∷ (23, InStored (λ a d. OutOfBand d.driving_mode hz) r.settings) ∷ [])
   -- "Number 11 remains for .. override values, `select_sequence` and `play_sequence`"
   pub set_override_value : (r : DA728x) (value : ℤ) → BeginsUnless (operation.set_override_value r value).start
-      ((15, r.settings ≡ Absent) ∷ (11, InStored (λ a d. (d.acceleration ≡ true) × BelowZero value) r.settings)
+      ((15, r.settings ≡ None) ∷ (11, InStored (λ a d. (d.acceleration ≡ true) × BelowZero value) r.settings)
       ∷ (12, InStored (λ a d. ¬ (d.operation_mode ≡ DRO_MODE)) r.settings) ∷ [])
   -- and CR 10: "After the test for 11, a number not below it is refused with 28"
   pub select_sequence : (r : DA728x) (id loops : ℕ) → BeginsUnless (operation.select_sequence r id loops).start ((11, 15 < id) ∷ (11, 15 < loops) ∷ (28, r.sequences ≤ id) ∷ [])
   pub play_sequence : (r : DA728x) (id loops : ℕ) → BeginsUnless (operation.play_sequence r id loops).start ((11, 15 < id) ∷ (11, 15 < loops) ∷ (28, r.sequences ≤ id) ∷ [])
-  pub enable : (r : DA728x) → BeginsUnless (operation.enable r).start ((15, r.settings ≡ Absent) ∷ [])
-  pub disable : (r : DA728x) → BeginsUnless (operation.disable r).start ((15, r.settings ≡ Absent) ∷ [])
+  pub enable : (r : DA728x) → BeginsUnless (operation.enable r).start ((15, r.settings ≡ None) ∷ [])
+  pub disable : (r : DA728x) → BeginsUnless (operation.disable r).start ((15, r.settings ≡ None) ∷ [])
   -- document 02, CR 8: "keeps its two checks"
   pub set_custom_drive_waveform : (r : DA728x) (p1 p2 p3 : ℕ) → BeginsUnless (operation.set_custom_drive_waveform r p1 p2 p3).start
-      ((15, r.settings ≡ Absent) ∷ (12, InStored (λ a d. ¬ (d.driving_mode ≡ CUSTOM_WAVEFORM)) r.settings) ∷ [])
+      ((15, r.settings ≡ None) ∷ (12, InStored (λ a d. ¬ (d.driving_mode ≡ CUSTOM_WAVEFORM)) r.settings) ∷ [])
   -- never
   pub others : (r : DA728x) (address : ℕ) (v : Variant) (timebase : WaveformMemoryTimebase) (m : WaveformMemory) (lock_after : Bool) (len room : ℕ) →
       All (λ o. BeginsUnless o.start []) (operation.new address v ∷ operation.get_chip_rev r ∷ operation.get_events r ∷ operation.get_status r
@@ -213,12 +212,12 @@ pub record Stored : Type 0 where
   pub creates : (address : ℕ) (variant : Variant) (st : List ℕ) (cs : List AnswerCall) (r : DA728x) → is_session st ≡ true →
       let s = started_in st (operation.new address variant).start in
       record_final s cs r ≡ cond (eqb (length (came s cs)) 1 && eqb (at (came s cs) 0) (revision variant))
-      (record { address = address; variant = variant; settings = Absent; sequences = 0 }) r
+      (record { address = address; variant = variant; settings = None; sequences = 0 }) r
   -- `configure` stores its settings exactly if it is completed, in a record of its own chip, whose count stays; a record of another chip stays
   pub configures : (r lent : DA728x) (a : ActuatorConfig) (d : DeviceConfig) (st : List ℕ) (cs : List AnswerCall) → configure_number r.variant a d ≡ 0 →
       is_session st ≡ true → let s = started_in st (operation.configure r a d).start in
       record_final s cs lent ≡ cond (completed (final s cs))
-      (cond (is_chip_of r lent) (record { address = lent.address; variant = lent.variant; settings = Given a d; sequences = lent.sequences }) lent) lent
+      (cond (is_chip_of r lent) (record { address = lent.address; variant = lent.variant; settings = Some (a, d); sequences = lent.sequences }) lent) lent
   pub own : (r lent : DA728x) → (is_chip_of r lent ≡ true) ↔ ((r.address ≡ lent.address) × (r.variant ≡ lent.variant))
   -- so an answer to an upload that is taken gives a record of its address the image's number of sequences if it completes the upload, and 0 if not
   pub loads : (r lent : DA728x) (m : WaveformMemory) (lock_after : Bool) (st : List ℕ) (cs : List AnswerCall) (c : AnswerCall) → length m.«data» ≡ 100 →

@@ -29,45 +29,32 @@ ghost use Rattle.outcome.specs.Outcome.{record_by};
 ghost use Rattle.driver.specs.Operations as spec;
 
 use config::{ActuatorConfig, DeviceConfig, DrivingMode, OperationMode, Variant};
-use da728x::{DA728x, Settings};
-use errors::{Answer, Error};
-use exchange::{Reply, Step, Turn};
+use da728x::DA728x;
+use errors::Error;
+use exchange::{Opening, Reply, Step, Turn};
 use memory::{WaveformMemory, WaveformMemoryTimebase};
+use outcome::Purpose;
 use registers::Register;
 use registers_control::{SEQ_CTL1, SWG_C1, SWG_C2, SWG_C3, TOP_CTL1};
 
-// What starting an upload gives: the answer, and the record in force.
-#[derive(Clone, Copy)]
-pub struct Uploading {
-    pub answer: Answer,
-    pub driver: DA728x,
-}
-
-// What an answer gives: the turn of the session, and the record in force.
-#[derive(Clone, Copy)]
-pub struct Answered {
-    pub turn: Turn,
-    pub driver: DA728x,
-}
-
 // ---- a new record, and its settings
 
-pub fn new(address: u8, variant: Variant, session: &mut [u8]) -> Answer
+pub fn new(address: u8, variant: Variant, session: &mut [u8]) -> Result<(), Error>
     ensures result_value { answer_number result ≡ spec.start_number (spec.new address variant).start }
     ensures session_after { session.new ≡ spec.started_in session.old (spec.new address variant).start }
 {
     let next = DA728x {
-        address: address,
-        variant: variant,
-        settings: Settings::Absent,
+        address,
+        variant,
+        settings: None,
         sequences: 0,
     };
-    sessions::begin_with(session, outcome::NEW, next);
+    sessions::begin_with(session, Purpose::New, next);
     exchange::push(
         session,
         Step::Match(Register::CHIP_REV.address(), revision(variant)),
     );
-    Answer::Done
+    Ok(())
 }
 
 fn revision(variant: Variant) -> u8
@@ -80,51 +67,51 @@ fn revision(variant: Variant) -> u8
     }
 }
 
-pub fn configure(driver: DA728x, a: ActuatorConfig, d: DeviceConfig, session: &mut [u8]) -> Answer
-    ensures result_value { answer_number result ≡ spec.start_number (spec.configure driver a d).start }
-    ensures session_after { session.new ≡ spec.started_in session.old (spec.configure driver a d).start }
+pub fn configure(
+    driver: &DA728x,
+    a: ActuatorConfig,
+    d: DeviceConfig,
+    session: &mut [u8],
+) -> Result<(), Error>
+    ensures result_value { answer_number result ≡ spec.start_number (spec.configure driver.now a d).start }
+    ensures session_after { session.new ≡ spec.started_in session.old (spec.configure driver.now a d).start }
 {
-    let variant = driver.variant;
-    match checks::configure_checks(variant, a, d) {
-        Answer::Refused(e) => Answer::Refused(e),
-        Answer::Done => {
-            let next = DA728x {
-                address: driver.address,
-                variant: variant,
-                settings: Settings::Given(a, d),
-                sequences: 0,
-            };
-            sessions::begin_with(session, outcome::SETTINGS, next);
-            plans::configure(session, a, d);
-            Answer::Done
-        }
-    }
+    checks::configure_checks(driver.variant, a, d)?;
+    let next = DA728x {
+        address: driver.address,
+        variant: driver.variant,
+        settings: Some((a, d)),
+        sequences: 0,
+    };
+    sessions::begin_with(session, Purpose::Settings, next);
+    plans::configure(session, a, d);
+    Ok(())
 }
 
 // ---- what the chip says
 
-pub fn get_chip_rev(driver: DA728x, session: &mut [u8]) -> Answer
-    ensures result_value { answer_number result ≡ spec.start_number (spec.get_chip_rev driver).start }
-    ensures session_after { session.new ≡ spec.started_in session.old (spec.get_chip_rev driver).start }
+pub fn get_chip_rev(driver: &DA728x, session: &mut [u8]) -> Result<(), Error>
+    ensures result_value { answer_number result ≡ spec.start_number (spec.get_chip_rev driver.now).start }
+    ensures session_after { session.new ≡ spec.started_in session.old (spec.get_chip_rev driver.now).start }
 {
     sessions::run(
         session,
         driver.address,
-        outcome::BYTE,
+        Purpose::Byte,
         Step::Read(Register::CHIP_REV.address()),
     );
-    Answer::Done
+    Ok(())
 }
 
 // All events, which are cleared by the last exchange.
-pub fn get_events(driver: DA728x, session: &mut [u8]) -> Answer
-    ensures result_value { answer_number result ≡ spec.start_number (spec.get_events driver).start }
-    ensures session_after { session.new ≡ spec.started_in session.old (spec.get_events driver).start }
+pub fn get_events(driver: &DA728x, session: &mut [u8]) -> Result<(), Error>
+    ensures result_value { answer_number result ≡ spec.start_number (spec.get_events driver.now).start }
+    ensures session_after { session.new ≡ spec.started_in session.old (spec.get_events driver.now).start }
 {
     sessions::run(
         session,
         driver.address,
-        outcome::THREE_BYTES,
+        Purpose::ThreeBytes,
         Step::Read(Register::IRQ_EVENT1.address()),
     );
     exchange::push(
@@ -133,159 +120,108 @@ pub fn get_events(driver: DA728x, session: &mut [u8]) -> Answer
     );
     exchange::push(session, Step::Read(Register::IRQ_EVENT_SEQ_DIAG.address()));
     exchange::push(session, Step::Write(Register::IRQ_EVENT1.address(), 0xFF));
-    Answer::Done
+    Ok(())
 }
 
-pub fn get_status(driver: DA728x, session: &mut [u8]) -> Answer
-    ensures result_value { answer_number result ≡ spec.start_number (spec.get_status driver).start }
-    ensures session_after { session.new ≡ spec.started_in session.old (spec.get_status driver).start }
+pub fn get_status(driver: &DA728x, session: &mut [u8]) -> Result<(), Error>
+    ensures result_value { answer_number result ≡ spec.start_number (spec.get_status driver.now).start }
+    ensures session_after { session.new ≡ spec.started_in session.old (spec.get_status driver.now).start }
 {
     sessions::run(
         session,
         driver.address,
-        outcome::BYTE,
+        Purpose::Byte,
         Step::Read(Register::IRQ_STATUS1.address()),
     );
-    Answer::Done
+    Ok(())
 }
 
 // ---- operations that need settings
 
-pub fn set_frequency(driver: DA728x, frequency_hz: u16, session: &mut [u8]) -> Answer
-    ensures result_value { answer_number result ≡ spec.start_number (spec.set_frequency driver frequency_hz).start }
-    ensures session_after { session.new ≡ spec.started_in session.old (spec.set_frequency driver frequency_hz).start }
+pub fn set_frequency(driver: &DA728x, frequency_hz: u16, session: &mut [u8]) -> Result<(), Error>
+    ensures result_value { answer_number result ≡ spec.start_number (spec.set_frequency driver.now frequency_hz).start }
+    ensures session_after { session.new ≡ spec.started_in session.old (spec.set_frequency driver.now frequency_hz).start }
 {
-    let settings = driver.settings;
-    match settings {
-        Settings::Absent => Answer::Refused(Error::NotConfigured),
-        Settings::Given(_, d) => {
-            let mode = d.driving_mode;
-            if checks::outside_band(mode, frequency_hz) {
-                return Answer::Refused(Error::InvalidDriveFrequency);
-            }
-            sessions::begin(session, driver.address, outcome::COMMAND);
-            plans::frequency(session, frequency_hz);
-            Answer::Done
-        }
+    let (_, d) = driver.settings.ok_or(Error::NotConfigured)?;
+    if checks::outside_band(d.driving_mode, frequency_hz) {
+        return Err(Error::InvalidDriveFrequency);
     }
+    sessions::begin(session, driver.address, Purpose::Command);
+    plans::frequency(session, frequency_hz);
+    Ok(())
 }
 
-pub fn set_override_value(driver: DA728x, value: i8, session: &mut [u8]) -> Answer
-    ensures result_value { answer_number result ≡ spec.start_number (spec.set_override_value driver value).start }
-    ensures session_after { session.new ≡ spec.started_in session.old (spec.set_override_value driver value).start }
+pub fn set_override_value(driver: &DA728x, value: i8, session: &mut [u8]) -> Result<(), Error>
+    ensures result_value { answer_number result ≡ spec.start_number (spec.set_override_value driver.now value).start }
+    ensures session_after { session.new ≡ spec.started_in session.old (spec.set_override_value driver.now value).start }
 {
-    let settings = driver.settings;
-    match settings {
-        Settings::Absent => Answer::Refused(Error::NotConfigured),
-        Settings::Given(_, d) => overriding(driver.address, d, value, session),
+    let (_, d) = driver.settings.ok_or(Error::NotConfigured)?;
+    if d.acceleration && value < 0 {
+        return Err(Error::InvalidValue);
     }
-}
-
-fn overriding(address: u8, d: DeviceConfig, value: i8, session: &mut [u8]) -> Answer
-    ensures result_value { answer_number result ≡ spec.start_number (spec.overriding address d value) }
-    ensures session_after { session.new ≡ spec.started_in session.old (spec.overriding address d value) }
-{
-    let mode = d.operation_mode;
-    if wrong_sign(d.acceleration, value) {
-        return Answer::Refused(Error::InvalidValue);
+    if d.operation_mode != OperationMode::DRO_MODE {
+        return Err(Error::WrongMode);
     }
-    if is_dro(mode) {
-        sessions::run(
-            session,
-            address,
-            outcome::COMMAND,
-            Step::Write(Register::TOP_CTL2.address(), convert::override_byte(value)),
-        );
-        return Answer::Done;
-    }
-    Answer::Refused(Error::WrongMode)
-}
-
-// Whether a value is negative under acceleration.
-fn wrong_sign(acceleration: bool, value: i8) -> bool
-    ensures { result ≡ acceleration && spec.negative value }
-{
-    if acceleration {
-        return value < 0;
-    }
-    false
-}
-
-fn is_dro(mode: OperationMode) -> bool
-    ensures { result ≡ eqb (operation_code mode) (operation_code DRO_MODE) }
-{
-    let dro = OperationMode::DRO_MODE;
-    mode.code() == dro.code()
+    sessions::run(
+        session,
+        driver.address,
+        Purpose::Command,
+        Step::Write(Register::TOP_CTL2.address(), convert::override_byte(value)),
+    );
+    Ok(())
 }
 
 // Sets the operation mode; a sequence is not started.
-pub fn enable(driver: DA728x, session: &mut [u8]) -> Answer
-    ensures result_value { answer_number result ≡ spec.start_number (spec.enable driver).start }
-    ensures session_after { session.new ≡ spec.started_in session.old (spec.enable driver).start }
+pub fn enable(driver: &DA728x, session: &mut [u8]) -> Result<(), Error>
+    ensures result_value { answer_number result ≡ spec.start_number (spec.enable driver.now).start }
+    ensures session_after { session.new ≡ spec.started_in session.old (spec.enable driver.now).start }
 {
-    let settings = driver.settings;
-    match settings {
-        Settings::Absent => Answer::Refused(Error::NotConfigured),
-        Settings::Given(_, d) => {
-            let mode = d.operation_mode;
-            sessions::run(
-                session,
-                driver.address,
-                outcome::COMMAND,
-                Step::Write(Register::TOP_CTL1.address(), sessions::enabled(mode)),
-            );
-            Answer::Done
-        }
-    }
+    let (_, d) = driver.settings.ok_or(Error::NotConfigured)?;
+    sessions::run(
+        session,
+        driver.address,
+        Purpose::Command,
+        Step::Write(
+            Register::TOP_CTL1.address(),
+            sessions::enabled(d.operation_mode),
+        ),
+    );
+    Ok(())
 }
 
-pub fn disable(driver: DA728x, session: &mut [u8]) -> Answer
-    ensures result_value { answer_number result ≡ spec.start_number (spec.disable driver).start }
-    ensures session_after { session.new ≡ spec.started_in session.old (spec.disable driver).start }
+pub fn disable(driver: &DA728x, session: &mut [u8]) -> Result<(), Error>
+    ensures result_value { answer_number result ≡ spec.start_number (spec.disable driver.now).start }
+    ensures session_after { session.new ≡ spec.started_in session.old (spec.disable driver.now).start }
 {
-    let settings = driver.settings;
-    match settings {
-        Settings::Absent => Answer::Refused(Error::NotConfigured),
-        Settings::Given(_, _) => {
-            sessions::update(
-                session,
-                driver.address,
-                Register::TOP_CTL1.address(),
-                TOP_CTL1::OPERATION_MODE_SHIFT,
-                TOP_CTL1::OPERATION_MODE_WIDTH,
-                0,
-            );
-            Answer::Done
-        }
-    }
+    driver.settings.ok_or(Error::NotConfigured)?;
+    sessions::update(
+        session,
+        driver.address,
+        Register::TOP_CTL1.address(),
+        TOP_CTL1::OPERATION_MODE_SHIFT,
+        TOP_CTL1::OPERATION_MODE_WIDTH,
+        0,
+    );
+    Ok(())
 }
 
 // Gives the chip the three points of the wave that it drives the actuator with; for CUSTOM_WAVEFORM only.
-pub fn set_custom_drive_waveform(driver: DA728x, points: [u8; 3], session: &mut [u8]) -> Answer
+pub fn set_custom_drive_waveform(
+    driver: &DA728x,
+    points: [u8; 3],
+    session: &mut [u8],
+) -> Result<(), Error>
     ensures result_value { answer_number result
-        ≡ spec.start_number (spec.set_custom_drive_waveform driver (at points 0) (at points 1) (at points 2)).start }
+        ≡ spec.start_number (spec.set_custom_drive_waveform driver.now (at points 0) (at points 1) (at points 2)).start }
     ensures session_after { session.new
-        ≡ spec.started_in session.old (spec.set_custom_drive_waveform driver (at points 0) (at points 1) (at points 2)).start }
+        ≡ spec.started_in session.old (spec.set_custom_drive_waveform driver.now (at points 0) (at points 1) (at points 2)).start }
 {
-    let settings = driver.settings;
-    match settings {
-        Settings::Absent => Answer::Refused(Error::NotConfigured),
-        Settings::Given(_, d) => {
-            let mode = d.driving_mode;
-            if is_custom(mode) {
-                drive_points(session, driver.address, points[0], points[1], points[2]);
-                return Answer::Done;
-            }
-            Answer::Refused(Error::WrongMode)
-        }
+    let (_, d) = driver.settings.ok_or(Error::NotConfigured)?;
+    if d.driving_mode != DrivingMode::CUSTOM_WAVEFORM {
+        return Err(Error::WrongMode);
     }
-}
-
-fn is_custom(mode: DrivingMode) -> bool
-    ensures { result ≡ spec.is_custom mode }
-{
-    let custom = DrivingMode::CUSTOM_WAVEFORM;
-    mode.code() == custom.code()
+    drive_points(session, driver.address, points[0], points[1], points[2]);
+    Ok(())
 }
 
 fn drive_points(session: &mut [u8], address: u8, p1: u8, p2: u8, p3: u8)
@@ -297,7 +233,7 @@ fn drive_points(session: &mut [u8], address: u8, p1: u8, p2: u8, p3: u8)
     sessions::run(
         session,
         address,
-        outcome::COMMAND,
+        Purpose::Command,
         Step::Write(Register::SWG_C1.address(), swg_c1.bits()),
     );
     exchange::push(
@@ -312,9 +248,13 @@ fn drive_points(session: &mut [u8], address: u8, p1: u8, p2: u8, p3: u8)
 
 // ---- waveform memory
 
-pub fn set_timebase(driver: DA728x, timebase: WaveformMemoryTimebase, session: &mut [u8]) -> Answer
-    ensures result_value { answer_number result ≡ spec.start_number (spec.set_timebase driver timebase).start }
-    ensures session_after { session.new ≡ spec.started_in session.old (spec.set_timebase driver timebase).start }
+pub fn set_timebase(
+    driver: &DA728x,
+    timebase: WaveformMemoryTimebase,
+    session: &mut [u8],
+) -> Result<(), Error>
+    ensures result_value { answer_number result ≡ spec.start_number (spec.set_timebase driver.now timebase).start }
+    ensures session_after { session.new ≡ spec.started_in session.old (spec.set_timebase driver.now timebase).start }
 {
     sessions::update(
         session,
@@ -322,141 +262,135 @@ pub fn set_timebase(driver: DA728x, timebase: WaveformMemoryTimebase, session: &
         Register::SEQ_CTL1.address(),
         SEQ_CTL1::FREQ_WAVEFORM_TIMEBASE_SHIFT,
         SEQ_CTL1::FREQ_WAVEFORM_TIMEBASE_WIDTH,
-        timebase.code(),
+        timebase.into(),
     );
-    Answer::Done
+    Ok(())
 }
 
-pub fn unlock_waveform_memory(driver: DA728x, session: &mut [u8]) -> Answer
-    ensures result_value { answer_number result ≡ spec.start_number (spec.unlock_waveform_memory driver).start }
-    ensures session_after { session.new ≡ spec.started_in session.old (spec.unlock_waveform_memory driver).start }
+pub fn unlock_waveform_memory(driver: &DA728x, session: &mut [u8]) -> Result<(), Error>
+    ensures result_value { answer_number result ≡ spec.start_number (spec.unlock_waveform_memory driver.now).start }
+    ensures session_after { session.new ≡ spec.started_in session.old (spec.unlock_waveform_memory driver.now).start }
 {
     sessions::run(
         session,
         driver.address,
-        outcome::COMMAND,
+        Purpose::Command,
         Step::Write(Register::MEM_CTL2.address(), sessions::mem_ctl2(true)),
     );
-    Answer::Done
+    Ok(())
 }
 
-pub fn lock_waveform_memory(driver: DA728x, session: &mut [u8]) -> Answer
-    ensures result_value { answer_number result ≡ spec.start_number (spec.lock_waveform_memory driver).start }
-    ensures session_after { session.new ≡ spec.started_in session.old (spec.lock_waveform_memory driver).start }
+pub fn lock_waveform_memory(driver: &DA728x, session: &mut [u8]) -> Result<(), Error>
+    ensures result_value { answer_number result ≡ spec.start_number (spec.lock_waveform_memory driver.now).start }
+    ensures session_after { session.new ≡ spec.started_in session.old (spec.lock_waveform_memory driver.now).start }
 {
     sessions::run(
         session,
         driver.address,
-        outcome::COMMAND,
+        Purpose::Command,
         Step::Write(Register::MEM_CTL2.address(), sessions::mem_ctl2(false)),
     );
-    Answer::Done
+    Ok(())
 }
 
 // The record has no sequences from here on, until the last exchange succeeds.
 pub fn upload_waveform_memory(
-    driver: DA728x,
-    memory: WaveformMemory,
+    driver: &mut DA728x,
+    memory: &WaveformMemory,
     lock_after: bool,
     session: &mut [u8],
-) -> Uploading
-    ensures result_value { answer_number result.answer ≡ spec.start_number (spec.upload_waveform_memory driver memory lock_after).start }
-    ensures driver { result.driver ≡ record_by driver (spec.change_from session.old (spec.upload_waveform_memory driver memory lock_after).start) }
-    ensures session_after { session.new ≡ spec.started_in session.old (spec.upload_waveform_memory driver memory lock_after).start }
+) -> Result<(), Error>
+    ensures result_value { answer_number result ≡ spec.start_number (spec.upload_waveform_memory driver.old memory.now lock_after).start }
+    ensures driver_after { driver.new ≡ record_by driver.old (spec.change_from session.old (spec.upload_waveform_memory driver.old memory.now lock_after).start) }
+    ensures session_after { session.new ≡ spec.started_in session.old (spec.upload_waveform_memory driver.old memory.now lock_after).start }
 {
-    let variant = driver.variant;
-    let zeroed = outcome::changed(driver, outcome::zeroing(session));
     let next = DA728x {
         address: driver.address,
-        variant: variant,
-        settings: Settings::Absent,
+        variant: driver.variant,
+        settings: None,
         sequences: memory.num_sequences(),
     };
-    let image = memory.as_bytes();
-    let n = sessions::shown(memory.len());
+    *driver = outcome::changed(*driver, outcome::zeroing(session));
     exchange::begin(
         session,
-        driver.address,
-        0,
-        0,
-        outcome::UPLOAD,
-        image,
-        next.to_bytes(),
+        Opening {
+            address: next.address,
+            reads: 0,
+            room: 0,
+            purpose: Purpose::Upload.into(),
+            image: memory.bytes(),
+            record: &next.to_bytes(),
+        },
     );
-    sessions::send(session, n, lock_after);
-    Uploading {
-        answer: Answer::Done,
-        driver: zeroed,
-    }
+    sessions::send(session, sessions::shown(memory.len()), lock_after);
+    Ok(())
 }
 
 // Reads into a buffer of this length, which is lent with every answer.
 #[tactic(auto, unfolding(sessions::specs::Sessions::no_image, sessions::specs::Sessions::blank_record))]
 pub fn read_waveform_memory(
-    driver: DA728x,
+    driver: &DA728x,
     len: usize,
     buffer_len: usize,
     session: &mut [u8],
-) -> Answer
-    ensures result_value { answer_number result ≡ spec.start_number (spec.read_waveform_memory driver len buffer_len).start }
-    ensures session_after { session.new ≡ spec.started_in session.old (spec.read_waveform_memory driver len buffer_len).start }
+) -> Result<(), Error>
+    ensures result_value { answer_number result ≡ spec.start_number (spec.read_waveform_memory driver.now len buffer_len).start }
+    ensures session_after { session.new ≡ spec.started_in session.old (spec.read_waveform_memory driver.now len buffer_len).start }
 {
-    let none = [0u8; da728x::RECORD_SIZE];
-    let image = [0u8; 100];
     exchange::begin(
         session,
-        driver.address,
-        sessions::reads(len, buffer_len),
-        buffer_len,
-        outcome::LENGTH,
-        image,
-        none,
+        Opening {
+            address: driver.address,
+            reads: sessions::reads(len, buffer_len),
+            room: buffer_len,
+            purpose: Purpose::Length.into(),
+            image: &[0; 100],
+            record: &[0; da728x::RECORD_SIZE],
+        },
     );
-    Answer::Done
+    Ok(())
 }
 
 // ---- sequences
 
-pub fn select_sequence(driver: DA728x, sequence_id: u8, loops: u8, session: &mut [u8]) -> Answer
-    ensures result_value { answer_number result ≡ spec.start_number (spec.select_sequence driver sequence_id loops).start }
-    ensures session_after { session.new ≡ spec.started_in session.old (spec.select_sequence driver sequence_id loops).start }
+pub fn select_sequence(
+    driver: &DA728x,
+    sequence_id: u8,
+    loops: u8,
+    session: &mut [u8],
+) -> Result<(), Error>
+    ensures result_value { answer_number result ≡ spec.start_number (spec.select_sequence driver.now sequence_id loops).start }
+    ensures session_after { session.new ≡ spec.started_in session.old (spec.select_sequence driver.now sequence_id loops).start }
 {
-    match sequence_checks(driver.sequences, sequence_id, loops) {
-        Answer::Refused(e) => Answer::Refused(e),
-        Answer::Done => {
-            sessions::run(
-                session,
-                driver.address,
-                outcome::COMMAND,
-                Step::Write(
-                    Register::SEQ_CTL2.address(),
-                    sessions::seq_ctl2(sequence_id, loops),
-                ),
-            );
-            Answer::Done
-        }
-    }
+    sequence_checks(driver.sequences, sequence_id, loops)?;
+    sessions::run(
+        session,
+        driver.address,
+        Purpose::Command,
+        Step::Write(
+            Register::SEQ_CTL2.address(),
+            sessions::seq_ctl2(sequence_id, loops),
+        ),
+    );
+    Ok(())
 }
 
 // The number of a sequence and its loops, where so many are loaded.
-fn sequence_checks(sequences: u8, sequence_id: u8, loops: u8) -> Answer
+fn sequence_checks(sequences: u8, sequence_id: u8, loops: u8) -> Result<(), Error>
     ensures { answer_number result ≡ first_failing (spec.sequence_checks sequences sequence_id loops) }
 {
-    if 15 < sequence_id {
-        return Answer::Refused(Error::InvalidValue);
-    }
-    if 15 < loops {
-        return Answer::Refused(Error::InvalidValue);
+    if 15 < sequence_id || 15 < loops {
+        return Err(Error::InvalidValue);
     }
     if sequences <= sequence_id {
-        return Answer::Refused(Error::MissingSequence);
+        return Err(Error::MissingSequence);
     }
-    Answer::Done
+    Ok(())
 }
 
-pub fn start_sequence(driver: DA728x, session: &mut [u8]) -> Answer
-    ensures result_value { answer_number result ≡ spec.start_number (spec.start_sequence driver).start }
-    ensures session_after { session.new ≡ spec.started_in session.old (spec.start_sequence driver).start }
+pub fn start_sequence(driver: &DA728x, session: &mut [u8]) -> Result<(), Error>
+    ensures result_value { answer_number result ≡ spec.start_number (spec.start_sequence driver.now).start }
+    ensures session_after { session.new ≡ spec.started_in session.old (spec.start_sequence driver.now).start }
 {
     sessions::update(
         session,
@@ -466,24 +400,25 @@ pub fn start_sequence(driver: DA728x, session: &mut [u8]) -> Answer
         TOP_CTL1::SEQ_START_WIDTH,
         1,
     );
-    Answer::Done
+    Ok(())
 }
 
-pub fn play_sequence(driver: DA728x, sequence_id: u8, loops: u8, session: &mut [u8]) -> Answer
-    ensures result_value { answer_number result ≡ spec.start_number (spec.play_sequence driver sequence_id loops).start }
-    ensures session_after { session.new ≡ spec.started_in session.old (spec.play_sequence driver sequence_id loops).start }
+pub fn play_sequence(
+    driver: &DA728x,
+    sequence_id: u8,
+    loops: u8,
+    session: &mut [u8],
+) -> Result<(), Error>
+    ensures result_value { answer_number result ≡ spec.start_number (spec.play_sequence driver.now sequence_id loops).start }
+    ensures session_after { session.new ≡ spec.started_in session.old (spec.play_sequence driver.now sequence_id loops).start }
 {
-    match sequence_checks(driver.sequences, sequence_id, loops) {
-        Answer::Refused(e) => Answer::Refused(e),
-        Answer::Done => {
-            play(
-                session,
-                driver.address,
-                sessions::seq_ctl2(sequence_id, loops),
-            );
-            Answer::Done
-        }
-    }
+    sequence_checks(driver.sequences, sequence_id, loops)?;
+    play(
+        session,
+        driver.address,
+        sessions::seq_ctl2(sequence_id, loops),
+    );
+    Ok(())
 }
 
 fn play(session: &mut [u8], address: u8, value: u8)
@@ -492,7 +427,7 @@ fn play(session: &mut [u8], address: u8, value: u8)
     sessions::run(
         session,
         address,
-        outcome::COMMAND,
+        Purpose::Command,
         Step::Write(Register::SEQ_CTL2.address(), value),
     );
     exchange::push(session, Step::Read(Register::TOP_CTL1.address()));
@@ -511,16 +446,13 @@ fn play(session: &mut [u8], address: u8, value: u8)
 
 // Takes back what the bus answered, with the record in force and the buffer that a memory read fills.
 #[tactic(auto, unfolding(crate::specs::Operations::change_after))]
-pub fn answer(driver: DA728x, session: &mut [u8], reply: Reply, buffer: &mut [u8]) -> Answered
-    ensures turn { turn_report result.turn ≡ report_of session.old reply (length buffer.old) }
-    ensures driver { result.driver ≡ spec.record_after session.old reply (length buffer.old) driver }
-    ensures session { session.new ≡ state_after session.old reply (length buffer.old) }
-    ensures buffer { buffer.new ≡ buffer_after session.old reply buffer.old }
+pub fn answer(driver: &mut DA728x, session: &mut [u8], reply: Reply, buffer: &mut [u8]) -> Turn
+    ensures turn { turn_report result ≡ report_of session.old reply (length buffer.old) }
+    ensures driver_after { driver.new ≡ spec.record_after session.old reply (length buffer.old) driver.old }
+    ensures session_after { session.new ≡ state_after session.old reply (length buffer.old) }
+    ensures buffer_after { buffer.new ≡ buffer_after session.old reply buffer.old }
 {
     let turn = exchange::answer(session, reply, buffer);
-    let next = outcome::changed(driver, outcome::change_by(driver, session, turn));
-    Answered {
-        turn: turn,
-        driver: next,
-    }
+    *driver = outcome::changed(*driver, outcome::change_by(*driver, session, turn));
+    turn
 }

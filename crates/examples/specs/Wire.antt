@@ -1,7 +1,7 @@
 -- What goes over the wire: each operation's exchanges in order where these bytes are read, each as one number: chip address, how many bytes are
 -- wanted, the bytes sent (0x4A001380 sends 13 80 to 4A, 0x4A0114 sends 14 and reads a byte). What it answers; by which number it is refused.
 -- Then a session that runs, what goes into a buffer, codes and TRIM4. Worked out by hand from registers.rs, lib.rs and document 01.
-use Rattle.std.specs.Prelude.{ℕ, ◌+◌, true, false, List, [], ◌∷◌, ◌++◌, map, length, take, drop, set, replicate, ℤ, pos, negsuc}
+use Rattle.std.specs.Prelude.{ℕ, ◌+◌, true, false, List, [], ◌∷◌, ◌++◌, map, length, take, drop, set, replicate, ℤ, pos, negsuc, Some, None}
 use Rattle.laws.specs.Copied.{copied}
 use Rattle.config.specs.Codes.{variant_at}
 use Rattle.config.specs.declared.Variant.{Variant}
@@ -151,8 +151,8 @@ wire_examples =
     ∷ (wire [] (operation.select_sequence chip 3 2) is (0x4A002823 ∷ [])) ∷ (wire [] (operation.select_sequence chip 15 15) is (0x4A0028FF ∷ []))
     ∷ (map (λ b. wire (b ∷ []) (operation.play_sequence chip 3 2)) (0x00 ∷ 0xFF ∷ []) is ((0x4A002823 ∷ 0x4A0122 ∷ 0x4A002210 ∷ []) ∷ (0x4A002823 ∷ 0x4A0122 ∷ 0x4A0022FF ∷ []) ∷ []))
     -- sessions that run, one with a buffer lent, one whose second of three writes fails; what goes into a buffer; codes that C hands in
-    ∷ (outcome_of (final (started_in (replicate 280 0) (operation.get_status chip).start) (record { reply = Byte 9; buffer = 0 ∷ [] } ∷ [])) is record { made = 1; completed = true; value = 9 })
-    ∷ (outcome_of (final (started_in (replicate 280 0) (operation.set_custom_drive_waveform chip 1 2 3).start) (done ∷ failed ∷ done ∷ [])) is record { made = 2; completed = false; value = 0 })
+    ∷ (outcome_of (final (started_in (replicate 280 0) (operation.get_status chip).start) (record { reply = Byte 9; buffer = 0 ∷ [] } ∷ [])) is record { made = 1; value = Some 9 })
+    ∷ (outcome_of (final (started_in (replicate 280 0) (operation.set_custom_drive_waveform chip 1 2 3).start) (done ∷ failed ∷ done ∷ [])) is record { made = 2; value = None })
     -- how many sequences a record with four has once these are answered to an upload of an unlock, a chunk and a lock
     ∷ (map (λ cs. (record_final (started_in (replicate 280 0) (operation.upload_waveform_memory (holding 4) (loaded_to 2) true).start) cs (holding 4)).sequences)
     ([] ∷ replicate 1 done ∷ replicate 2 done ∷ replicate 3 done ∷ (done ∷ done ∷ failed ∷ []) ∷ (failed ∷ done ∷ done ∷ []) ∷ []) is (4 ∷ 0 ∷ 0 ∷ 5 ∷ 0 ∷ 0 ∷ []))

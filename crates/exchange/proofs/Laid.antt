@@ -1,5 +1,6 @@
 -- Bytes laid over a list, and what they make there: the 33 bytes of an exchange, the 280 of a session. Assumes nothing.
-use Prim.Native.Nat.{ℕ, suc, zero, ◌+◌, ◌-◌, ◌≤◌, min}
+use Prim.Native.Nat.{ℕ, suc, zero, ◌+◌, ◌-◌, ◌/◌, ◌%◌, ◌≤◌, min}
+use Rattle.std.specs.Int.{w64, to_le_bytes}
 use mathlib.Core.Path.{◌≡◌, refl, sym, ap, ap₂, ◌∙◌}
 use mathlib.Core.Bool.{Bool, cond}
 use mathlib.Core.List.{List, [], ◌∷◌, ◌++◌, append-nil}
@@ -7,6 +8,7 @@ use native.Mathlib.Decide.{dec_le}
 use native.Mathlib.Omega.{arith}
 use lib.ListN.{length, take, drop, replicate, length-append, length-take, length-drop, drop_of_length-le}
 use Rattle.laws.specs.Copied.{over}
+use Rattle.laws.specs.Lists.{low_bytes}
 use Rattle.laws.proofs.Copies.{over_behind}
 use Rattle.laws.proofs.Lists.{take_shown}
 use borrow.Author.Tests.{eq-eqb}
@@ -78,6 +80,17 @@ uploaded address first start n offset len image part bytes e a f g p q i =
         omega (arith, k)
 
 -- ---- the bytes of a session
+
+-- the bytes of a number, as std gives them
+pub low_first : (n : ℕ) → to_le_bytes w64 n ≡ low_bytes 8 n
+low_first n =
+    let b : n / 65536 % 256 ≡ n / 256 / 256 % 256 = omega arith in
+    let c : n / 16777216 % 256 ≡ n / 256 / 256 / 256 % 256 = omega arith in
+    let d : n / 4294967296 % 256 ≡ n / 256 / 256 / 256 / 256 % 256 = omega arith in
+    let e : n / 1099511627776 % 256 ≡ n / 256 / 256 / 256 / 256 / 256 % 256 = omega arith in
+    let f : n / 281474976710656 % 256 ≡ n / 256 / 256 / 256 / 256 / 256 / 256 % 256 = omega arith in
+    let g : n / 72057594037927936 % 256 ≡ n / 256 / 256 / 256 / 256 / 256 / 256 / 256 % 256 = omega arith in
+    λ i. n % 256 ∷ n / 256 % 256 ∷ b i ∷ c i ∷ d i ∷ e i ∷ f i ∷ g i ∷ []
 
 -- its four parts laid one behind the other are a session without steps
 pub begun_laid : (st : List ℕ) (b : Begun) (first second third fourth : List ℕ) → length st ≡ 280 → length b.image ≡ 100 → length b.«record» ≡ 38

@@ -10,8 +10,7 @@ use borrow.Author.Tests.{lt-ltb, le-ltb, eq-eqb, ne_eqb}
 use Rattle.laws.specs.Lists.{at}
 use Rattle.exchange.specs.declared.Step.{Step}
 use Rattle.exchange.specs.declared.Step.TheVariants.{Store}
-use Rattle.exchange.specs.declared.Slot.{Slot}
-use Rattle.exchange.specs.declared.Slot.TheVariants.{Idle, At}
+use Rattle.std.specs.Prelude.{Option, Some, None}
 use Rattle.exchange.specs.State.{is_session, is_unbroken, made_in, step_count, read_count, encoded_step, step_in, indexed, plan, left, completed, slot_of}
 
 -- ---- `indexed`
@@ -42,6 +41,10 @@ pub left_closed : (st : List ℕ) → is_unbroken st ≡ false → left st ≡ [
 unfolding left
 left_closed st h = ap (λ (t : Bool). cond t (drop (made_in st) (plan st)) []) h
 
+-- nor of bytes of another length
+pub left_other : (st : List ℕ) → (length st ≡ 280 → ⊥) → left st ≡ []
+left_other st h = left_closed st (no_session st h)
+
 pub closed : (st : List ℕ) → is_unbroken st ≡ false → (left st ≡ []) × (completed st ≡ false)
 unfolding completed
 closed st h = (left_closed st h, ap (λ (t : Bool). t && leb (step_count st + read_count st) (made_in st)) h)
@@ -67,27 +70,27 @@ module _ (st : List ℕ) (o : is_unbroken st ≡ true) where
       ∙ indexed_same (step_in st) (made_in st) (made_in st) (step_count st + read_count st - made_in st) (suc (step_count st + read_count st - suc (made_in st))) refl (omega arith)
 
   -- an encoded step comes next, or a memory read
-  pub slot_encoded : made_in st < step_count st → At (encoded_step st (made_in st)) ≡ slot_of (left st)
-  slot_encoded k = sym (ap slot_of (left_next (omega (arith, k))) ∙ ap (λ (t : Bool). At (cond t (encoded_step st (made_in st)) (Store (made_in st - step_count st)))) (lt-ltb _ _ k))
+  pub slot_encoded : made_in st < step_count st → Some (encoded_step st (made_in st)) ≡ slot_of (left st)
+  slot_encoded k = sym (ap slot_of (left_next (omega (arith, k))) ∙ ap (λ (t : Bool). Some (cond t (encoded_step st (made_in st)) (Store (made_in st - step_count st)))) (lt-ltb _ _ k))
 
-  pub slot_store : step_count st ≤ made_in st → made_in st < step_count st + read_count st → At (Store (made_in st - step_count st)) ≡ slot_of (left st)
-  slot_store k n = sym (ap slot_of (left_next n) ∙ ap (λ (t : Bool). At (cond t (encoded_step st (made_in st)) (Store (made_in st - step_count st)))) (le-ltb _ _ k))
+  pub slot_store : step_count st ≤ made_in st → made_in st < step_count st + read_count st → Some (Store (made_in st - step_count st)) ≡ slot_of (left st)
+  slot_store k n = sym (ap slot_of (left_next n) ∙ ap (λ (t : Bool). Some (cond t (encoded_step st (made_in st)) (Store (made_in st - step_count st)))) (le-ltb _ _ k))
 
 -- ---- where a session stands
 
-pub idle_none : (xs : List Step) → slot_of xs ≡ Idle → xs ≡ []
+pub idle_none : (xs : List Step) → slot_of xs ≡ None → xs ≡ []
 idle_none [] e = refl
 idle_none (x ∷ xs) e = absurd (subst is_at e tt) where
-  is_at : Slot → Type 0
-  is_at Idle = ⊥
-  is_at (At y) = Unit
+  is_at : Option Step → Type 0
+  is_at None = ⊥
+  is_at (Some y) = Unit
 
-pub at_some : (xs : List Step) (x : Step) → slot_of xs ≡ At x → xs ≡ x ∷ drop 1 xs
+pub at_some : (xs : List Step) (x : Step) → slot_of xs ≡ Some x → xs ≡ x ∷ drop 1 xs
 at_some [] x e = absurd (subst is_idle e tt) where
-  is_idle : Slot → Type 0
-  is_idle Idle = Unit
-  is_idle (At y) = ⊥
-at_some (y ∷ xs) x e = ap (λ (s : Slot). first s ∷ xs) e where
-  first : Slot → Step
-  first Idle = y
-  first (At z) = z
+  is_idle : Option Step → Type 0
+  is_idle None = Unit
+  is_idle (Some y) = ⊥
+at_some (y ∷ xs) x e = ap (λ (s : Option Step). first s ∷ xs) e where
+  first : Option Step → Step
+  first None = y
+  first (Some z) = z

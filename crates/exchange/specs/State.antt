@@ -5,11 +5,9 @@
 --     1 begun, 2 broken off      8 length of the read buffer,  117 the record that it carries, 38 bytes
 --   2 exchanges made               8 bytes                     155 the steps, 25 of five bytes
 --   3 the last three bytes read, the newest first
-use Rattle.std.specs.Prelude.{ℕ, suc, zero, ◌+◌, ◌-◌, ◌*◌, min, Bool, true, false, cond, ◌&&◌, List, [], ◌∷◌, ◌++◌, map, ltb, leb, eqb, length, take, drop, set, replicate}
+use Rattle.std.specs.Prelude.{ℕ, suc, zero, ◌+◌, ◌-◌, ◌*◌, min, Bool, true, false, cond, ◌&&◌, List, [], ◌∷◌, ◌++◌, map, ltb, leb, eqb, length, take, drop, set, replicate, Option, Some, None}
 use Rattle.laws.specs.Copied.{over}
 use Rattle.laws.specs.Lists.{joined, at, low_bytes}
-use Rattle.exchange.specs.declared.Slot.{Slot}
-use Rattle.exchange.specs.declared.Slot.TheVariants.{Idle, At}
 use Rattle.exchange.specs.declared.Step.{Step}
 use Rattle.exchange.specs.declared.Step.TheVariants.{Store}
 use Rattle.exchange.specs.Steps.{step_of, step_bytes}
@@ -93,9 +91,9 @@ unfoldable pub completed : List ℕ → Bool
 completed st = is_unbroken st && leb (step_count st + read_count st) (made_in st)
 
 -- where a session stands
-abbrev pub slot_of : List Step → Slot
-slot_of [] = Idle
-slot_of (x ∷ xs) = At x
+abbrev pub slot_of : List Step → Option Step
+slot_of [] = None
+slot_of (x ∷ xs) = Some x
 
 abbrev pub none_left : List Step → Bool
 none_left [] = true

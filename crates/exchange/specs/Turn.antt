@@ -1,7 +1,6 @@
 -- What a session hands out, and what an answer of the bus does to it: document 01, 'Exchanges' and 'Who can cause which answer'.
 use Rattle.std.specs.Prelude.{ℕ, ◌+◌, ◌<◌, ◌≡◌, Bool, true, false, cond, not, ◌&&◌, List, [], ◌∷◌, ◌++◌, ltb, eqb, length, take, set}
 use Rattle.errors.specs.Number.{answer_number, bus_code}
-use Rattle.errors.specs.declared.Answer.{Answer}
 use Rattle.laws.specs.Copied.{over}
 use Rattle.laws.specs.Lists.{at}
 use Rattle.exchange.specs.declared.Step.{Step}
@@ -115,6 +114,3 @@ report_of st a n =
 -- a turn in document 01's numbers
 abbrev pub turn_report : Turn → Report
 turn_report t = record { number = answer_number t.answer; code = bus_code t.answer; made = t.made; ended = t.ended }
-
-abbrev pub turn_in : List ℕ → Answer → Turn
-turn_in st a = record { answer = a; made = count_in st; ended = none_left (left st) }

@@ -7,14 +7,15 @@
 // exchanges are those of the steps, in order, and the count is true.
 #![tactic(auto)]
 
-ghost use Rattle.std.specs.Prelude.{◌≡◌, cond, ◌+◌, ◌*◌, ◌≤◌, ◌<◌, min, [], ◌∷◌, length, set};
+ghost use Rattle.std.specs.Prelude.{◌≡◌, cond, not, ◌&&◌, ◌+◌, ◌*◌, ◌<◌, min, [], ◌∷◌, eqb, length, set};
+ghost use Rattle.errors.specs.Number.{answer_number};
 ghost use Rattle.laws.specs.Copied.{over};
 ghost use Rattle.laws.specs.Lists.{at};
 ghost use Rattle.exchange.specs.Steps.{exchange, memory_address, chunk, exchange_for, step_bytes, step_of};
 ghost use Rattle.exchange.specs.State.{address_in, count_in, room_in, image_in, encoded_step, left, none_left, slot_of, completed, head_of, begun_with, begun_in, pushed};
-ghost use Rattle.exchange.specs.Turn.{pending_of, fitting_of, resized, fit_of, going, moved, state_after, buffer_after, report_of, turn_report, turn_in};
+ghost use Rattle.exchange.specs.Turn.{pending_of, fitting_of, resized, fit_of, going, moved, state_after, buffer_after, report_of, turn_report};
 
-use errors::{Answer, Error};
+use errors::Error;
 use registers::Register;
 
 pub const SESSION_SIZE: usize = 280;
@@ -54,7 +55,7 @@ const MOST_STEPS: u8 = 25;
 
 const MOST_READS: u8 = 100;
 
-#[derive(Clone, Copy)]
+#[derive(Debug, Clone, Copy, PartialEq, Eq)]
 pub enum Step {
     // The register and what is written.
     Write(u8, u8),
@@ -71,7 +72,7 @@ pub enum Step {
 }
 
 // What the bus is to do: send the first `len` bytes, and read back `wanted`.
-#[derive(Clone, Copy)]
+#[derive(Debug, Clone, Copy, PartialEq, Eq)]
 pub struct Exchange {
     pub address: u8,
     pub bytes: [u8; 33],
@@ -80,7 +81,7 @@ pub struct Exchange {
 }
 
 // What the bus answers.
-#[derive(Clone, Copy)]
+#[derive(Debug, Clone, Copy, PartialEq, Eq)]
 pub enum Reply {
     Done,
     Byte(u8),
@@ -88,22 +89,34 @@ pub enum Reply {
 }
 
 // What a session answers: the refusal, if any, the count of exchanges made, and whether it has ended.
-#[derive(Clone, Copy)]
+#[derive(Debug, Clone, Copy, PartialEq, Eq)]
 pub struct Turn {
-    pub answer: Answer,
+    pub answer: Result<(), Error>,
     pub made: u8,
     pub ended: bool,
 }
 
-// Where a session stands: at no step, or at one.
-#[derive(Clone, Copy)]
-enum Slot {
-    Idle,
-    At(Step),
+impl Turn {
+    // Whether this was the last success.
+    pub fn is_last(self) -> bool
+        ensures { result ≡ self.ended && eqb (answer_number self.answer) 0 }
+    {
+        self.ended && self.answer.is_ok()
+    }
+
+    // Whether the answer was taken, and not refused out of turn.
+    pub fn is_taken(self) -> bool
+        ensures { result ≡ not (eqb (answer_number self.answer) 19) }
+    {
+        match self.answer {
+            Ok(()) => true,
+            Err(e) => e != Error::OutOfTurn,
+        }
+    }
 }
 
 // How an answer fits a step: not at all; a failure; a write done; a byte read; one for the buffer's index; not the byte that it must be.
-#[derive(Clone, Copy)]
+#[derive(Debug, Clone, Copy, PartialEq, Eq)]
 enum Fit {
     Unfit,
     Broke(u8),
@@ -113,67 +126,58 @@ enum Fit {
     Wrong(u8),
 }
 
+// What a session is begun with: the chip's address, how many memory reads, the length of the read buffer, what the operation is for, the
+// image to upload, and the record that the session carries.
+#[derive(Clone, Copy)]
+pub struct Opening<'a> {
+    pub address: u8,
+    pub reads: u8,
+    pub room: usize,
+    pub purpose: u8,
+    pub image: &'a [u8; 100],
+    pub record: &'a [u8; RECORD_SIZE],
+}
+
 // Begins a session without steps; the caller's bytes stay as they are if they are not as many as a session has.
 #[tactic(auto, unfolding(crate::specs::State::begun_in))]
-pub fn begin(
-    session: &mut [u8],
-    address: u8,
-    reads: u8,
-    room: usize,
-    purpose: u8,
-    image: [u8; 100],
-    record: [u8; RECORD_SIZE],
-)
-    ensures { session.new ≡ begun_in session.old (begun_with address reads room purpose image «record») [] }
+pub fn begin(session: &mut [u8], opening: Opening<'_>)
+    ensures { session.new
+        ≡ begun_in session.old (begun_with opening.entry.address opening.entry.reads opening.entry.room opening.entry.purpose opening.entry.image.now opening.entry.«record».now) [] }
 {
     if session.len() == SESSION_SIZE {
-        let head = heading(address, reads, room, purpose);
-        let none = [0u8; 125];
-        lay(session, 0, &head);
-        lay(session, IMAGE, &image);
-        lay(session, RECORD, &record);
-        lay(session, PLAN, &none);
+        let image = opening.image;
+        let record = opening.record;
+        laws::lay(session, 0, &heading(opening));
+        laws::lay(session, IMAGE, image);
+        laws::lay(session, RECORD, record);
+        laws::lay(session, PLAN, &[0u8; 125]);
     }
 }
 
 // The first seventeen bytes; eight of them are the length of the read buffer, least byte first.
-fn heading(address: u8, reads: u8, room: usize, purpose: u8) -> [u8; 17]
-    ensures { result ≡ head_of (begun_with address reads room purpose [] []) 0 }
+fn heading(opening: Opening<'_>) -> [u8; 17]
+    ensures { result ≡ head_of (begun_with opening.entry.address opening.entry.reads opening.entry.room opening.entry.purpose [] []) 0 }
 {
-    let q1 = room / 256;
-    let q2 = q1 / 256;
-    let q3 = q2 / 256;
-    let q4 = q3 / 256;
-    let q5 = q4 / 256;
-    let q6 = q5 / 256;
-    let q7 = q6 / 256;
+    let [a, b, c, d, e, f, g, h] = opening.room.to_le_bytes();
     [
-        address,
+        opening.address,
         BEGUN,
         0,
         0,
         0,
         0,
         0,
-        reads,
-        (room % 256) as u8,
-        (q1 % 256) as u8,
-        (q2 % 256) as u8,
-        (q3 % 256) as u8,
-        (q4 % 256) as u8,
-        (q5 % 256) as u8,
-        (q6 % 256) as u8,
-        (q7 % 256) as u8,
-        purpose,
+        opening.reads,
+        a,
+        b,
+        c,
+        d,
+        e,
+        f,
+        g,
+        h,
+        opening.purpose,
     ]
-}
-
-// Lays bytes over the caller's from an index on.
-fn lay(lent: &mut [u8], at: usize, bytes: &[u8])
-    requires { at + length bytes.now ≤ length lent.old }
-    ensures { lent.new ≡ over lent.old at bytes.now }
-{
-    laws::copy_into(&mut lent[at..], bytes);
 }
 
 // A step more, where there is room for it.
@@ -184,95 +188,91 @@ pub fn push(session: &mut [u8], step: Step)
     if session.len() == SESSION_SIZE {
         let n = session[STEPS];
         if n < MOST_STEPS {
-            let bytes = step_bytes(step);
             session[STEPS] = n + 1;
-            lay(session, PLAN + 5 * (n as usize), &bytes);
+            laws::lay(session, PLAN + 5 * (n as usize), &<[u8; 5]>::from(step));
         }
     }
 }
 
-fn step_bytes(step: Step) -> [u8; 5]
-    ensures { result ≡ step_bytes step }
-{
-    match step {
-        Step::Write(register, value) => [0, register, value, 0, 0],
-        Step::Read(register) => [1, register, 0, 0, 0],
-        Step::Update(register, shift, width, value) => [2, register, value, shift, width],
-        Step::Match(register, value) => [3, register, value, 0, 0],
-        Step::Chunk(offset, len) => [4, offset, len, 0, 0],
-        Step::Store(index) => [5, index, 0, 0, 0],
+// A step in five bytes.
+impl From<Step> for [u8; 5] {
+    ghost from_gives = { λ step bytes. bytes ≡ step_bytes step };
+
+    fn from(step: Step) -> [u8; 5] {
+        match step {
+            Step::Write(register, value) => [0, register, value, 0, 0],
+            Step::Read(register) => [1, register, 0, 0, 0],
+            Step::Update(register, shift, width, value) => [2, register, value, shift, width],
+            Step::Match(register, value) => [3, register, value, 0, 0],
+            Step::Chunk(offset, len) => [4, offset, len, 0, 0],
+            Step::Store(index) => [5, index, 0, 0, 0],
+        }
     }
 }
 
-fn step_of(kind: u8, a: u8, b: u8, c: u8, d: u8) -> Step
-    ensures { result ≡ step_of kind a b c d }
-{
-    match kind {
-        0 => Step::Write(a, b),
-        1 => Step::Read(a),
-        2 => Step::Update(a, c, d, b),
-        3 => Step::Match(a, b),
-        4 => Step::Chunk(a, b),
-        _ => Step::Store(a),
-    }
-}
+impl From<[u8; 5]> for Step {
+    ghost from_gives = { λ bytes step. step ≡ step_of (at bytes 0) (at bytes 1) (at bytes 2) (at bytes 3) (at bytes 4) };
 
-fn least(a: u8, b: u8) -> u8
-    ensures { result ≡ min a b }
-{
-    if a < b { a } else { b }
+    fn from([kind, a, b, c, d]: [u8; 5]) -> Step {
+        match kind {
+            0 => Step::Write(a, b),
+            1 => Step::Read(a),
+            2 => Step::Update(a, c, d, b),
+            3 => Step::Match(a, b),
+            4 => Step::Chunk(a, b),
+            _ => Step::Store(a),
+        }
+    }
 }
 
 // The step that comes next.
-fn current(session: &[u8]) -> Slot
+fn current(session: &[u8; SESSION_SIZE]) -> Option<Step>
     ensures { result ≡ slot_of (left session.now) }
 {
-    if session.len() != SESSION_SIZE {
-        return Slot::Idle;
-    }
     if session[STAGE] != BEGUN {
-        return Slot::Idle;
+        return None;
     }
     let made = session[MADE];
-    let steps = least(session[STEPS], MOST_STEPS);
-    let all = steps + least(session[READS], MOST_READS);
+    let steps = session[STEPS].min(MOST_STEPS);
+    let all = steps + session[READS].min(MOST_READS);
     if all <= made {
-        return Slot::Idle;
+        None
+    } else if made < steps {
+        Some(step_at(session, made))
+    } else {
+        Some(Step::Store(made - steps))
     }
-    if made < steps {
-        let step = step_at(session, made);
-        return Slot::At(step);
-    }
-    Slot::At(Step::Store(made - steps))
 }
 
 // The i-th encoded step.
-fn step_at(session: &[u8], i: u8) -> Step
-    requires { (length session.now ≡ 280) × (i < 25) }
+fn step_at(session: &[u8; SESSION_SIZE], i: u8) -> Step
+    requires { i < 25 }
     ensures { result ≡ encoded_step session.now i }
 {
-    let k = 5 * (i as usize);
-    step_of(
-        session[PLAN + k],
-        session[PLAN + k + 1],
-        session[PLAN + k + 2],
-        session[PLAN + k + 3],
-        session[PLAN + k + 4],
-    )
+    let k = PLAN + 5 * (i as usize);
+    Step::from([
+        session[k],
+        session[k + 1],
+        session[k + 2],
+        session[k + 3],
+        session[k + 4],
+    ])
 }
 
 // The exchange that is to be made next; no bytes once the session has ended.
 pub fn pending(session: &[u8]) -> Exchange
     ensures { result ≡ pending_of session.now }
 {
+    let Some(session) = session.as_array::<SESSION_SIZE>() else {
+        return nothing();
+    };
     match current(session) {
-        Slot::Idle => nothing(),
-        Slot::At(step) => exchange_for(session, step),
+        None => nothing(),
+        Some(step) => exchange_for(session, step),
     }
 }
 
-fn exchange_for(session: &[u8], step: Step) -> Exchange
-    requires { length session.now ≡ 280 }
+fn exchange_for(session: &[u8; SESSION_SIZE], step: Step) -> Exchange
     ensures { result ≡ exchange_for (address_in session.now) (at session.now 3) (image_in session.now) step }
 {
     let address = session[ADDRESS];
@@ -292,10 +292,9 @@ fn exchange_for(session: &[u8], step: Step) -> Exchange
 fn nothing() -> Exchange
     ensures { result ≡ exchange 0 [] 0 }
 {
-    let bytes = [0u8; 33];
     Exchange {
         address: 0,
-        bytes: bytes,
+        bytes: [0; 33],
         len: 0,
         wanted: 0,
     }
@@ -308,8 +307,8 @@ fn writing(address: u8, register: u8, value: u8) -> Exchange
     bytes[0] = register;
     bytes[1] = value;
     Exchange {
-        address: address,
-        bytes: bytes,
+        address,
+        bytes,
         len: 2,
         wanted: 0,
     }
@@ -321,8 +320,8 @@ fn reading(address: u8, register: u8) -> Exchange
     let mut bytes = [0u8; 33];
     bytes[0] = register;
     Exchange {
-        address: address,
-        bytes: bytes,
+        address,
+        bytes,
         len: 1,
         wanted: 1,
     }
@@ -332,16 +331,16 @@ fn uploading(address: u8, image: &[u8], offset: u8, len: u8) -> Exchange
     requires { length image.now ≡ 100 }
     ensures { result ≡ exchange address (memory_address offset ∷ chunk image.now offset len) 0 }
 {
-    let start = least(offset, 100);
-    let n = least(least(len, 32), 100 - start);
+    let start = offset.min(100);
+    let n = len.min(32).min(100 - start);
     let from = start as usize;
     let mut bytes = [0u8; 33];
     bytes[0] = memory_address(offset);
     let behind = from + n as usize;
-    lay(&mut bytes, 1, &image[from..behind]);
+    laws::lay(&mut bytes, 1, &image[from..behind]);
     Exchange {
-        address: address,
-        bytes: bytes,
+        address,
+        bytes,
         len: n + 1,
         wanted: 0,
     }
@@ -361,29 +360,34 @@ pub fn answer(session: &mut [u8], reply: Reply, buffer: &mut [u8]) -> Turn
     ensures session_after { session.new ≡ state_after session.old reply (length buffer.old) }
     ensures buffer_after { buffer.new ≡ buffer_after session.old reply buffer.old }
 {
-    match judge(session, reply, buffer.len()) {
-        Fit::Unfit => tell(session, Answer::Refused(Error::OutOfTurn)),
+    let answer = match judge(session, reply, buffer.len()) {
+        Fit::Unfit => Err(Error::OutOfTurn),
         Fit::Broke(code) => {
             go_on(session, BROKEN_OFF);
-            tell(session, Answer::Refused(Error::I2c(code)))
+            Err(Error::I2c(code))
         }
         Fit::Went => {
             go_on(session, BEGUN);
-            tell(session, Answer::Done)
+            Ok(())
         }
         Fit::Got(b) => {
             take_in(session, BEGUN, b);
-            tell(session, Answer::Done)
+            Ok(())
         }
         Fit::Kept(i, b) => {
             store(buffer, i, b);
             take_in(session, BEGUN, b);
-            tell(session, Answer::Done)
+            Ok(())
         }
         Fit::Wrong(b) => {
             take_in(session, BROKEN_OFF, b);
-            tell(session, Answer::Refused(Error::VariantMismatch))
+            Err(Error::VariantMismatch)
         }
+    };
+    Turn {
+        answer,
+        made: made(session),
+        ended: is_over(session),
     }
 }
 
@@ -399,7 +403,7 @@ fn go_on(session: &mut [u8], stage: u8)
         session[LAST + 1],
         session[LAST + 2],
     ];
-    lay(session, STAGE, &bytes);
+    laws::lay(session, STAGE, &bytes);
 }
 
 // An exchange more, with the byte that was read.
@@ -414,7 +418,7 @@ fn take_in(session: &mut [u8], stage: u8, b: u8)
         session[LAST],
         session[LAST + 1],
     ];
-    lay(session, STAGE, &bytes);
+    laws::lay(session, STAGE, &bytes);
 }
 
 // A byte goes to its own index, if the buffer has one.
@@ -427,35 +431,24 @@ fn store(buffer: &mut [u8], i: u8, b: u8)
     }
 }
 
-fn tell(session: &[u8], answer: Answer) -> Turn
-    ensures { result ≡ turn_in session.now answer }
-{
-    Turn {
-        answer: answer,
-        made: made(session),
-        ended: is_over(session),
-    }
-}
-
 // How many exchanges were made; none of a session that was not begun.
 pub fn made(session: &[u8]) -> u8
     ensures { result ≡ count_in session.now }
 {
-    if session.len() == SESSION_SIZE {
-        if 0 < session[STAGE] {
-            return session[MADE];
-        }
+    if session.len() == SESSION_SIZE && 0 < session[STAGE] {
+        session[MADE]
+    } else {
+        0
     }
-    0
 }
 
 // Whether no step is left.
 pub fn is_over(session: &[u8]) -> bool
     ensures { result ≡ none_left (left session.now) }
 {
-    match current(session) {
-        Slot::Idle => true,
-        Slot::At(_) => false,
+    match session.as_array::<SESSION_SIZE>() {
+        None => true,
+        Some(session) => current(session).is_none(),
     }
 }
 
@@ -464,22 +457,21 @@ pub fn is_over(session: &[u8]) -> bool
 pub fn is_completed(session: &[u8]) -> bool
     ensures { result ≡ completed session.now }
 {
-    if session.len() != SESSION_SIZE {
-        return false;
-    }
-    if session[STAGE] != BEGUN {
-        return false;
-    }
-    least(session[STEPS], MOST_STEPS) + least(session[READS], MOST_READS) <= session[MADE]
+    session.len() == SESSION_SIZE
+        && session[STAGE] == BEGUN
+        && session[STEPS].min(MOST_STEPS) + session[READS].min(MOST_READS) <= session[MADE]
 }
 
 // How an answer fits the session, with n bytes lent.
 fn judge(session: &[u8], reply: Reply, n: usize) -> Fit
     ensures { result ≡ fit_of session.now reply n }
 {
+    let Some(session) = session.as_array::<SESSION_SIZE>() else {
+        return Fit::Unfit;
+    };
     match current(session) {
-        Slot::Idle => Fit::Unfit,
-        Slot::At(step) => timely(is_resized(session, n), fitting(step, reply)),
+        None => Fit::Unfit,
+        Some(step) => timely(is_resized(session, n), fitting(step, reply)),
     }
 }
 
@@ -487,74 +479,47 @@ fn judge(session: &[u8], reply: Reply, n: usize) -> Fit
 fn timely(resized: bool, fit: Fit) -> Fit
     ensures { result ≡ cond resized Fit.Unfit fit }
 {
-    if resized {
-        return Fit::Unfit;
-    }
-    fit
+    if resized { Fit::Unfit } else { fit }
 }
 
 fn fitting(step: Step, reply: Reply) -> Fit
     ensures { result ≡ fitting_of step reply }
 {
-    match reply {
-        Reply::Failed(code) => Fit::Broke(code),
-        Reply::Done => match step {
-            Step::Write(_, _) => Fit::Went,
-            Step::Read(_) => Fit::Unfit,
-            Step::Update(_, _, _, _) => Fit::Went,
-            Step::Match(_, _) => Fit::Unfit,
-            Step::Chunk(_, _) => Fit::Went,
-            Step::Store(_) => Fit::Unfit,
-        },
-        Reply::Byte(b) => match step {
-            Step::Write(_, _) => Fit::Unfit,
-            Step::Read(_) => Fit::Got(b),
-            Step::Update(_, _, _, _) => Fit::Unfit,
-            Step::Match(_, value) => {
-                if b == value {
-                    return Fit::Got(b);
-                }
+    match (reply, step) {
+        (Reply::Failed(code), _) => Fit::Broke(code),
+        (Reply::Done, Step::Write(..) | Step::Update(..) | Step::Chunk(..)) => Fit::Went,
+        (Reply::Byte(b), Step::Read(_)) => Fit::Got(b),
+        (Reply::Byte(b), Step::Match(_, value)) => {
+            if b == value {
+                Fit::Got(b)
+            } else {
                 Fit::Wrong(b)
             }
-            Step::Chunk(_, _) => Fit::Unfit,
-            Step::Store(index) => Fit::Kept(index, b),
-        },
+        }
+        (Reply::Byte(b), Step::Store(index)) => Fit::Kept(index, b),
+        _ => Fit::Unfit,
     }
 }
 
 // Whether the read buffer's length is another than at the start.
-fn is_resized(session: &[u8], n: usize) -> bool
-    requires { length session.now ≡ 280 }
+fn is_resized(session: &[u8; SESSION_SIZE], n: usize) -> bool
     ensures { result ≡ resized session.now n }
 {
-    if session[READS] < 1 {
-        return false;
-    }
-    n != room(session)
+    0 < session[READS] && n != room(session)
 }
 
 // The length that the read buffer had at the start.
-fn room(session: &[u8]) -> usize
-    requires { length session.now ≡ 280 }
+fn room(session: &[u8; SESSION_SIZE]) -> usize
     ensures { result ≡ room_in session.now }
 {
-    let low = word(
+    usize::from_le_bytes([
         session[ROOM],
         session[ROOM + 1],
         session[ROOM + 2],
         session[ROOM + 3],
-    );
-    let high = word(
         session[ROOM + 4],
         session[ROOM + 5],
         session[ROOM + 6],
         session[ROOM + 7],
-    );
-    low + 4294967296 * high
-}
-
-fn word(a: u8, b: u8, c: u8, d: u8) -> usize
-    ensures { (result ≡ a + 256 * b + 65536 * c + 16777216 * d) × (result < 4294967296) }
-{
-    a as usize + 256 * (b as usize) + 65536 * (c as usize) + 16777216 * (d as usize)
+    ])
 }

@@ -86,7 +86,8 @@ impl WaveformMemory {
 
     // The hundred bytes, of which the first `len` are the memory's.
     pub fn bytes(&self) -> &[u8; MAX_MEMORY_SIZE]
-        ensures { result.now ≡ self.now.«data» }
+        ensures value { result.now ≡ self.now.«data» }
+        ensures len { length result.now ≡ 100 }
     {
         &self.data
     }

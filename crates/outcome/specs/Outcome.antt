@@ -1,5 +1,5 @@
 -- What a session gives in the end, and what an answer makes of the record lent with it: document 01, 'Exchanges'; document 02, CR 10.
-use Rattle.std.specs.Prelude.{ℕ, ◌+◌, ◌*◌, Bool, cond, ◌&&◌, List, [], ◌∷◌, eqb, get_or}
+use Rattle.std.specs.Prelude.{ℕ, ◌+◌, ◌*◌, Bool, cond, ◌&&◌, List, [], ◌∷◌, eqb, get_or, Some, None}
 use Rattle.laws.specs.Lists.{at}
 use Rattle.config.specs.Codes.{variant_code}
 use Rattle.exchange.specs.State.{is_session, count_in, last_in, completed, read_count, purpose_in, record_in}
@@ -9,10 +9,25 @@ use Rattle.da728x.specs.Record.{record_at}
 use Rattle.outcome.specs.declared.Change.{Change}
 use Rattle.outcome.specs.declared.Change.TheVariants.{Same, To, Sequences}
 use Rattle.outcome.specs.declared.Outcome.{Outcome}
+use Rattle.outcome.specs.declared.Purpose.{Purpose}
+use Rattle.outcome.specs.declared.Purpose.TheVariants.{Command, New, Settings, Byte, ThreeBytes, Length, Upload}
 
 -- What a session is for: 0 no record and no value, 1 the record of `new`, 2 the settings of `configure`,
 -- 3 the byte read last, 4 the last three bytes, 5 how many bytes of memory were read, 6 an upload. The sessions of 1, 2 and 6 carry a record: the new one,
 -- one with the settings, one with the address and the image's number of sequences.
+
+abbrev pub purpose_code : Purpose → ℕ
+purpose_code Command = 0
+purpose_code New = 1
+purpose_code Settings = 2
+purpose_code Byte = 3
+purpose_code ThreeBytes = 4
+purpose_code Length = 5
+purpose_code Upload = 6
+
+-- a number that is none of them has neither record nor value, as a command
+abbrev pub purpose_at : ℕ → Purpose
+purpose_at code = get_or (Command ∷ New ∷ Settings ∷ Byte ∷ ThreeBytes ∷ Length ∷ Upload ∷ []) code Command
 
 -- bytes as one number, the first highest
 abbrev pub big_endian : ℕ → List ℕ → ℕ
@@ -67,6 +82,6 @@ record_by r (Sequences n) = with_sequences r n
 abbrev pub value_in : List ℕ → ℕ
 value_in st = get_or (0 ∷ 0 ∷ 0 ∷ last_in st ∷ big_endian 0 (at st 5 ∷ at st 4 ∷ last_in st ∷ []) ∷ read_count st ∷ []) (purpose_in st) 0
 
--- "The count of exchanges made stands in every session result"
+-- "The count of exchanges made stands in every session result"; what the operation answers, once every exchange was made
 unfoldable pub outcome_of : List ℕ → Outcome
-outcome_of st = record { made = count_in st; completed = completed st; value = cond (completed st) (value_in st) 0 }
+outcome_of st = record { made = count_in st; value = cond (completed st) (Some (value_in st)) None }

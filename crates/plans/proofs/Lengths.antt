@@ -1,4 +1,5 @@
 -- How many steps `configure` has: at least 14 and at most 25, whatever the settings. Assumes nothing.
+use Rattle.std.specs.Prelude.{Option, Some, None}
 use Prim.Native.Nat.{ℕ, ◌≤◌}
 use Prim.Native.String.{String}
 use native.Mathlib.Omega.{arith}
@@ -8,10 +9,7 @@ use mathlib.Core.List.{[]}
 use lib.ListN.{length, length-append}
 use Rattle.config.specs.declared.ActuatorConfig.{ActuatorConfig}
 use Rattle.config.specs.declared.DeviceConfig.{DeviceConfig}
-use Rattle.config.specs.declared.Pid.{Pid}
-use Rattle.config.specs.declared.Pid.TheVariants as pid
-use Rattle.config.specs.declared.Trigger.{Trigger}
-use Rattle.config.specs.declared.Trigger.TheVariants as trigger
+use Rattle.config.specs.declared.TriggerConfig.{TriggerConfig}
 use Rattle.config.specs.declared.DrivingMode.{DrivingMode}
 use Rattle.config.specs.declared.DrivingMode.TheVariants.{FREQUENCY_TRACK, WIDEBAND, CUSTOM_WAVEFORM}
 use Rattle.checks.specs.Checks.{etwm}
@@ -41,10 +39,10 @@ rapid_stop = refl
 
 -- ---- parts of at most as many
 
-pub pid_words : (p : Pid) → length (pid_steps p) ≤ 4
+pub pid_words : (p : Option (ℕ × ℕ)) → length (pid_steps p) ≤ 4
 unfolding pid_steps
-pid_words pid.Absent = omega arith
-pid_words (pid.Given kp ki) = omega arith
+pid_words None = omega arith
+pid_words (Some (kp, ki)) = omega arith
 
 pub driving : (m : DrivingMode) → length (driving_steps m) ≤ 4
 unfolding driving_steps phase_steps custom_steps
@@ -52,12 +50,12 @@ driving FREQUENCY_TRACK = omega arith
 driving WIDEBAND = omega arith
 driving CUSTOM_WAVEFORM = omega arith
 
-gpi : (digit : String) (t : Trigger) → length (gpi_steps digit t) ≤ 1
+gpi : (digit : String) (t : Option TriggerConfig) → length (gpi_steps digit t) ≤ 1
 unfolding gpi_steps
-gpi digit trigger.Absent = omega arith
-gpi digit (trigger.Given t) = omega arith
+gpi digit None = omega arith
+gpi digit (Some t) = omega arith
 
-given : (s t u : Trigger) → length (given_steps s t u) ≤ 3
+given : (s t u : Option TriggerConfig) → length (given_steps s t u) ≤ 3
 unfolding given_steps
 given s t u = simp length-append (omega (arith, gpi "0" s, gpi "1" t, gpi "2" u))
 

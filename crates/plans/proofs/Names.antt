@@ -1,6 +1,7 @@
 -- Every field that the steps of `configure` name is in its register's row of the table, and the steps write the fields listed here: a misspelt
 -- name would have no width, and its value would be missing. In a fresh byte a field that is given 0 changes nothing, however spelt.
 -- Assumes nothing.
+use Rattle.std.specs.Prelude.{Option, Some, None}
 use Prim.Native.Nat.{ℕ}
 use Prim.Native.String.{String}
 use mathlib.Core.Path.{◌≡◌, refl}
@@ -16,9 +17,7 @@ use Rattle.config.specs.declared.ActuatorType.TheVariants.{ERM}
 use Rattle.config.specs.declared.DeviceConfig.{DeviceConfig}
 use Rattle.config.specs.declared.DrivingMode.TheVariants.{FREQUENCY_TRACK}
 use Rattle.config.specs.declared.OperationMode.TheVariants.{ETWM_MODE}
-use Rattle.config.specs.declared.Pid.TheVariants as pid
-use Rattle.config.specs.declared.Trigger.{Trigger}
-use Rattle.config.specs.declared.Trigger.TheVariants as trigger
+use Rattle.config.specs.declared.TriggerConfig.{TriggerConfig}
 use Rattle.config.specs.declared.TriggerMode.TheVariants.{MultiSequence}
 use Rattle.config.specs.declared.TriggerPolarity.TheVariants.{Both}
 use Rattle.exchange.specs.declared.Step.{Step}
@@ -70,11 +69,11 @@ actuator =
       impedance_mOhm = 8000;
       inductance_uH = 100;
       frequency_Hz = 150;
-      pid_Kp_Ki = pid.Absent;
+      pid_Kp_Ki = None;
     }
 
-abbrev gpi : Trigger
-gpi = trigger.Given (record { sequence_id = 15; polarity = Both; mode = MultiSequence })
+abbrev gpi : Option TriggerConfig
+gpi = Some (record { sequence_id = 15; polarity = Both; mode = MultiSequence })
 
 abbrev pub device : Bool → DeviceConfig
 device accelerates =

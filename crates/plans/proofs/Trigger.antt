@@ -5,7 +5,7 @@ use Rattle.std.proofs.Common.{ℕ, zero, suc, ◌+◌, ◌*◌, ◌%◌, ◌≤�
 use mathlib.Core.Bool.{cond}
 use mathlib.Core.List.{List, [], ◌∷◌, ◌++◌}
 use Prim.Native.Nat.{min}
-use Rattle.std.specs.Prelude.{filter}
+use Rattle.std.specs.Prelude.{filter, Option, Some, None}
 use Rattle.std.proofs.lemmas.List.Elements.{filter-append}
 use Prim.Native.String.{String, ◌++◌ as ◌&◌}
 use lib.Dec.{T, eqb}
@@ -14,8 +14,6 @@ use Rattle.field.specs.Field.{with_of}
 use Rattle.field.proofs.Methods.{with_masked}
 use Rattle.config.specs.declared.ActuatorConfig.{ActuatorConfig}
 use Rattle.config.specs.declared.DeviceConfig.{DeviceConfig}
-use Rattle.config.specs.declared.Trigger as config
-use Rattle.config.specs.declared.Trigger.TheVariants.{Absent, Given}
 use Rattle.config.specs.declared.TriggerConfig.{TriggerConfig}
 use Rattle.config.specs.declared.TriggerMode.{TriggerMode}
 use Rattle.config.specs.declared.TriggerMode.TheVariants.{SingleSequence, MultiSequence}
@@ -26,8 +24,6 @@ use Rattle.config.specs.declared.OperationMode.{OperationMode}
 use Rattle.config.specs.declared.OperationMode.TheVariants.{INACTIVE, DRO_MODE, PWM_MODE, RTWM_MODE, ETWM_MODE}
 use Rattle.config.specs.declared.DrivingMode.{DrivingMode}
 use Rattle.config.specs.declared.DrivingMode.TheVariants.{FREQUENCY_TRACK, WIDEBAND, CUSTOM_WAVEFORM}
-use Rattle.config.specs.declared.Pid.{Pid}
-use Rattle.config.specs.declared.Pid.TheVariants as pid
 use Rattle.checks.specs.Checks.{etwm}
 use Rattle.exchange.specs.declared.Step.{Step}
 use Rattle.plans.specs.Fields.{put, fresh}
@@ -110,20 +106,20 @@ features : (a : ActuatorConfig) (d : DeviceConfig) → feature_steps a (untrigge
 unfolding feature_steps
 features a d = refl
 
-zero_gets : (t : config.Trigger) → gpi_steps "0" t ≡ gets 0x29 "0" t
+zero_gets : (t : Option TriggerConfig) → gpi_steps "0" t ≡ gets 0x29 "0" t
 unfolding gpi_steps
-zero_gets Absent = refl
-zero_gets (Given t) = refl
+zero_gets None = refl
+zero_gets (Some t) = refl
 
-one_gets : (t : config.Trigger) → gpi_steps "1" t ≡ gets 0x2A "1" t
+one_gets : (t : Option TriggerConfig) → gpi_steps "1" t ≡ gets 0x2A "1" t
 unfolding gpi_steps
-one_gets Absent = refl
-one_gets (Given t) = refl
+one_gets None = refl
+one_gets (Some t) = refl
 
-two_gets : (t : config.Trigger) → gpi_steps "2" t ≡ gets 0x2B "2" t
+two_gets : (t : Option TriggerConfig) → gpi_steps "2" t ≡ gets 0x2B "2" t
 unfolding gpi_steps
-two_gets Absent = refl
-two_gets (Given t) = refl
+two_gets None = refl
+two_gets (Some t) = refl
 
 chosen : (mode : OperationMode) (steps : List Step) → cond (etwm mode) steps [] ≡ in_etwm mode steps
 chosen INACTIVE steps = refl
@@ -148,10 +144,10 @@ writes a d = simp (features a d, given d, none d, append_assoc)
 
 -- ---- the other steps
 
-elsewhere_pid : (p : Pid) → filter to_gpi (pid_steps p) ≡ []
+elsewhere_pid : (p : Option (ℕ × ℕ)) → filter to_gpi (pid_steps p) ≡ []
 unfolding pid_steps
-elsewhere_pid pid.Absent = refl
-elsewhere_pid (pid.Given kp ki) = refl
+elsewhere_pid None = refl
+elsewhere_pid (Some (kp, ki)) = refl
 
 elsewhere_driving : (m : DrivingMode) → filter to_gpi (driving_steps m) ≡ []
 unfolding driving_steps phase_steps custom_steps

@@ -1,14 +1,11 @@
 -- The steps of `configure`, in the Rust's order: document 01, 'Settings to registers' and 'Exchanges'.
-use Rattle.std.specs.Prelude.{ℕ, ◌/◌, ◌%◌, Bool, cond, not, ◌&&◌, List, [], ◌∷◌, ◌++◌}
+use Rattle.std.specs.Prelude.{ℕ, ◌/◌, ◌%◌, Bool, cond, not, ◌&&◌, List, [], ◌∷◌, ◌++◌, Option, Some, None}
 use Prim.Native.String.{String, ◌++◌ as ◌&◌}
 use Rattle.field.specs.Field.{code_of}
+use Rattle.registers.specs.Table.{address_of}
 use Rattle.config.specs.declared.ActuatorConfig.{ActuatorConfig}
 use Rattle.config.specs.declared.DeviceConfig.{DeviceConfig}
-use Rattle.config.specs.declared.Pid.{Pid}
-use Rattle.config.specs.declared.Pid.TheVariants as pid
 use Rattle.config.specs.declared.TriggerConfig.{TriggerConfig}
-use Rattle.config.specs.declared.Trigger.{Trigger}
-use Rattle.config.specs.declared.Trigger.TheVariants as trigger
 use Rattle.config.specs.declared.DrivingMode.{DrivingMode}
 use Rattle.config.specs.declared.DrivingMode.TheVariants.{FREQUENCY_TRACK, WIDEBAND, CUSTOM_WAVEFORM}
 use Rattle.config.specs.Codes.{actuator_code, polarity_code, trigger_mode_code}
@@ -51,9 +48,9 @@ calibration_steps a =
     written "CALIB_V2I_H" (v2i_for a / 256) ∷ written "CALIB_V2I_L" (v2i_for a % 256) ∷ written "TRIM4" (trim4_byte a.impedance_mOhm a.inductance_uH) ∷ []
 
 -- TOP_INT_CFG6 and 7: "PID words lose bit 15"
-unfoldable pub pid_steps : Pid → List Step
-pid_steps pid.Absent = []
-pid_steps (pid.Given kp ki) =
+unfoldable pub pid_steps : Option (ℕ × ℕ) → List Step
+pid_steps None = []
+pid_steps (Some (kp, ki)) =
     written "TOP_INT_CFG6_H" (high_part kp) ∷ written "TOP_INT_CFG6_L" (low_part kp)
     ∷ written "TOP_INT_CFG7_H" (high_part ki) ∷ written "TOP_INT_CFG7_L" (low_part ki) ∷ []
 
@@ -79,6 +76,13 @@ driving_steps FREQUENCY_TRACK = []
 driving_steps WIDEBAND = phase_steps
 driving_steps CUSTOM_WAVEFORM = phase_steps ++ custom_steps
 
+-- the digit in a GPI register's name, and the address of that register
+abbrev pub Digit : Type 0
+Digit = String
+
+abbrev pub gpi_address : Digit → ℕ
+gpi_address digit = address_of ("GPI_" & digit & "_CTL")
+
 -- the byte of the GPI register with this digit in its names; document 02, CR 4: "it is the trigger's own `mode`: 0 for SingleSequence, 1 for
 -- MultiSequence" (the codes of TriggerMode)
 unfoldable pub gpi_byte : String → TriggerConfig → ℕ
@@ -86,12 +90,12 @@ gpi_byte digit t =
     fresh ("GPI_" & digit & "_CTL") (put ("GPI" & digit & "_POLARITY") (polarity_code t.polarity)
     ∷ put ("GPI" & digit & "_MODE") (trigger_mode_code t.mode) ∷ put ("GPI" & digit & "_SEQUENCE_ID") t.sequence_id ∷ [])
 
-unfoldable pub gpi_steps : String → Trigger → List Step
-gpi_steps digit trigger.Absent = []
-gpi_steps digit (trigger.Given t) = written ("GPI_" & digit & "_CTL") (gpi_byte digit t) ∷ []
+unfoldable pub gpi_steps : String → Option TriggerConfig → List Step
+gpi_steps digit None = []
+gpi_steps digit (Some t) = written ("GPI_" & digit & "_CTL") (gpi_byte digit t) ∷ []
 
 -- GPI_0_CTL to GPI_2_CTL, those whose triggers are given
-unfoldable pub given_steps : Trigger → Trigger → Trigger → List Step
+unfoldable pub given_steps : Option TriggerConfig → Option TriggerConfig → Option TriggerConfig → List Step
 given_steps first second third = gpi_steps "0" first ++ (gpi_steps "1" second ++ gpi_steps "2" third)
 
 -- in ETWM mode only

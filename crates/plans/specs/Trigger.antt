@@ -1,7 +1,7 @@
 -- What `configure` writes of triggers, of any settings (driver/specs/Operations.antt has which of them it takes): document 02, CR 4, "The base writes
 -- the GPI mode bit, bit 2 of the three GPI registers, as 1. From now on it is the trigger's own `mode`: 0 for SingleSequence, 1 for
 -- MultiSequence." Numbers, codes and addresses are said again here, so that a wrong table or code is refused. That it is so: proofs/Trigger.antt.
-use Rattle.std.specs.Prelude.{ℕ, ◌+◌, ◌*◌, ◌%◌, ◌≤◌, ◌≡◌, ◌↔◌, min, Bool, ◌&&◌, leb, List, [], ◌∷◌, ◌++◌, filter, replicate}
+use Rattle.std.specs.Prelude.{ℕ, ◌+◌, ◌*◌, ◌%◌, ◌≤◌, ◌≡◌, ◌↔◌, min, Bool, ◌&&◌, leb, List, [], ◌∷◌, ◌++◌, filter, replicate, Option, Some, None}
 use Prim.Native.String.{String}
 use Rattle.laws.specs.Bytes.{All}
 use Rattle.laws.specs.Lists.{at}
@@ -9,8 +9,6 @@ use Rattle.config.specs.declared.ActuatorConfig.{ActuatorConfig}
 use Rattle.config.specs.declared.DeviceConfig.{DeviceConfig}
 use Rattle.config.specs.declared.OperationMode.{OperationMode}
 use Rattle.config.specs.declared.OperationMode.TheVariants.{INACTIVE, ETWM_MODE}
-use Rattle.config.specs.declared.Trigger as config
-use Rattle.config.specs.declared.Trigger.TheVariants.{Absent, Given}
 use Rattle.config.specs.declared.TriggerConfig.{TriggerConfig}
 use Rattle.config.specs.declared.TriggerMode.{TriggerMode}
 use Rattle.config.specs.declared.TriggerMode.TheVariants.{SingleSequence, MultiSequence}
@@ -42,7 +40,7 @@ pub record TriggerByte (digit : String) : Type 0 where
 
 -- the settings with no trigger, and not in ETWM mode
 abbrev pub untriggered : DeviceConfig → DeviceConfig
-untriggered d = record d { operation_mode = INACTIVE; gpi_trigger_0 = Absent; gpi_trigger_1 = Absent; gpi_trigger_2 = Absent }
+untriggered d = record d { operation_mode = INACTIVE; gpi_trigger_0 = None; gpi_trigger_1 = None; gpi_trigger_2 = None }
 
 -- steps of ETWM mode alone
 abbrev pub in_etwm : OperationMode → List Step → List Step
@@ -50,9 +48,9 @@ in_etwm ETWM_MODE steps = steps
 in_etwm other steps = []
 
 -- a register's address gets the byte of a trigger that is given
-abbrev pub gets : ℕ → String → config.Trigger → List Step
-gets address digit Absent = []
-gets address digit (Given t) = Write address (gpi_byte digit t) ∷ []
+abbrev pub gets : ℕ → String → Option TriggerConfig → List Step
+gets address digit None = []
+gets address digit (Some t) = Write address (gpi_byte digit t) ∷ []
 
 -- whether what a step sends begins with the address of a GPI register
 abbrev pub to_gpi : Step → Bool

@@ -8,14 +8,12 @@
 ghost use Rattle.std.specs.Prelude.{◌≡◌, ◌&&◌};
 ghost use Rattle.exchange.specs.State.{pushed, pushed_all};
 ghost use Rattle.exchange.specs.declared.Step.TheVariants.{Write, Read, Update};
-ghost use Rattle.config.specs.declared.DrivingMode.TheVariants.{CUSTOM_WAVEFORM};
-ghost use Rattle.config.specs.declared.Pid.TheVariants.{Given};
 ghost use Rattle.config.specs.Codes.{trigger_mode_code};
 ghost use Rattle.field.specs.Field.{code_of};
 ghost use Rattle.checks.specs.Checks.{tracking};
-ghost use Rattle.plans.specs.Configure.{accelerates, top_cfg1, feature_steps, limit_steps, calibration_steps, pid_steps, frequency_steps, rapid_stop_steps, phase_steps, custom_steps, driving_steps, gpi_byte, gpi_steps, given_steps, trigger_steps, configure_steps};
+ghost use Rattle.plans.specs.Configure.{accelerates, top_cfg1, feature_steps, limit_steps, calibration_steps, pid_steps, frequency_steps, rapid_stop_steps, phase_steps, custom_steps, driving_steps, Digit, gpi_address, gpi_byte, gpi_steps, given_steps, trigger_steps, configure_steps};
 
-use config::{ActuatorConfig, DeviceConfig, DrivingMode, Pid, Trigger, TriggerConfig, TriggerMode};
+use config::{ActuatorConfig, DeviceConfig, DrivingMode, TriggerConfig, TriggerMode};
 use exchange::Step;
 use registers::Register;
 use registers_actuator::{ACTUATOR3, FRQ_LRA_PER_L, TOP_CFG1, TOP_CFG2, TOP_CFG4};
@@ -23,18 +21,17 @@ use registers_control::{SEQ_CTL1, TOP_INT_CFG8};
 use registers_trigger::{FRQ_PHASE_L, GPI_0_CTL, GPI_1_CTL, GPI_2_CTL, TOP_CFG5};
 
 // Everything that `configure` does, once its checks have passed.
+#[tactic(auto, using(exchange::proofs::Pushes::push_append))]
 pub fn configure(session: &mut [u8], a: ActuatorConfig, d: DeviceConfig)
     ensures { session.new ≡ pushed_all session.old (configure_steps a d) }
 {
-    let pid_Kp_Ki = a.pid_Kp_Ki;
-    let driving_mode = d.driving_mode;
     features(session, a, d);
     limits(session, a);
     calibration(session, a);
-    pid(session, pid_Kp_Ki);
+    pid(session, a.pid_Kp_Ki);
     frequency(session, a.frequency_Hz);
     rapid_stop(session);
-    driving(session, driving_mode);
+    driving(session, d.driving_mode);
     triggers(session, d);
 }
 
@@ -45,23 +42,17 @@ pub fn frequency(session: &mut [u8], hz: u16)
 {
     let word = convert::period(hz);
     let frq_lra_per_l = FRQ_LRA_PER_L::new().with_LRA_PER_L(convert::low_part(word));
-    writes(
-        session,
-        Register::FRQ_LRA_PER_H,
-        convert::high_part(word),
-        Register::FRQ_LRA_PER_L,
-        frq_lra_per_l.bits(),
-    );
+    write(session, Register::FRQ_LRA_PER_H, convert::high_part(word));
+    write(session, Register::FRQ_LRA_PER_L, frq_lra_per_l.bits());
 }
 
 #[tactic(auto, unfolding(crate::specs::Configure::feature_steps))]
 fn features(session: &mut [u8], a: ActuatorConfig, d: DeviceConfig)
     ensures { session.new ≡ pushed_all session.old (feature_steps a d) }
 {
-    let top_cfg1 = top_cfg1(a, d);
     let accelerates = accelerates(d);
     let top_cfg5 = TOP_CFG5::new().with_V2I_FACTOR_OFFSET_EN(accelerates);
-    write(session, Register::TOP_CFG1, top_cfg1);
+    write(session, Register::TOP_CFG1, top_cfg1(a, d));
     update(
         session,
         Register::TOP_CFG2,
@@ -75,41 +66,23 @@ fn features(session: &mut [u8], a: ActuatorConfig, d: DeviceConfig)
 fn top_cfg1(a: ActuatorConfig, d: DeviceConfig) -> u8
     ensures { result ≡ top_cfg1 a d }
 {
-    let actuator_type = a.actuator_type;
-    let driving_mode = d.driving_mode;
-    let tracks = checks::is_tracking(driving_mode);
-    let accelerates = accelerates(d);
-    let stops = stops_rapidly(d);
-    let top_cfg1 = TOP_CFG1::new()
-        .with_ACTUATOR_TYPE(actuator_type.code())
+    let tracks = checks::is_tracking(d.driving_mode);
+    TOP_CFG1::new()
+        .with_ACTUATOR_TYPE(a.actuator_type.into())
         .with_BEMF_SENSE_EN(tracks)
         .with_FREQ_TRACK_EN(tracks)
-        .with_ACCELERATION_EN(accelerates)
-        .with_RAPID_STOP_EN(stops)
+        .with_ACCELERATION_EN(accelerates(d))
+        .with_RAPID_STOP_EN(tracks && d.rapid_stop)
         .with_AMP_PID_EN(false)
-        .with_EMBEDDED_MODE(true);
-    top_cfg1.bits()
+        .with_EMBEDDED_MODE(true)
+        .bits()
 }
 
-// Acceleration and rapid stop are for tracking only.
+// Acceleration is for tracking only.
 fn accelerates(d: DeviceConfig) -> bool
     ensures { result ≡ accelerates d }
 {
-    let driving_mode = d.driving_mode;
-    if checks::is_tracking(driving_mode) {
-        return d.acceleration;
-    }
-    false
-}
-
-fn stops_rapidly(d: DeviceConfig) -> bool
-    ensures { result ≡ tracking d.driving_mode && d.rapid_stop }
-{
-    let driving_mode = d.driving_mode;
-    if checks::is_tracking(driving_mode) {
-        return d.rapid_stop;
-    }
-    false
+    checks::is_tracking(d.driving_mode) && d.acceleration
 }
 
 #[tactic(auto, unfolding(crate::specs::Configure::limit_steps))]
@@ -117,10 +90,13 @@ fn limits(session: &mut [u8], a: ActuatorConfig)
     ensures { session.new ≡ pushed_all session.old (limit_steps a) }
 {
     let actuator3 = ACTUATOR3::new().with_IMAX(convert::imax(a.max_current_mA));
-    writes(
+    write(
         session,
         Register::ACTUATOR1,
         convert::voltage(a.nominal_max_mV),
+    );
+    write(
+        session,
         Register::ACTUATOR2,
         convert::voltage(a.absolute_max_mV),
     );
@@ -133,44 +109,21 @@ fn calibration(session: &mut [u8], a: ActuatorConfig)
 {
     let v2i = convert::v2i(a.impedance_mOhm, convert::imax(a.max_current_mA));
     let trim4 = convert::trim4(a.impedance_mOhm, a.inductance_uH);
-    writes(
-        session,
-        Register::CALIB_V2I_H,
-        (v2i / 256) as u8,
-        Register::CALIB_V2I_L,
-        (v2i % 256) as u8,
-    );
+    write(session, Register::CALIB_V2I_H, (v2i / 256) as u8);
+    write(session, Register::CALIB_V2I_L, (v2i % 256) as u8);
     write(session, Register::TRIM4, trim4.bits());
 }
 
 #[tactic(auto, unfolding(crate::specs::Configure::pid_steps))]
-fn pid(session: &mut [u8], pid_Kp_Ki: Pid)
+fn pid(session: &mut [u8], pid_Kp_Ki: Option<(u16, u16)>)
     ensures { session.new ≡ pushed_all session.old (pid_steps pid_Kp_Ki) }
 {
-    match pid_Kp_Ki {
-        Pid::Absent => {}
-        Pid::Given(kp, ki) => pid_words(session, kp, ki),
+    if let Some((kp, ki)) = pid_Kp_Ki {
+        write(session, Register::TOP_INT_CFG6_H, convert::high_part(kp));
+        write(session, Register::TOP_INT_CFG6_L, convert::low_part(kp));
+        write(session, Register::TOP_INT_CFG7_H, convert::high_part(ki));
+        write(session, Register::TOP_INT_CFG7_L, convert::low_part(ki));
     }
-}
-
-#[tactic(auto, unfolding(crate::specs::Configure::pid_steps))]
-fn pid_words(session: &mut [u8], kp: u16, ki: u16)
-    ensures { session.new ≡ pushed_all session.old (pid_steps (Given kp ki)) }
-{
-    writes(
-        session,
-        Register::TOP_INT_CFG6_H,
-        convert::high_part(kp),
-        Register::TOP_INT_CFG6_L,
-        convert::low_part(kp),
-    );
-    writes(
-        session,
-        Register::TOP_INT_CFG7_H,
-        convert::high_part(ki),
-        Register::TOP_INT_CFG7_L,
-        convert::low_part(ki),
-    );
 }
 
 // RAPID_STOP_LIM is 7 where rapid stop is off.
@@ -187,22 +140,18 @@ fn rapid_stop(session: &mut [u8])
     );
 }
 
-#[tactic(auto, unfolding(crate::specs::Configure::driving_steps))]
+#[tactic(auto, using(exchange::proofs::Pushes::push_append), unfolding(crate::specs::Configure::driving_steps))]
 fn driving(session: &mut [u8], driving_mode: DrivingMode)
     ensures { session.new ≡ pushed_all session.old (driving_steps driving_mode) }
 {
     match driving_mode {
         DrivingMode::FREQUENCY_TRACK => {}
         DrivingMode::WIDEBAND => phase(session),
-        DrivingMode::CUSTOM_WAVEFORM => untracked(session),
+        DrivingMode::CUSTOM_WAVEFORM => {
+            phase(session);
+            custom_waveform(session);
+        }
     }
-}
-
-fn untracked(session: &mut [u8])
-    ensures { session.new ≡ pushed_all session.old (driving_steps CUSTOM_WAVEFORM) }
-{
-    phase(session);
-    custom_waveform(session);
 }
 
 #[tactic(auto, unfolding(crate::specs::Configure::custom_steps))]
@@ -211,13 +160,8 @@ fn custom_waveform(session: &mut [u8])
 {
     let seq_ctl1 = SEQ_CTL1::new().with_WAVEGEN_MODE(true);
     let top_cfg4 = TOP_CFG4::new().with_V2I_FACTOR_FREEZE(true);
-    writes(
-        session,
-        Register::SEQ_CTL1,
-        seq_ctl1.bits(),
-        Register::TOP_CFG4,
-        top_cfg4.bits(),
-    );
+    write(session, Register::SEQ_CTL1, seq_ctl1.bits());
+    write(session, Register::TOP_CFG4, top_cfg4.bits());
 }
 
 #[tactic(auto, unfolding(crate::specs::Configure::phase_steps))]
@@ -227,125 +171,106 @@ fn phase(session: &mut [u8])
     let frq_phase_l = FRQ_PHASE_L::new()
         .with_DELAY_SHIFT_L(0)
         .with_DELAY_FREEZE(true);
-    writes(
-        session,
-        Register::FRQ_PHASE_H,
-        0,
-        Register::FRQ_PHASE_L,
-        frq_phase_l.bits(),
-    );
+    write(session, Register::FRQ_PHASE_H, 0);
+    write(session, Register::FRQ_PHASE_L, frq_phase_l.bits());
 }
 
-#[tactic(auto, unfolding(crate::specs::Configure::trigger_steps))]
+#[tactic(auto, using(exchange::proofs::Pushes::push_append), unfolding(crate::specs::Configure::trigger_steps, crate::specs::Configure::given_steps))]
 fn triggers(session: &mut [u8], d: DeviceConfig)
     ensures { session.new ≡ pushed_all session.old (trigger_steps d) }
 {
-    let operation_mode = d.operation_mode;
-    let gpi_trigger_0 = d.gpi_trigger_0;
-    let gpi_trigger_1 = d.gpi_trigger_1;
-    let gpi_trigger_2 = d.gpi_trigger_2;
-    if checks::is_etwm(operation_mode) {
-        gpis(session, gpi_trigger_0, gpi_trigger_1, gpi_trigger_2);
+    if checks::is_etwm(d.operation_mode) {
+        gpi::<GPI_0_CTL>(session, d.gpi_trigger_0);
+        gpi::<GPI_1_CTL>(session, d.gpi_trigger_1);
+        gpi::<GPI_2_CTL>(session, d.gpi_trigger_2);
     }
-}
-
-fn gpis(session: &mut [u8], first: Trigger, second: Trigger, third: Trigger)
-    ensures { session.new ≡ pushed_all session.old (given_steps first second third) }
-{
-    trigger_0(session, first);
-    trigger_1(session, second);
-    trigger_2(session, third);
 }
 
 #[tactic(auto, unfolding(crate::specs::Configure::gpi_steps))]
-fn trigger_0(session: &mut [u8], trigger: Trigger)
-    ensures { session.new ≡ pushed_all session.old (gpi_steps "0" trigger) }
+fn gpi<G: GpiControl>(session: &mut [u8], trigger: Option<TriggerConfig>)
+    ensures { session.new ≡ pushed_all session.old (gpi_steps G.digit trigger) }
 {
-    match trigger {
-        Trigger::Absent => {}
-        Trigger::Given(t) => write(session, Register::GPI_0_CTL, gpi_0(t)),
+    if let Some(t) = trigger {
+        write(session, G::register(), G::byte(t));
     }
 }
 
-#[tactic(auto, unfolding(crate::specs::Configure::gpi_byte))]
-fn gpi_0(t: TriggerConfig) -> u8
-    ensures { result ≡ gpi_byte "0" t }
-{
-    let polarity = t.polarity;
-    let gpi = GPI_0_CTL::new()
-        .with_GPI0_POLARITY(polarity.code())
-        .with_GPI0_MODE(is_multi(t.mode))
-        .with_GPI0_SEQUENCE_ID(t.sequence_id);
-    gpi.bits()
+// The control register of a GPI, which has the digit in its name and in those of its fields.
+trait GpiControl {
+    ghost digit: { Digit };
+
+    fn register() -> Register
+        ensures { result.0 ≡ gpi_address digit };
+
+    // What it gets of a trigger.
+    fn byte(t: TriggerConfig) -> u8
+        ensures { result ≡ gpi_byte digit t };
 }
 
-#[tactic(auto, unfolding(crate::specs::Configure::gpi_steps))]
-fn trigger_1(session: &mut [u8], trigger: Trigger)
-    ensures { session.new ≡ pushed_all session.old (gpi_steps "1" trigger) }
-{
-    match trigger {
-        Trigger::Absent => {}
-        Trigger::Given(t) => write(session, Register::GPI_1_CTL, gpi_1(t)),
+impl GpiControl for GPI_0_CTL {
+    ghost digit = { "0" };
+
+    fn register() -> Register {
+        Register::GPI_0_CTL
+    }
+
+    #[tactic(auto, unfolding(crate::specs::Configure::gpi_byte))]
+    fn byte(t: TriggerConfig) -> u8 {
+        GPI_0_CTL::new()
+            .with_GPI0_POLARITY(t.polarity.into())
+            .with_GPI0_MODE(is_multi(t.mode))
+            .with_GPI0_SEQUENCE_ID(t.sequence_id)
+            .bits()
     }
 }
 
-#[tactic(auto, unfolding(crate::specs::Configure::gpi_byte))]
-fn gpi_1(t: TriggerConfig) -> u8
-    ensures { result ≡ gpi_byte "1" t }
-{
-    let polarity = t.polarity;
-    let gpi = GPI_1_CTL::new()
-        .with_GPI1_POLARITY(polarity.code())
-        .with_GPI1_MODE(is_multi(t.mode))
-        .with_GPI1_SEQUENCE_ID(t.sequence_id);
-    gpi.bits()
-}
+impl GpiControl for GPI_1_CTL {
+    ghost digit = { "1" };
 
-#[tactic(auto, unfolding(crate::specs::Configure::gpi_steps))]
-fn trigger_2(session: &mut [u8], trigger: Trigger)
-    ensures { session.new ≡ pushed_all session.old (gpi_steps "2" trigger) }
-{
-    match trigger {
-        Trigger::Absent => {}
-        Trigger::Given(t) => write(session, Register::GPI_2_CTL, gpi_2(t)),
+    fn register() -> Register {
+        Register::GPI_1_CTL
+    }
+
+    #[tactic(auto, unfolding(crate::specs::Configure::gpi_byte))]
+    fn byte(t: TriggerConfig) -> u8 {
+        GPI_1_CTL::new()
+            .with_GPI1_POLARITY(t.polarity.into())
+            .with_GPI1_MODE(is_multi(t.mode))
+            .with_GPI1_SEQUENCE_ID(t.sequence_id)
+            .bits()
     }
 }
 
-#[tactic(auto, unfolding(crate::specs::Configure::gpi_byte))]
-fn gpi_2(t: TriggerConfig) -> u8
-    ensures { result ≡ gpi_byte "2" t }
-{
-    let polarity = t.polarity;
-    let gpi = GPI_2_CTL::new()
-        .with_GPI2_POLARITY(polarity.code())
-        .with_GPI2_MODE(is_multi(t.mode))
-        .with_GPI2_SEQUENCE_ID(t.sequence_id);
-    gpi.bits()
+impl GpiControl for GPI_2_CTL {
+    ghost digit = { "2" };
+
+    fn register() -> Register {
+        Register::GPI_2_CTL
+    }
+
+    #[tactic(auto, unfolding(crate::specs::Configure::gpi_byte))]
+    fn byte(t: TriggerConfig) -> u8 {
+        GPI_2_CTL::new()
+            .with_GPI2_POLARITY(t.polarity.into())
+            .with_GPI2_MODE(is_multi(t.mode))
+            .with_GPI2_SEQUENCE_ID(t.sequence_id)
+            .bits()
+    }
 }
 
 // The mode bit of a trigger.
 fn is_multi(mode: TriggerMode) -> bool
     ensures { code_of result ≡ trigger_mode_code mode }
 {
-    match mode {
-        TriggerMode::SingleSequence => false,
-        TriggerMode::MultiSequence => true,
-    }
+    mode == TriggerMode::MultiSequence
 }
 
-// ---- steps on one register or two
+// ---- steps on one register
 
 fn write(session: &mut [u8], register: Register, value: u8)
     ensures { session.new ≡ pushed session.old (Write register.0 value) }
 {
     exchange::push(session, Step::Write(register.address(), value));
-}
-
-fn writes(session: &mut [u8], first: Register, value: u8, second: Register, next: u8)
-    ensures { session.new ≡ pushed (pushed session.old (Write first.0 value)) (Write second.0 next) }
-{
-    write(session, first, value);
-    write(session, second, next);
 }
 
 // Reads a register, and writes it back with a field replaced.

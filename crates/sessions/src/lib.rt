@@ -5,36 +5,55 @@
 ghost use Rattle.std.specs.Prelude.{◌≡◌, [], ◌∷◌, min};
 ghost use Rattle.exchange.specs.declared.Step.TheVariants.{Read, Update};
 ghost use Rattle.exchange.specs.State.{begun_in, pushed_all};
+ghost use Rattle.outcome.specs.Outcome.{purpose_code};
 ghost use Rattle.sessions.specs.Sessions as spec;
 
 use config::OperationMode;
 use da728x::DA728x;
-use exchange::Step;
+use exchange::{Opening, Step};
+use outcome::Purpose;
 use registers::Register;
 use registers_control::TOP_CTL1;
 use registers_trigger::{MEM_CTL2, SEQ_CTL2};
 
 // Begins a session on the chip's registers alone.
 #[tactic(auto, unfolding(crate::specs::Sessions::no_image, crate::specs::Sessions::blank_record))]
-pub fn begin(session: &mut [u8], address: u8, purpose: u8)
-    ensures { session.new ≡ begun_in session.old (spec.blank purpose address) [] }
+pub fn begin(session: &mut [u8], address: u8, purpose: Purpose)
+    ensures { session.new ≡ begun_in session.old (spec.blank (purpose_code purpose) address) [] }
 {
-    let none = [0u8; da728x::RECORD_SIZE];
-    let image = [0u8; 100];
-    exchange::begin(session, address, 0, 0, purpose, image, none);
+    exchange::begin(
+        session,
+        Opening {
+            address,
+            reads: 0,
+            room: 0,
+            purpose: purpose.into(),
+            image: &[0; 100],
+            record: &[0; exchange::RECORD_SIZE],
+        },
+    );
 }
 
 // Begins a session for a record.
 #[tactic(auto, unfolding(crate::specs::Sessions::no_image))]
-pub fn begin_with(session: &mut [u8], purpose: u8, next: DA728x)
-    ensures { session.new ≡ begun_in session.old (spec.carrying purpose next) [] }
+pub fn begin_with(session: &mut [u8], purpose: Purpose, next: DA728x)
+    ensures { session.new ≡ begun_in session.old (spec.carrying (purpose_code purpose) next) [] }
 {
-    let image = [0u8; 100];
-    exchange::begin(session, next.address, 0, 0, purpose, image, next.to_bytes());
+    exchange::begin(
+        session,
+        Opening {
+            address: next.address,
+            reads: 0,
+            room: 0,
+            purpose: purpose.into(),
+            image: &[0; 100],
+            record: &next.to_bytes(),
+        },
+    );
 }
 
-pub fn run(session: &mut [u8], address: u8, purpose: u8, step: Step)
-    ensures { session.new ≡ begun_in session.old (spec.blank purpose address) (step ∷ []) }
+pub fn run(session: &mut [u8], address: u8, purpose: Purpose, step: Step)
+    ensures { session.new ≡ begun_in session.old (spec.blank (purpose_code purpose) address) (step ∷ []) }
 {
     begin(session, address, purpose);
     exchange::push(session, step);
@@ -44,7 +63,7 @@ pub fn run(session: &mut [u8], address: u8, purpose: u8, step: Step)
 pub fn update(session: &mut [u8], address: u8, register: u8, shift: u8, width: u8, value: u8)
     ensures { session.new ≡ begun_in session.old (spec.blank 0 address) (Read register ∷ Update register shift width value ∷ []) }
 {
-    begin(session, address, 0);
+    begin(session, address, Purpose::Command);
     exchange::push(session, Step::Read(register));
     exchange::push(session, Step::Update(register, shift, width, value));
 }
@@ -56,7 +75,7 @@ pub fn enabled(mode: OperationMode) -> u8
     ensures { result ≡ spec.enabled mode }
 {
     let top_ctl1 = TOP_CTL1::new()
-        .with_OPERATION_MODE(mode.code())
+        .with_OPERATION_MODE(mode.into())
         .with_STANDBY_EN(false)
         .with_SEQ_START(false);
     top_ctl1.bits()
@@ -108,17 +127,8 @@ fn chunk(session: &mut [u8], n: u8, offset: u8)
     ensures { session.new ≡ pushed_all session.old (spec.chunk_step n offset) }
 {
     if offset < n {
-        exchange::push(session, Step::Chunk(offset, part(n - offset)));
+        exchange::push(session, Step::Chunk(offset, 32.min(n - offset)));
     }
-}
-
-fn part(left: u8) -> u8
-    ensures { result ≡ min 32 left }
-{
-    if 32 < left {
-        return 32;
-    }
-    left
 }
 
 #[tactic(auto, unfolding(crate::specs::Sessions::lock_steps))]
@@ -137,19 +147,12 @@ fn lock(session: &mut [u8], lock_after: bool)
 pub fn shown(len: usize) -> u8
     ensures { result ≡ min len 100 }
 {
-    if len < 100 {
-        return len as u8;
-    }
-    100
+    len.min(100) as u8
 }
 
 // How many bytes are read of a memory into a buffer.
 pub fn reads(len: usize, buffer_len: usize) -> u8
     ensures { result ≡ min (min len 100) buffer_len }
 {
-    let n = shown(len);
-    if (n as usize) < buffer_len {
-        return n;
-    }
-    buffer_len as u8
+    len.min(100).min(buffer_len) as u8
 }

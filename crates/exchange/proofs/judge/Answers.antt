@@ -1,23 +1,20 @@
 -- By where the session stands.
-use Rattle.std.proofs.Common.{sym, ◌∙◌}
+use Rattle.std.proofs.Common.{sym, ap, ◌∙◌}
 use Rattle.exchange.specs.State.{left}
-use Rattle.exchange.proofs.Left.{idle_none, at_some}
-use Rattle.exchange.proofs.Moves.{left_counts}
+use Rattle.exchange.proofs.Left.{left_other, idle_none, at_some}
 use Rattle.exchange.proofs.Answers.{unfit_none, fit_next}
 use Rattle.exchange.proofs.judge.Goals as goal
 
-pub is_resized-requires : goal.is_resized-requires
-is_resized-requires c =
-    let st = c.args.session.now in
-    (left_counts st _ _ (at_some (left st) _ (sym c.current.ensures ∙ c.in-At.is))).0
+pub returns-in_default : goal.returns-in_default
+returns-in_default c = sym (unfit_none _ c.args.reply c.args.n (left_other c.args.session.now c.in_default.ensures.cases))
 
-pub returns-in-Idle : goal.returns-in-Idle
-returns-in-Idle c =
-    let st = c.args.session.now in
-    sym (unfit_none st c.args.reply c.args.n (idle_none (left st) (sym c.current.ensures ∙ c.in-Idle.is)))
+pub returns-in-None : goal.returns-in-None
+returns-in-None c =
+    let same = c.in-Some.ensures.cases.same in
+    sym (unfit_none _ c.args.reply c.args.n (sym (ap left same) ∙ idle_none (left c.in-Some.session.now) (sym c.current.ensures ∙ c.in-None.is)))
 
-pub returns-in-At : goal.returns-in-At
-returns-in-At c =
-    let st = c.args.session.now in
-    let e = fit_next st c.args.reply c.args.n _ _ (at_some (left st) _ (sym c.current.ensures ∙ c.in-At.is)) in
+pub returns-in-Some-current : goal.returns-in-Some-current
+returns-in-Some-current c =
+    let same = c.in-Some.ensures.cases.same in
+    let e = fit_next _ c.args.reply c.args.n _ _ (sym (ap left same) ∙ at_some (left c.in-Some.session.now) _ (sym c.current.ensures ∙ c.in-Some-current.is)) in
     cc

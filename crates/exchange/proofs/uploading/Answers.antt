@@ -5,8 +5,8 @@ use Rattle.exchange.proofs.uploading.Goals as goal
 
 pub returns : goal.returns
 returns c =
-    let start : ℕ = c.least-start.result in
-    let n : ℕ = c.least-n.result in
+    let start : ℕ = c.min-start.result in
+    let n : ℕ = c.min-n.result in
     let k : start + n - start ≡ n = omega arith in
     uploaded c.args.address c.memory_address.result start n c.args.offset c.args.len c.args.image.now
-    (take (start + n - start) (drop start c.args.image.now)) _ c.requires c.memory_address.ensures c.least-start.ensures (cc) (cc) c.lay.ensures
+    (take (start + n - start) (drop start c.args.image.now)) _ c.requires c.memory_address.ensures c.min-start.ensures (cc) (cc) c.lay.ensures
