@@ -8,11 +8,15 @@ use show::Image;
 use std::io;
 
 fn main(rt: HostRuntime) -> io::Result<()> {
-    println!(rt; "1. Two patterns, by the builders: every call in order. A ramp or step has a length in timebases and an")?;
+    println!(rt;
+        "1. Two patterns, by the builders: every call in order. A ramp or step has a length in timebases and an"
+    )?;
     println!(rt; "   amplitude to reach; loop count 0 plays a frame once")?;
     let ahead = example_patterns::shallow_ahead(&rt)?;
     let turn = example_patterns::turn_now(&rt)?;
-    println!(rt; "\n2. Their images, a hundred bytes each, in hexadecimal; an end pointer is the index of an item's last byte")?;
+    println!(rt;
+        "\n2. Their images, a hundred bytes each, in hexadecimal; an end pointer is the index of an item's last byte"
+    )?;
     image(&rt, "shallow ahead", &ahead)?;
     image(&rt, "turn now", &turn)?;
     example_calls::ahead(&rt)?;

@@ -71,7 +71,11 @@ pub fn new_sequence(rt: &impl Print, b: WaveformMemoryBuilder) -> io::Result<Seq
     Ok(SequenceBuilder::new())
 }
 
-pub fn play(rt: &impl Print, q: SequenceBuilder, frame: FrameFields) -> io::Result<SequenceBuilder> {
+pub fn play(
+    rt: &impl Print,
+    q: SequenceBuilder,
+    frame: FrameFields,
+) -> io::Result<SequenceBuilder> {
     let snippet_id = frame.snippet_id;
     print!(rt; "    new({snippet_id})")?;
     match FrameBuilder::new(snippet_id) {
@@ -141,11 +145,7 @@ pub fn build(rt: &impl Print, b: WaveformMemoryBuilder) -> io::Result<WaveformMe
 // ---- what a call answers
 
 // What a call made, or what it was made on if it was refused.
-fn or_as_before<B: Copy>(
-    rt: &impl Print,
-    before: B,
-    answer: Result<B, Error>,
-) -> io::Result<B> {
+fn or_as_before<B: Copy>(rt: &impl Print, before: B, answer: Result<B, Error>) -> io::Result<B> {
     match answer {
         Ok(after) => Ok(after),
         Err(e) => refused(rt, before, e),

@@ -40,7 +40,9 @@ const MENDED: [u8; 4] = [2, 8, 0, 0];
 pub fn ahead(rt: &impl Print) -> io::Result<()> {
     let mut calls = AHEAD;
     let mut image = [0u8; 100];
-    println!(rt; "\nshallow ahead as a list of calls, by the form that stops at the first refusal")?;
+    println!(rt;
+        "\nshallow ahead as a list of calls, by the form that stops at the first refusal"
+    )?;
     tell(
         rt,
         assemble::assemble_strict(calls.as_flattened(), &mut image),

@@ -5,7 +5,6 @@
 mod chip;
 
 pub use chip::Chip;
-
 use da728x::DA728x;
 use errors::Error;
 use exchange::{Exchange, Reply, SESSION_SIZE, Turn};

@@ -8,7 +8,9 @@ use memory::WaveformMemory;
 use std::io;
 
 pub fn drive(rt: &impl Print, memory: &WaveformMemory) -> io::Result<()> {
-    println!(rt; "\n4. The driver on a simulated DA7280 at address 4A: count, exchange, register, bytes")?;
+    println!(rt;
+        "\n4. The driver on a simulated DA7280 at address 4A: count, exchange, register, bytes"
+    )?;
     println!(rt; "\nnew")?;
     let mut bench = Bench::new(unknown());
     let begun = driver::new(0x4A, Variant::DA7280, &mut bench.session);
@@ -35,11 +37,15 @@ fn operate(rt: &impl Print, bench: &mut Bench, memory: &WaveformMemory) -> io::R
     configure(rt, bench, OperationMode::RTWM_MODE, DrivingMode::WIDEBAND)?;
 
     println!(rt; "\nupload_waveform_memory: turn now, locked afterwards")?;
-    let begun =
-        driver::upload_waveform_memory(&mut bench.record, memory, true, &mut bench.session);
+    let begun = driver::upload_waveform_memory(&mut bench.record, memory, true, &mut bench.session);
     bench.run(rt, begun)?;
     let holds = bench.chip.holds(memory.as_bytes());
-    say(rt, "the chip's memory", holds, "holds the image of turn now")?;
+    say(
+        rt,
+        "the chip's memory",
+        holds,
+        "holds the image of turn now",
+    )?;
 
     println!(rt; "\nenable")?;
     enable(rt, bench)?;
@@ -76,7 +82,12 @@ fn fail(rt: &impl Print, bench: &mut Bench) -> io::Result<()> {
     println!(rt; "\nconfigure: the same LRA; DRO_MODE, FREQUENCY_TRACK")?;
     let before = bench.record;
     bench.fails_at = Some(4);
-    configure(rt, bench, OperationMode::DRO_MODE, DrivingMode::FREQUENCY_TRACK)?;
+    configure(
+        rt,
+        bench,
+        OperationMode::DRO_MODE,
+        DrivingMode::FREQUENCY_TRACK,
+    )?;
     bench.fails_at = None;
     let kept = bench.record == before;
     say(rt, "the record", kept, "is the one from before")?;

@@ -21,8 +21,10 @@ impl fmt::Display for PointText {
 // A loop count of 255 and a frequency of 65535 in a frame's number of 48 bits say that there is none.
 impl fmt::Display for FrameText {
     fn fmt<W: fmt::Write>(&self, f: &mut fmt::Formatter<W>) -> fmt::Result {
-        let [_, _, upper, lower, loop_count, timebase, gain, snippet_id] =
-            self.0.word().to_be_bytes();
+        let [_, _, upper, lower, loop_count, timebase, gain, snippet_id] = self
+            .0
+            .word()
+            .to_be_bytes();
         match snippet_id {
             0 => write!(f, "silence")?,
             id => write!(f, "snippet {id}")?,

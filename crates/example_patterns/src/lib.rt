@@ -2,7 +2,8 @@
 #![tactic(auto)]
 
 use example_builders::{
-    FrameFields, add_sequence, add_snippet, build, new_sequence, new_snippet, pause, play, ramp, step,
+    FrameFields, add_sequence, add_snippet, build, new_sequence, new_snippet, pause, play, ramp,
+    step,
 };
 use frame::{Gain, Timebase};
 use memory::{WaveformMemory, WaveformMemoryBuilder};
@@ -44,7 +45,9 @@ fn swell(rt: &impl Print, s: SnippetBuilder) -> io::Result<SnippetBuilder> {
 
 /// Sequence 0 turns to port, sequence 1 to starboard.
 pub fn turn_now(rt: &impl Print) -> io::Result<WaveformMemory> {
-    println!(rt; "\nturn now: three sharp knocks, a pause and a thud to port; the other way round to starboard")?;
+    println!(rt;
+        "\nturn now: three sharp knocks, a pause and a thud to port; the other way round to starboard"
+    )?;
     let b = WaveformMemoryBuilder::new(false);
     let b = add_snippet(rt, b, knock(rt, new_snippet(rt, b)?)?)?;
     let b = add_snippet(rt, b, thud(rt, new_snippet(rt, b)?)?)?;

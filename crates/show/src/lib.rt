@@ -7,10 +7,9 @@ mod bytes;
 mod register;
 
 pub use bytes::{Bytes, Column, Image};
-pub use register::RegisterName;
-
 use errors::Error;
 use frame::{Gain, Timebase};
+pub use register::RegisterName;
 use std::fmt;
 
 /// An error by its number and its name.

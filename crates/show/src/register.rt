@@ -57,7 +57,10 @@ pub struct RegisterName(pub u8);
 impl fmt::Display for RegisterName {
     fn fmt<W: fmt::Write>(&self, f: &mut fmt::Formatter<W>) -> fmt::Result {
         let address = self.0;
-        match NAMES.iter().find(|(register, _)| register.address() == address) {
+        match NAMES
+            .iter()
+            .find(|(register, _)| register.address() == address)
+        {
             Some((_, name)) => write!(f, "{name:<14}"),
             None if SNP_MEM_0 <= address => write!(f, "SNP_MEM_{:<6}", address - SNP_MEM_0),
             None => write!(f, "{:<14}", "no register"),

@@ -1,7 +1,7 @@
 // How many cases there were, and how many of them agree.
 use std::fmt;
 
-#[derive(Clone, Copy, Debug, Default, PartialEq, Eq)]
+#[derive(Clone, Copy, Default)]
 pub struct Tally {
     agree: u64,
     cases: u64,

@@ -7,23 +7,42 @@
 mod kind;
 mod walk;
 
-pub use kind::{Kind, UnknownKind};
-
+use kind::Kind;
 use vectors_bytes::{MARKER, number};
 
-/// What a case gives and tells: the arguments, the list of calls or the image, the word answered, and what is left in the slice lent.
-/// A case of an image read has the image in the place of the arguments, and then its counts, its points and its frames.
+// What a case gives and tells: the arguments, the list of calls or the image, the word answered, and what is left in the slice lent.
+// A case of an image read has the image in the place of the arguments, and then its counts, its points and its frames.
 #[derive(Clone, Copy)]
-pub struct Case<'a> {
-    pub arguments: &'a [u8],
-    pub input: &'a [u8],
-    pub word: &'a [u8],
-    pub out: &'a [u8],
+struct Case<'a> {
+    arguments: &'a [u8],
+    input: &'a [u8],
+    word: &'a [u8],
+    out: &'a [u8],
+}
+
+/// Whether these fields are a case that drives no chip, and it agrees.
+pub fn agrees(fields: &[Vec<u8>]) -> bool {
+    let [kind, arguments, input, word, out] = fields else {
+        return false;
+    };
+    let [kind] = *kind.as_slice() else {
+        return false;
+    };
+    let case = Case {
+        arguments,
+        input,
+        word,
+        out,
+    };
+    match Kind::try_from(kind) {
+        Ok(kind) => case.agrees(kind),
+        Err(_) => false,
+    }
 }
 
 impl Case<'_> {
-    /// Whether the function of this kind, and the same by value if there is one, does what the case tells.
-    pub fn agrees(&self, kind: Kind) -> bool {
+    // Whether the function of this kind, and the same by value if there is one, does what the case tells.
+    fn agrees(&self, kind: Kind) -> bool {
         let calls = self.input;
         let a = self.argument(0);
         let b = self.argument(1);
@@ -87,7 +106,10 @@ impl Case<'_> {
     fn read_exported(&self) -> bool {
         let image = self.arguments;
         capi::da728x_read_counts(image) as u64 == number(self.input)
-            && walk::points(self.word, |i, j| capi::da728x_read_point(image, i, j) as u64)
+            && walk::points(
+                self.word,
+                |i, j| capi::da728x_read_point(image, i, j) as u64,
+            )
             && walk::frames(self.out, |i, j| capi::da728x_read_frame(image, i, j))
     }
 

@@ -6,33 +6,69 @@
 mod kind;
 mod told;
 
-pub use kind::{Kind, UnknownKind};
-
 use exchange::Reply;
+use kind::Kind;
 use vectors_bytes::{MARKER, number};
 
 // More exchanges than a session makes.
 const MOST: u64 = 128;
 
-/// What a case gives and tells: the record, the numbers among the arguments, the settings or the image, the number of the refusal, the
-/// exchanges, the word that the last answer is told, the read buffer, the record afterwards, and the word of the result.
+// What a case gives and tells: the record, the numbers among the arguments, the settings or the image, the number of the refusal, the
+// exchanges, the word that the last answer is told, the read buffer, the record afterwards, and the word of the result.
 #[derive(Clone, Copy)]
-pub struct Case<'a> {
-    pub record: &'a [u8],
-    pub arguments: &'a [u8],
-    pub input: &'a [u8],
-    pub refusal: &'a [u8],
-    pub exchanges: &'a [u8],
-    pub told: &'a [u8],
-    pub buffer: &'a [u8],
-    pub after: &'a [u8],
-    pub result: &'a [u8],
+struct Case<'a> {
+    record: &'a [u8],
+    arguments: &'a [u8],
+    input: &'a [u8],
+    refusal: &'a [u8],
+    exchanges: &'a [u8],
+    told: &'a [u8],
+    buffer: &'a [u8],
+    after: &'a [u8],
+    result: &'a [u8],
+}
+
+/// Whether these fields are a case that drives the chip, and it agrees.
+pub fn agrees(fields: &[Vec<u8>]) -> bool {
+    let [
+        kind,
+        record,
+        arguments,
+        input,
+        refusal,
+        exchanges,
+        told,
+        buffer,
+        after,
+        result,
+    ] = fields
+    else {
+        return false;
+    };
+    let [kind] = *kind.as_slice() else {
+        return false;
+    };
+    let case = Case {
+        record,
+        arguments,
+        input,
+        refusal,
+        exchanges,
+        told,
+        buffer,
+        after,
+        result,
+    };
+    match Kind::try_from(kind) {
+        Ok(kind) => case.agrees(kind),
+        Err(_) => false,
+    }
 }
 
 impl Case<'_> {
-    /// Whether the session of this kind does what the case tells. The record is lent with the start and with each answer; bytes of the
-    /// marker, where the case has none.
-    pub fn agrees(&self, kind: Kind) -> bool {
+    // Whether the session of this kind does what the case tells. The record is lent with the start and with each answer; bytes of the
+    // marker, where the case has none.
+    fn agrees(&self, kind: Kind) -> bool {
         let mut record = [MARKER; exchange::RECORD_SIZE];
         laws::copy_into(&mut record, self.record);
         let before = record;
