@@ -16,11 +16,6 @@ use Rattle.da728x.proofs.Kept.{record_length}
 use Rattle.outcome.specs.declared.Change.TheVariants.{To}
 use Rattle.capi_driver.specs.Words.{record_out}
 
-pub written : (l now : List ℕ) (r : DA728x) {bytes : List ℕ} → length l ≡ 38 → now ≡ copied l bytes → bytes ≡ record_bytes r → now ≡ record_out l (To r)
-written l now r {bytes} e h k =
-    let f : length bytes ≡ length l = ap length k ∙ record_length r ∙ sym e in
-    h ∙ copied_all l bytes f ∙ k ∙ ap (λ (b : Bool). cond b (record_bytes r) l) (sym (eq-eqb (length l) 38 e))
-
 -- an image shorter than the memory, over zeros
 pub loaded_image : (image : List ℕ) → length image ≤ 100 → copied (replicate 100 0) image ≡ image ++ replicate (100 - length image) 0
 loaded_image image h =

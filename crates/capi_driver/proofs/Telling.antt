@@ -14,7 +14,8 @@ use Rattle.laws.specs.Bytes.{Bytes}
 use Rattle.laws.specs.Lists.{at}
 use Rattle.errors.specs.Told.{accepted, refused}
 use Rattle.config.specs.declared.Variant.TheVariants.{DA7280}
-use Rattle.da728x.specs.declared.Settings.TheVariants.{Absent}
+use Rattle.std.specs.Prelude.{Option, Some, None, is_some}
+use Rattle.std.specs.Option.{unwrap_or}
 use Rattle.field.specs.Field.{code_of}
 use Rattle.exchange.specs.declared.Exchange.{Exchange}
 use Rattle.exchange.specs.declared.Step.{Step}
@@ -83,11 +84,11 @@ counted st h = go (is_begun st)
     go true = byte_of st 2 h
     go false = omega arith
 
-bounded : (st : List ℕ) → Bytes st → ((outcome_of st).value < 16777216) × ((outcome_of st).made < 256)
+bounded : (st : List ℕ) → Bytes st → (unwrap_or (outcome_of st).value 0 < 16777216) × ((outcome_of st).made < 256)
 unfolding outcome_of
 bounded st h = (value (completed st), counted st h)
   where
-    value : (k : Bool) → cond k (value_in st) 0 < 16777216
+    value : (k : Bool) → unwrap_or (cond k (Some (value_in st)) None) 0 < 16777216
     value false = omega arith
     value true = pick (purpose_in st) _ _ _ (omega (arith, byte_of st 3 h)) (omega (arith, byte_of st 3 h, byte_of st 4 h, byte_of st 5 h)) (omega arith)
 
@@ -167,7 +168,7 @@ records l (Sequences n) h = subst (λ (m : List ℕ). record_at (record_out m (S
 counted_out : (l : List ℕ) (n : ℕ) → length l ≡ 38 → record_out l (Sequences n) ≡ take 37 l ++ (n ∷ [])
 counted_out l n h = subst (λ (m : List ℕ). record_out m (Sequences n) ≡ take 37 m ++ (n ∷ [])) (sym (each_byte 38 l h)) refl
 
-none : (l : List ℕ) → ¬ (length l ≡ 38) → record_at l ≡ record { address = 0; variant = DA7280; settings = Absent; sequences = 0 }
+none : (l : List ℕ) → ¬ (length l ≡ 38) → record_at l ≡ record { address = 0; variant = DA7280; settings = None; sequences = 0 }
 unfolding record_at
 none l h = rw (ne_eqb _ _ h)
 
@@ -212,7 +213,7 @@ telling = record {
   spared = spared;
   counted = counted_out;
   none = none;
-  results = λ st h. let k = bounded st h in wide (outcome_of st).value (outcome_of st).made (code_of (outcome_of st).completed) k.0 k.1;
+  results = λ st h. let k = bounded st h in wide (unwrap_or (outcome_of st).value 0) (outcome_of st).made (code_of (is_some (outcome_of st).value)) k.0 k.1;
   replies = replies;
   full = upload_refused;
   uploads = uploads;

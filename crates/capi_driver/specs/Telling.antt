@@ -4,7 +4,8 @@ use Rattle.std.specs.Prelude.{ℕ, ◌-◌, ◌^◌, ◌/◌, ◌%◌, ◌≤◌
 use Rattle.laws.specs.Bytes.{Bytes}
 use Rattle.laws.specs.Lists.{at}
 use Rattle.config.specs.declared.Variant.TheVariants.{DA7280}
-use Rattle.da728x.specs.declared.Settings.TheVariants.{Absent}
+use Rattle.std.specs.Prelude.{None, is_some}
+use Rattle.std.specs.Option.{unwrap_or}
 use Rattle.field.specs.Field.{code_of}
 use Rattle.memory.specs.Memory.{memory}
 use Rattle.exchange.specs.declared.Reply.TheVariants.{Done, Byte, Failed}
@@ -34,10 +35,10 @@ pub record Telling : Type 0 where
   pub spared : (l : List ℕ) (c : Change) → (¬ (length l ≡ 38)) ⊎ (c ≡ Same) → record_out l c ≡ l
   pub counted : (l : List ℕ) (n : ℕ) → length l ≡ 38 → record_out l (Sequences n) ≡ take 37 l ++ (n ∷ [])
   -- bytes of another length are no record: no sequences, whatever they are
-  pub none : (l : List ℕ) → ¬ (length l ≡ 38) → record_at l ≡ record { address = 0; variant = DA7280; settings = Absent; sequences = 0 }
+  pub none : (l : List ℕ) → ¬ (length l ≡ 38) → record_at l ≡ record { address = 0; variant = DA7280; settings = None; sequences = 0 }
   -- da728x_result
   pub results : (st : List ℕ) → Bytes st → let o = outcome_of st in let word = result_word o in
-      (word % 2 ^ 24 ≡ o.value) × (word / 2 ^ 24 % 256 ≡ o.made) × (word / 2 ^ 32 ≡ code_of o.completed)
+      (word % 2 ^ 24 ≡ unwrap_or o.value 0) × (word / 2 ^ 24 % 256 ≡ o.made) × (word / 2 ^ 32 ≡ code_of (is_some o.value))
   -- da728x_upload_waveform_memory: 8 for more than a hundred bytes; else the driver's upload of a memory that shows just these, with as many sequences as
   -- byte 1 says, 0 where there is none
   pub full : (r : DA728x) (image : List ℕ) (lock_after : Bool) → 100 < length image → upload_of r image lock_after ≡ declines 8

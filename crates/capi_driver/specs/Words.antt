@@ -1,9 +1,12 @@
 -- What the functions exported for C answer as one number, and how they take what the bus answered and the bytes to upload: document 01,
 -- "functions exported for C on numbers and byte slices"; "The count of exchanges made stands in every session result"; "8 also for `from_bytes`";
 -- document 02, CR 10.
-use Rattle.std.specs.Prelude.{ℕ, ◌+◌, ◌-◌, ◌*◌, Bool, cond, ◌&&◌, List, [], ◌∷◌, ◌++◌, eqb, length, set, get_or, replicate}
+use Rattle.std.specs.Prelude.{ℕ, ◌+◌, ◌-◌, ◌*◌, Bool, cond, ◌&&◌, List, [], ◌∷◌, ◌++◌, eqb, length, set, get_or, replicate, is_some}
+use Rattle.std.specs.Option.{unwrap_or}
 use Rattle.laws.specs.Lists.{at}
 use Rattle.field.specs.Field.{code_of}
+use Rattle.errors.specs.Told.{Handed}
+use Rattle.memory.specs.declared.WaveformMemory.{WaveformMemory}
 use Rattle.memory.specs.Memory.{loaded}
 use Rattle.da728x.specs.declared.DA728x.{DA728x}
 use Rattle.da728x.specs.Record.{record_bytes}
@@ -42,11 +45,13 @@ count_out l st ended number =
 
 -- what the operation answers, the count, and whether every exchange was made
 unfoldable pub result_word : Outcome → ℕ
-result_word o = o.value + 16777216 * o.made + 4294967296 * code_of o.completed
+result_word o = unwrap_or o.value 0 + 16777216 * o.made + 4294967296 * code_of (is_some o.value)
 
--- an upload of bytes: refused as `from_bytes` refuses them, with 8 for more than a hundred; the numbers of snippets and of sequences are the image's
--- first two bytes, 0 where it has none
+-- the memory of an image's bytes: refused as `from_bytes` refuses them, with 8 for more than a hundred; the numbers of snippets and of sequences are the
+-- image's first two bytes, 0 where it has none
+abbrev pub image_of : List ℕ → Handed WaveformMemory
+image_of image = loaded (image ++ replicate (100 - length image) 0) (length image) (at image 0) (at image 1)
+
+-- an upload of bytes
 unfoldable pub upload_of : DA728x → List ℕ → Bool → Start
-upload_of r image lock_after =
-    let m = loaded (image ++ replicate (100 - length image) 0) (length image) (at image 0) (at image 1) in
-    unless m.number (upload_waveform_memory r m.builder lock_after).start
+upload_of r image lock_after = let m = image_of image in unless m.number (upload_waveform_memory r m.builder lock_after).start

@@ -10,22 +10,20 @@
 
 ghost use Rattle.std.specs.Prelude.{◌≡◌, ltb, length, take};
 ghost use Rattle.laws.specs.Copied.{copied};
-ghost use Rattle.field.specs.Field.{code_of};
 ghost use Rattle.config.specs.Codes.{variant_at};
 ghost use Rattle.memory.specs.Timebase.{memory_timebase_at};
 ghost use Rattle.da728x.specs.Record.{record_at, actuator_config_at, device_config_at};
 ghost use Rattle.exchange.specs.Turn.{pending_of, report_of, turn_report, state_after, buffer_after};
-ghost use Rattle.outcome.specs.declared.Change.TheVariants.{To, Sequences};
-ghost use Rattle.outcome.specs.Outcome.{zeroing, change_by, outcome_of};
+ghost use Rattle.outcome.specs.Outcome.{change_by, outcome_of};
 ghost use Rattle.driver.specs.Operations as spec;
-ghost use Rattle.errors.specs.Number.{answer_number};
-ghost use Rattle.capi_driver.specs.Words.{count_out, exchange_word, reply_of, report_word, record_out, result_word, upload_of};
+ghost use Rattle.errors.specs.Number.{answer_number, handed_by};
+ghost use Rattle.memory.specs.Memory.{no_memory};
+ghost use Rattle.capi_driver.specs.Words.{count_out, exchange_word, reply_of, report_word, record_out, result_word, image_of, upload_of};
 
-use config::Variant;
 use da728x::DA728x;
-use errors::{Answer, Error};
+use errors::Error;
 use exchange::{Exchange, Reply, Turn};
-use memory::{WaveformMemory, WaveformMemoryTimebase};
+use memory::{MAX_MEMORY_SIZE, WaveformMemory};
 use outcome::{Change, Outcome};
 
 // What the bus answered, as a number: done, or a byte; any other is a failure.
@@ -33,14 +31,12 @@ const DONE: u8 = 0;
 
 const BYTE: u8 = 1;
 
-const OUT_OF_TURN: u8 = 19;
-
 #[unsafe(no_mangle)]
 pub extern "C" fn da728x_new(address: u8, variant: u8, session: &mut [u8]) -> u8
     ensures value { result ≡ spec.start_number (spec.new address (variant_at variant)).start }
     ensures session_after { session.new ≡ spec.started_in session.old (spec.new address (variant_at variant)).start }
 {
-    driver::new(address, Variant::from_code(variant), session).number()
+    errors::number(driver::new(address, variant.into(), session))
 }
 
 #[unsafe(no_mangle)]
@@ -55,7 +51,7 @@ pub extern "C" fn da728x_configure(record: &[u8], settings: &[u8], session: &mut
     // in this order less is copied
     let d = da728x::device_config(settings);
     let a = da728x::actuator_config(settings);
-    driver::configure(da728x::chip(record), a, d, session).number()
+    errors::number(driver::configure(&da728x::chip(record), a, d, session))
 }
 
 #[unsafe(no_mangle)]
@@ -63,7 +59,7 @@ pub extern "C" fn da728x_get_chip_rev(record: &[u8], session: &mut [u8]) -> u8
     ensures value { result ≡ spec.start_number (spec.get_chip_rev (record_at «record».now)).start }
     ensures session_after { session.new ≡ spec.started_in session.old (spec.get_chip_rev (record_at «record».now)).start }
 {
-    driver::get_chip_rev(DA728x::from_bytes(record), session).number()
+    errors::number(driver::get_chip_rev(&DA728x::from_bytes(record), session))
 }
 
 #[unsafe(no_mangle)]
@@ -71,7 +67,7 @@ pub extern "C" fn da728x_get_events(record: &[u8], session: &mut [u8]) -> u8
     ensures value { result ≡ spec.start_number (spec.get_events (record_at «record».now)).start }
     ensures session_after { session.new ≡ spec.started_in session.old (spec.get_events (record_at «record».now)).start }
 {
-    driver::get_events(DA728x::from_bytes(record), session).number()
+    errors::number(driver::get_events(&DA728x::from_bytes(record), session))
 }
 
 #[unsafe(no_mangle)]
@@ -79,7 +75,7 @@ pub extern "C" fn da728x_get_status(record: &[u8], session: &mut [u8]) -> u8
     ensures value { result ≡ spec.start_number (spec.get_status (record_at «record».now)).start }
     ensures session_after { session.new ≡ spec.started_in session.old (spec.get_status (record_at «record».now)).start }
 {
-    driver::get_status(DA728x::from_bytes(record), session).number()
+    errors::number(driver::get_status(&DA728x::from_bytes(record), session))
 }
 
 #[unsafe(no_mangle)]
@@ -87,7 +83,7 @@ pub extern "C" fn da728x_set_frequency(record: &[u8], frequency_hz: u16, session
     ensures value { result ≡ spec.start_number (spec.set_frequency (record_at «record».now) frequency_hz).start }
     ensures session_after { session.new ≡ spec.started_in session.old (spec.set_frequency (record_at «record».now) frequency_hz).start }
 {
-    driver::set_frequency(DA728x::from_bytes(record), frequency_hz, session).number()
+    errors::number(driver::set_frequency(&DA728x::from_bytes(record), frequency_hz, session))
 }
 
 #[unsafe(no_mangle)]
@@ -95,7 +91,7 @@ pub extern "C" fn da728x_set_override_value(record: &[u8], value: i8, session: &
     ensures value { result ≡ spec.start_number (spec.set_override_value (record_at «record».now) value).start }
     ensures session_after { session.new ≡ spec.started_in session.old (spec.set_override_value (record_at «record».now) value).start }
 {
-    driver::set_override_value(DA728x::from_bytes(record), value, session).number()
+    errors::number(driver::set_override_value(&DA728x::from_bytes(record), value, session))
 }
 
 #[unsafe(no_mangle)]
@@ -103,12 +99,7 @@ pub extern "C" fn da728x_set_timebase(record: &[u8], timebase: u8, session: &mut
     ensures value { result ≡ spec.start_number (spec.set_timebase (record_at «record».now) (memory_timebase_at timebase)).start }
     ensures session_after { session.new ≡ spec.started_in session.old (spec.set_timebase (record_at «record».now) (memory_timebase_at timebase)).start }
 {
-    driver::set_timebase(
-        DA728x::from_bytes(record),
-        WaveformMemoryTimebase::from_code(timebase),
-        session,
-    )
-    .number()
+    errors::number(driver::set_timebase(&DA728x::from_bytes(record), timebase.into(), session))
 }
 
 #[unsafe(no_mangle)]
@@ -116,7 +107,7 @@ pub extern "C" fn da728x_enable(record: &[u8], session: &mut [u8]) -> u8
     ensures value { result ≡ spec.start_number (spec.enable (record_at «record».now)).start }
     ensures session_after { session.new ≡ spec.started_in session.old (spec.enable (record_at «record».now)).start }
 {
-    driver::enable(DA728x::from_bytes(record), session).number()
+    errors::number(driver::enable(&DA728x::from_bytes(record), session))
 }
 
 #[unsafe(no_mangle)]
@@ -124,7 +115,7 @@ pub extern "C" fn da728x_disable(record: &[u8], session: &mut [u8]) -> u8
     ensures value { result ≡ spec.start_number (spec.disable (record_at «record».now)).start }
     ensures session_after { session.new ≡ spec.started_in session.old (spec.disable (record_at «record».now)).start }
 {
-    driver::disable(DA728x::from_bytes(record), session).number()
+    errors::number(driver::disable(&DA728x::from_bytes(record), session))
 }
 
 #[unsafe(no_mangle)]
@@ -139,7 +130,7 @@ pub extern "C" fn da728x_set_custom_drive_waveform(
     ensures session_after { session.new ≡ spec.started_in session.old (spec.set_custom_drive_waveform (record_at «record».now) a b c).start }
 {
     let points = [a, b, c];
-    driver::set_custom_drive_waveform(DA728x::from_bytes(record), points, session).number()
+    errors::number(driver::set_custom_drive_waveform(&DA728x::from_bytes(record), points, session))
 }
 
 #[unsafe(no_mangle)]
@@ -147,7 +138,7 @@ pub extern "C" fn da728x_unlock_waveform_memory(record: &[u8], session: &mut [u8
     ensures value { result ≡ spec.start_number (spec.unlock_waveform_memory (record_at «record».now)).start }
     ensures session_after { session.new ≡ spec.started_in session.old (spec.unlock_waveform_memory (record_at «record».now)).start }
 {
-    driver::unlock_waveform_memory(DA728x::from_bytes(record), session).number()
+    errors::number(driver::unlock_waveform_memory(&DA728x::from_bytes(record), session))
 }
 
 #[unsafe(no_mangle)]
@@ -155,7 +146,7 @@ pub extern "C" fn da728x_lock_waveform_memory(record: &[u8], session: &mut [u8])
     ensures value { result ≡ spec.start_number (spec.lock_waveform_memory (record_at «record».now)).start }
     ensures session_after { session.new ≡ spec.started_in session.old (spec.lock_waveform_memory (record_at «record».now)).start }
 {
-    driver::lock_waveform_memory(DA728x::from_bytes(record), session).number()
+    errors::number(driver::lock_waveform_memory(&DA728x::from_bytes(record), session))
 }
 
 #[unsafe(no_mangle)]
@@ -172,18 +163,31 @@ pub extern "C" fn da728x_upload_waveform_memory(
     ensures session_after { session.new
         ≡ spec.started_in session.old (upload_of (record_at «record».old) image.now (ltb 0 lock_after)) }
 {
-    if 100 < image.len() {
-        return Answer::Refused(Error::WaveformMemoryFull).number();
+    match loaded(image) {
+        Ok(memory) => {
+            let mut driver = DA728x::from_bytes(record);
+            put(outcome::zeroing(session), record);
+            errors::number(driver::upload_waveform_memory(
+                &mut driver,
+                &memory,
+                0 < lock_after,
+                session,
+            ))
+        }
+        Err(e) => e.number(),
     }
-    let mut data = [0u8; 100];
+}
+
+// The memory of an image's bytes, or the refusal of more than a hundred.
+fn loaded(image: &[u8]) -> Result<WaveformMemory, Error>
+    ensures { handed_by no_memory result ≡ image_of image.now }
+{
+    if MAX_MEMORY_SIZE < image.len() {
+        return Err(Error::WaveformMemoryFull);
+    }
+    let mut data = [0u8; MAX_MEMORY_SIZE];
     laws::copy_into(&mut data, image);
-    let loaded = WaveformMemory::from_bytes(data, image.len() as u8, data[0], data[1]);
-    let memory = loaded.memory;
-    let driver = DA728x::from_bytes(record);
-    zero(record, session);
-    let started = driver::upload_waveform_memory(driver, memory, 0 < lock_after, session);
-    let answer = started.answer;
-    answer.number()
+    WaveformMemory::from_bytes(data, image.len() as u8, data[0], data[1])
 }
 
 #[unsafe(no_mangle)]
@@ -196,7 +200,12 @@ pub extern "C" fn da728x_read_waveform_memory(
     ensures value { result ≡ spec.start_number (spec.read_waveform_memory (record_at «record».now) len buffer_len).start }
     ensures session_after { session.new ≡ spec.started_in session.old (spec.read_waveform_memory (record_at «record».now) len buffer_len).start }
 {
-    driver::read_waveform_memory(DA728x::from_bytes(record), len, buffer_len, session).number()
+    errors::number(driver::read_waveform_memory(
+        &DA728x::from_bytes(record),
+        len,
+        buffer_len,
+        session,
+    ))
 }
 
 #[unsafe(no_mangle)]
@@ -209,7 +218,12 @@ pub extern "C" fn da728x_select_sequence(
     ensures value { result ≡ spec.start_number (spec.select_sequence (record_at «record».now) sequence_id loops).start }
     ensures session_after { session.new ≡ spec.started_in session.old (spec.select_sequence (record_at «record».now) sequence_id loops).start }
 {
-    driver::select_sequence(DA728x::from_bytes(record), sequence_id, loops, session).number()
+    errors::number(driver::select_sequence(
+        &DA728x::from_bytes(record),
+        sequence_id,
+        loops,
+        session,
+    ))
 }
 
 #[unsafe(no_mangle)]
@@ -217,7 +231,7 @@ pub extern "C" fn da728x_start_sequence(record: &[u8], session: &mut [u8]) -> u8
     ensures value { result ≡ spec.start_number (spec.start_sequence (record_at «record».now)).start }
     ensures session_after { session.new ≡ spec.started_in session.old (spec.start_sequence (record_at «record».now)).start }
 {
-    driver::start_sequence(DA728x::from_bytes(record), session).number()
+    errors::number(driver::start_sequence(&DA728x::from_bytes(record), session))
 }
 
 #[unsafe(no_mangle)]
@@ -230,7 +244,7 @@ pub extern "C" fn da728x_play_sequence(
     ensures value { result ≡ spec.start_number (spec.play_sequence (record_at «record».now) sequence_id loops).start }
     ensures session_after { session.new ≡ spec.started_in session.old (spec.play_sequence (record_at «record».now) sequence_id loops).start }
 {
-    driver::play_sequence(DA728x::from_bytes(record), sequence_id, loops, session).number()
+    errors::number(driver::play_sequence(&DA728x::from_bytes(record), sequence_id, loops, session))
 }
 
 #[unsafe(no_mangle)]
@@ -240,7 +254,7 @@ pub extern "C" fn da728x_pending(session: &[u8], bytes: &mut [u8]) -> u32
         ≡ copied bytes.old (take (pending_of session.now).len (pending_of session.now).bytes) }
 {
     let e = exchange::pending(session);
-    send(e, bytes);
+    laws::copy_into(bytes, e.sent());
     exchange_word(e)
 }
 
@@ -248,23 +262,6 @@ fn exchange_word(e: Exchange) -> u32
     ensures { result ≡ exchange_word e }
 {
     e.len as u32 + 256 * (e.address as u32) + 65536 * (e.wanted as u32)
-}
-
-fn send(e: Exchange, out: &mut [u8])
-    ensures { out.new ≡ copied out.old (take e.len e.bytes) }
-{
-    let bytes = e.bytes;
-    let n = sent_len(e);
-    laws::copy_into(out, &bytes[..n]);
-}
-
-fn sent_len(e: Exchange) -> usize
-    ensures { result ≡ length (take e.len e.bytes) }
-{
-    if e.len < 33 {
-        return e.len as usize;
-    }
-    33
 }
 
 #[tactic(auto, unfolding(driver::specs::Operations::change_after))]
@@ -297,9 +294,7 @@ fn store(record: &mut [u8], session: &[u8], turn: Turn)
 {
     if outcome::is_upload(session) {
         store_count(record, session, turn);
-        return;
-    }
-    if outcome::may_change(session, turn) {
+    } else if outcome::may_change(session, turn) {
         let change = outcome::change_by(da728x::chip(record), session, turn);
         put(change, record);
     }
@@ -309,60 +304,25 @@ fn store_count(record: &mut [u8], session: &[u8], turn: Turn)
     requires { length session.now ≡ 280 }
     ensures { «record».new ≡ count_out «record».old session.now turn.ended (answer_number turn.answer) }
 {
-    let answer = turn.answer;
-    let number = answer.number();
-    let size = record.len();
-    if size == da728x::RECORD_SIZE {
-        if session[exchange::RECORD] == record[0] {
-            if turn.ended {
-                if number == 0 {
-                    record[37] = session[exchange::PLAN - 1];
-                    return;
-                }
-            }
-            if number != OUT_OF_TURN {
-                record[37] = 0;
-            }
+    if record.len() == da728x::RECORD_SIZE && record[0] == session[exchange::RECORD] {
+        if turn.is_last() {
+            record[37] = session[exchange::PLAN - 1];
+        } else if turn.is_taken() {
+            record[37] = 0;
         }
     }
 }
 
+// A record goes to 38 bytes only, and a count of sequences is the last of them.
 fn put(change: Change, out: &mut [u8])
     ensures { out.new ≡ record_out out.old change }
 {
-    match change {
-        Change::Same => {}
-        Change::To(next) => write(next, out),
-        Change::Sequences(n) => count(n, out),
-    }
-}
-
-// What the start of an upload does to the record, in a session of these bytes.
-fn zero(record: &mut [u8], session: &[u8])
-    ensures { «record».new ≡ record_out «record».old (zeroing session.now) }
-{
-    if session.len() == exchange::SESSION_SIZE {
-        count(0, record);
-    }
-}
-
-// A count of sequences is the last byte of a record.
-fn count(n: u8, out: &mut [u8])
-    ensures { out.new ≡ record_out out.old (Sequences n) }
-{
-    let size = out.len();
-    if size == da728x::RECORD_SIZE {
-        out[37] = n;
-    }
-}
-
-// A record goes to 38 bytes only.
-fn write(next: DA728x, out: &mut [u8])
-    ensures { out.new ≡ record_out out.old (To next) }
-{
     if out.len() == da728x::RECORD_SIZE {
-        let bytes = next.to_bytes();
-        laws::copy_into(out, &bytes);
+        match change {
+            Change::Same => {}
+            Change::To(next) => out.copy_from_slice(&next.to_bytes()),
+            Change::Sequences(n) => out[37] = n,
+        }
     }
 }
 
@@ -380,17 +340,10 @@ fn reply(kind: u8, byte: u8) -> Reply
 fn word(t: Turn) -> u32
     ensures { result ≡ report_word (turn_report t) }
 {
-    let answer = t.answer;
-    let number = answer.number() as u32;
-    let code = answer.bus_code() as u32;
-    let ended = flag(t.ended) as u32;
+    let number = errors::number(t.answer) as u32;
+    let code = errors::bus_code(t.answer) as u32;
+    let ended = t.ended as u32;
     number + 256 * code + 65536 * (t.made as u32) + 16777216 * ended
-}
-
-fn flag(on: bool) -> u8
-    ensures { result ≡ code_of on }
-{
-    on as u8
 }
 
 #[unsafe(no_mangle)]
@@ -404,5 +357,7 @@ pub extern "C" fn da728x_result(session: &[u8]) -> u64
 fn result_word(o: Outcome) -> u64
     ensures { result ≡ result_word o }
 {
-    o.value as u64 + 16777216 * (o.made as u64) + 4294967296 * (flag(o.completed) as u64)
+    let value = o.value.unwrap_or(0) as u64;
+    let completed = o.value.is_some() as u64;
+    value + 16777216 * (o.made as u64) + 4294967296 * completed
 }

@@ -11,7 +11,7 @@ ghost use Rattle.config.specs.Codes.{variant_code};
 ghost use Rattle.config.specs.declared.Variant.TheVariants.{DA7281};
 ghost use Rattle.checks.specs.Checks as spec;
 
-use config::{ActuatorConfig, DeviceConfig, DrivingMode, OperationMode, TriggerConfig, Variant};
+use config::{ActuatorConfig, DeviceConfig, DrivingMode, OperationMode, Variant};
 use errors::Error;
 
 pub fn configure_checks(
@@ -115,14 +115,13 @@ fn triggers_given(device: DeviceConfig) -> u8
 fn triggers_above_15(device: DeviceConfig) -> bool
     ensures { result ≡ (spec.etwm device.operation_mode && spec.triggers_above15 device) }
 {
+    let triggers = [
+        device.gpi_trigger_0,
+        device.gpi_trigger_1,
+        device.gpi_trigger_2,
+    ];
     is_etwm(device.operation_mode)
-        && (sequence_above_15(device.gpi_trigger_0)
-            || sequence_above_15(device.gpi_trigger_1)
-            || sequence_above_15(device.gpi_trigger_2))
-}
-
-fn sequence_above_15(trigger: Option<TriggerConfig>) -> bool
-    ensures { result ≡ spec.sequence_above15 trigger }
-{
-    trigger.is_some_and(|t| 15 < t.sequence_id)
+        && triggers
+            .iter()
+            .any(|t| t.is_some_and(|t| 15 < t.sequence_id))
 }

@@ -234,15 +234,15 @@ fn drive_points(session: &mut [u8], address: u8, p1: u8, p2: u8, p3: u8)
         session,
         address,
         Purpose::Command,
-        Step::Write(Register::SWG_C1.address(), swg_c1.bits()),
+        Step::Write(Register::SWG_C1.address(), swg_c1.into()),
     );
     exchange::push(
         session,
-        Step::Write(Register::SWG_C2.address(), swg_c2.bits()),
+        Step::Write(Register::SWG_C2.address(), swg_c2.into()),
     );
     exchange::push(
         session,
-        Step::Write(Register::SWG_C3.address(), swg_c3.bits()),
+        Step::Write(Register::SWG_C3.address(), swg_c3.into()),
     );
 }
 

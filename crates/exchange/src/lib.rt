@@ -7,7 +7,7 @@
 // exchanges are those of the steps, in order, and the count is true.
 #![tactic(auto)]
 
-ghost use Rattle.std.specs.Prelude.{◌≡◌, cond, not, ◌&&◌, ◌+◌, ◌*◌, ◌<◌, min, [], ◌∷◌, eqb, length, set};
+ghost use Rattle.std.specs.Prelude.{◌≡◌, cond, not, ◌&&◌, ◌+◌, ◌*◌, ◌<◌, min, [], ◌∷◌, eqb, length, take, set};
 ghost use Rattle.errors.specs.Number.{answer_number};
 ghost use Rattle.laws.specs.Copied.{over};
 ghost use Rattle.laws.specs.Lists.{at};
@@ -80,6 +80,15 @@ pub struct Exchange {
     pub wanted: u8,
 }
 
+impl Exchange {
+    // The bytes to send.
+    pub fn sent(&self) -> &[u8]
+        ensures { result.now ≡ take self.now.len self.now.bytes }
+    {
+        &self.bytes[..(self.len as usize).min(33)]
+    }
+}
+
 // What the bus answers.
 #[derive(Debug, Clone, Copy, PartialEq, Eq)]
 pub enum Reply {
@@ -139,6 +148,7 @@ pub struct Opening<'a> {
 }
 
 // Begins a session without steps; the caller's bytes stay as they are if they are not as many as a session has.
+#[inline]
 #[tactic(auto, unfolding(crate::specs::State::begun_in))]
 pub fn begin(session: &mut [u8], opening: Opening<'_>)
     ensures { session.new

@@ -3,9 +3,9 @@
 -- Assumes nothing.
 use mathlib.Core.Path.{◌≡◌, sym, ap, ◌∙◌}
 use Prim.Native.Nat.{ℕ, ◌+◌, ◌-◌, ◌*◌, ◌/◌, ◌%◌, ◌^◌, ◌≤◌}
-use native.Mathlib.Nat.{mod-lt, add-mul, mul_assoc, mul_comm, add_comm}
+use native.Mathlib.Nat.{mod-lt, add-mul, mul_assoc, mul_comm}
 use native.Mathlib.Omega.{arith}
-use lib.Pow.{pow_pos, pow-add, shr-shr, split, high, low, mod-pow-add, field, mod-mod-pow}
+use lib.Pow.{pow_pos, pow-add, shr-shr, high, low, field, mod-mod-pow}
 use Rattle.field.specs.Field.{get_of, width_in, spliced, with_of}
 
 module _ (b s w v : ℕ) where

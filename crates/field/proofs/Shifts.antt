@@ -1,6 +1,9 @@
 -- The shifts and masks of `get` and `with`, by counts that are variables, are the arithmetic of specs/Field.antt.
 -- Assumes nothing.
 use mathlib.Core.Path.{◌≡◌, sym, ap, subst, ◌∙◌}
+use mathlib.Core.Logic.{◌⊎◌, inl, inr}
+use Rattle.std.specs.Prelude.{min}
+use Rattle.std.proofs.lemmas.Bool.{cases_lt}
 use Prim.Native.Nat.{ℕ, ◌+◌, ◌-◌, ◌*◌, ◌/◌, ◌%◌, ◌^◌, ◌<◌, ◌≤◌}
 use native.Mathlib.Nat.{mod-eq_of_lt, div-eq_of_lt, lt_of_lt_of_le, lt_of_le_of_lt, mod-lt}
 use native.Mathlib.Omega.{arith}
@@ -17,20 +20,35 @@ one_shl n h = shl_exact {a = 1} 1 n 16 (omega arith) (omega arith) ∙ omega ari
 pub low_is : (x n : ℕ) → n ≤ 8 → bit_and x (1 * 2 ^ n % 65536 - 1) ≡ x % 2 ^ n
 low_is x n h = ap (λ (k : ℕ). bit_and x (k - 1)) (one_shl n h) ∙ and_mask x n
 
--- `get` past the byte
-pub get_out : (b s w : ℕ) → b < 256 → 8 ≤ s → 0 ≡ get_of b s w
-unfolding get_of
-get_out b s w hb h =
-    let e : b / 2 ^ s ≡ 0 = div-eq_of_lt (lt_of_lt_of_le hb (pow_mono {i = 8} h)) in
-    simp (e, mod-eq_of_lt (pow_pos w))
+-- past the byte nothing is left to shift
+shr_out : (b n : ℕ) → b < 256 → 8 ≤ n → b / 2 ^ n ≡ 0
+shr_out b n hb h = div-eq_of_lt (lt_of_lt_of_le hb (pow_mono {i = 8} h))
 
--- `get` of eight bits or more
-pub get_wide : (b s w : ℕ) → b < 256 → 8 ≤ w → b / 2 ^ s ≡ get_of b s w
-unfolding get_of
-get_wide b s w hb h = sym (mod-eq_of_lt (lt_of_le_of_lt (shr_le b s) (lt_of_lt_of_le hb (pow_mono {i = 8} h))))
+-- a shift of a byte by more than 8 does what one by 8 does
+shr_capped : (b s : ℕ) → b < 256 → b / 2 ^ min s 8 ≡ b / 2 ^ s
+shr_capped b s hb = go (cases_lt s 8)
+  where
+    go : (s < 8) ⊎ (8 ≤ s) → b / 2 ^ min s 8 ≡ b / 2 ^ s
+    go (inl h) = ap (λ (k : ℕ). b / 2 ^ k) (omega arith)
+    go (inr h) = let e : min s 8 ≡ 8 = omega arith in ap (λ (k : ℕ). b / 2 ^ k) e ∙ shr_out b 8 hb (omega arith) ∙ sym (shr_out b s hb h)
 
--- `with` past the byte
-pub with_out : (b s w v : ℕ) → 8 ≤ s → b ≡ with_of b s w v
+-- and more than 8 low bits of a byte are all of it
+mask_capped : (b w : ℕ) → b < 256 → b % 2 ^ min w 8 ≡ b % 2 ^ w
+mask_capped b w hb = go (cases_lt w 8)
+  where
+    go : (w < 8) ⊎ (8 ≤ w) → b % 2 ^ min w 8 ≡ b % 2 ^ w
+    go (inl h) = ap (λ (k : ℕ). b % 2 ^ k) (omega arith)
+    go (inr h) =
+        let e : min w 8 ≡ 8 = omega arith in
+        ap (λ (k : ℕ). b % 2 ^ k) e ∙ mod-eq_of_lt hb ∙ sym (mod-eq_of_lt (lt_of_lt_of_le hb (pow_mono {i = 8} h)))
+
+-- what `get` answers
+pub get_is : (b s w : ℕ) → b < 256 → b / 2 ^ min s 8 % 2 ^ min w 8 ≡ get_of b s w
+unfolding get_of
+get_is b s w hb = mask_capped (b / 2 ^ min s 8) w (lt_of_le_of_lt (shr_le b (min s 8)) hb) ∙ ap (λ (k : ℕ). k % 2 ^ w) (shr_capped b s hb)
+
+-- past the byte `with` replaces nothing
+with_out : (b s w v : ℕ) → 8 ≤ s → b ≡ with_of b s w v
 unfolding with_of
 with_out b s w v h =
     let e : width_in s w ≡ 0 = omega arith in
@@ -81,17 +99,25 @@ module _ (b s w v j : ℕ) (hb : b < 256) (hj : j + (s + w) ≡ 8) where
       ∙ ap (λ (k : ℕ). k * 2 ^ s + b % 2 ^ s) mid_is
       ∙ sym (nested b s w v)
 
--- with what the calls of `cut` and `low` answered
-module _ (b s d v w l m : ℕ) (hb : b < 256) (h : s < 8) (e : w ≡ width_in s d) (f : l ≡ v % 2 ^ w) (g : m ≡ b % 2 ^ s) where
+-- `with` starts a field past the byte at its end
+with_capped : (b s w v : ℕ) → with_of b (min s 8) w v ≡ with_of b s w v
+with_capped b s w v = go (cases_lt s 8)
+  where
+    go : (s < 8) ⊎ (8 ≤ s) → with_of b (min s 8) w v ≡ with_of b s w v
+    go (inl h) = ap (λ (k : ℕ). with_of b k w v) (omega arith)
+    go (inr h) = sym (with_out b (min s 8) w v (omega arith)) ∙ with_out b s w v h
+
+-- of the shift and the width that `with` takes
+module _ (b s w v : ℕ) (hb : b < 256) where
   -- what is left of the byte above the field
-  fits : 8 - s - w + (s + w) ≡ 8
+  fits : 8 - min s 8 - width_in (min s 8) w + (min s 8 + width_in (min s 8) w) ≡ 8
   fits = omega arith
 
   -- `with` meets its definition
-  pub with_is : coded b s w l m ≡ with_of b s d v
+  pub with_is : coded b (min s 8) (width_in (min s 8) w) (v % 2 ^ width_in (min s 8) w) (b % 2 ^ min s 8) ≡ with_of b s w v
   unfolding with_of
-  with_is = (λ i. coded b s w (f i) (g i)) ∙ coded_is b s w v (8 - s - w) hb fits ∙ ap (λ (k : ℕ). spliced b s k v) e
+  with_is = coded_is b (min s 8) (width_in (min s 8) w) v _ hb fits ∙ with_capped b s w v
 
   -- and its cast loses nothing
-  pub with_lt : coded b s w l m < 256
-  with_lt = subst (λ (k : ℕ). k < 256) (sym (λ i. coded b s w (f i) (g i))) (coded_lt b s w v (8 - s - w) hb fits)
+  pub with_lt : coded b (min s 8) (width_in (min s 8) w) (v % 2 ^ width_in (min s 8) w) (b % 2 ^ min s 8) < 256
+  with_lt = coded_lt b (min s 8) (width_in (min s 8) w) v _ hb fits

@@ -1,6 +1,6 @@
 -- A register as the list of its parts. Document 01, "Settings to registers": "A register's fields fill from bit 0 up in the
 -- written order". `start_of` sums the widths that are written before a name, and `by_field` goes from part to part.
-use Rattle.std.specs.Prelude.{ℕ, ◌+◌, Bool, true, false, cond, ◌||◌, List, [], ◌∷◌, ◌++◌}
+use Rattle.std.specs.Prelude.{ℕ, ◌+◌, Bool, false, cond, ◌||◌, List, [], ◌∷◌, ◌++◌}
 use Prim.Native.String.{String}
 use lib.Text.{eqt}
 use Rattle.field.specs.Field.{get_of, flag_of, with_of}

@@ -8,34 +8,27 @@
 #![tactic(auto)]
 
 ghost use Rattle.std.specs.Prelude.{◌≡◌, ◌%◌, ◌^◌, ◌<◌, ◌≤◌};
-ghost use Rattle.field.specs.Field.{get_of, width_in, with_of, flag_of, code_of};
+ghost use Rattle.field.specs.Field.{get_of, with_of, flag_of, code_of};
 
 // The field's value.
-#[tactic(auto, unfolding(crate::specs::Field::get_of))]
+#[tactic(auto, using(crate::proofs::Shifts::get_is))]
 pub fn get(b: u8, shift: u8, width: u8) -> u8
     ensures { result ≡ get_of b shift width }
 {
-    if 8 <= shift {
-        return 0;
-    }
-    if 8 <= width {
-        return b >> shift;
-    }
-    low((b >> shift) as u16, width) as u8
+    low(u16::from(b) >> shift.min(8), width.min(8)) as u8
 }
 
 // The byte with the field replaced.
+#[tactic(auto, using(crate::proofs::Shifts::with_is, crate::proofs::Shifts::with_lt))]
 pub fn with(b: u8, shift: u8, width: u8, value: u8) -> u8
     ensures { result ≡ with_of b shift width value }
 {
-    if 8 <= shift {
-        return b;
-    }
-    let w = cut(shift, width);
-    let x = b as u16;
-    let high = x >> (shift + w);
-    let mid = (high << w) | low(value as u16, w);
-    ((mid << shift) | low(x, shift)) as u8
+    let s = shift.min(8);
+    let w = width.min(8 - s);
+    let x = u16::from(b);
+    let high = x >> (s + w);
+    let mid = (high << w) | low(u16::from(value), w);
+    ((mid << s) | low(x, s)) as u8
 }
 
 // Whether the bit at `shift` is set.
@@ -50,22 +43,11 @@ pub fn flag(b: u8, shift: u8) -> bool
 pub fn with_flag(b: u8, shift: u8, on: bool) -> u8
     ensures { result ≡ with_of b shift 1 (code_of on) }
 {
-    with(b, shift, 1, on as u8)
-}
-
-// As much of the width as a byte has room for.
-fn cut(shift: u8, width: u8) -> u8
-    requires { shift < 8 }
-    ensures { result ≡ width_in shift width }
-{
-    let left = 8 - shift;
-    if width <= left {
-        return width;
-    }
-    left
+    with(b, shift, 1, u8::from(on))
 }
 
 // The `n` low bits.
+#[tactic(auto, using(crate::proofs::Shifts::low_is))]
 fn low(x: u16, n: u8) -> u16
     requires { n ≤ 8 }
     ensures { result ≡ x % 2 ^ n }

@@ -57,7 +57,7 @@ gpi digit (Some t) = omega arith
 
 given : (s t u : Option TriggerConfig) → length (given_steps s t u) ≤ 3
 unfolding given_steps
-given s t u = simp length-append (omega (arith, gpi "0" s, gpi "1" t, gpi "2" u))
+given s t u = simp length-append (omega (arith, gpi))
 
 pub triggers : (d : DeviceConfig) → length (trigger_steps d) ≤ 3
 unfolding trigger_steps

@@ -2,7 +2,6 @@
 use Rattle.std.specs.Prelude.{ℕ, ◌/◌, ◌%◌, Bool, cond, not, ◌&&◌, List, [], ◌∷◌, ◌++◌, Option, Some, None}
 use Prim.Native.String.{String, ◌++◌ as ◌&◌}
 use Rattle.field.specs.Field.{code_of}
-use Rattle.registers.specs.Table.{address_of}
 use Rattle.config.specs.declared.ActuatorConfig.{ActuatorConfig}
 use Rattle.config.specs.declared.DeviceConfig.{DeviceConfig}
 use Rattle.config.specs.declared.TriggerConfig.{TriggerConfig}
@@ -75,13 +74,6 @@ unfoldable pub driving_steps : DrivingMode → List Step
 driving_steps FREQUENCY_TRACK = []
 driving_steps WIDEBAND = phase_steps
 driving_steps CUSTOM_WAVEFORM = phase_steps ++ custom_steps
-
--- the digit in a GPI register's name, and the address of that register
-abbrev pub Digit : Type 0
-Digit = String
-
-abbrev pub gpi_address : Digit → ℕ
-gpi_address digit = address_of ("GPI_" & digit & "_CTL")
 
 -- the byte of the GPI register with this digit in its names; document 02, CR 4: "it is the trigger's own `mode`: 0 for SingleSequence, 1 for
 -- MultiSequence" (the codes of TriggerMode)

@@ -5,20 +5,17 @@
 // goes to its own register (proofs/Trigger.antt). Left out: the steps where rapid stop is on, which the Rust does not have and `checks` refuses.
 #![tactic(auto)]
 
-ghost use Rattle.std.specs.Prelude.{◌≡◌, ◌&&◌};
+ghost use Rattle.std.specs.Prelude.{◌≡◌};
 ghost use Rattle.exchange.specs.State.{pushed, pushed_all};
 ghost use Rattle.exchange.specs.declared.Step.TheVariants.{Write, Read, Update};
-ghost use Rattle.config.specs.Codes.{trigger_mode_code};
-ghost use Rattle.field.specs.Field.{code_of};
-ghost use Rattle.checks.specs.Checks.{tracking};
-ghost use Rattle.plans.specs.Configure.{accelerates, top_cfg1, feature_steps, limit_steps, calibration_steps, pid_steps, frequency_steps, rapid_stop_steps, phase_steps, custom_steps, driving_steps, Digit, gpi_address, gpi_byte, gpi_steps, given_steps, trigger_steps, configure_steps};
+ghost use Rattle.plans.specs.Configure.{accelerates, top_cfg1, feature_steps, limit_steps, calibration_steps, pid_steps, frequency_steps, rapid_stop_steps, phase_steps, custom_steps, driving_steps, gpi_steps, trigger_steps, configure_steps};
 
 use config::{ActuatorConfig, DeviceConfig, DrivingMode, TriggerConfig, TriggerMode};
 use exchange::Step;
 use registers::Register;
 use registers_actuator::{ACTUATOR3, FRQ_LRA_PER_L, TOP_CFG1, TOP_CFG2, TOP_CFG4};
 use registers_control::{SEQ_CTL1, TOP_INT_CFG8};
-use registers_trigger::{FRQ_PHASE_L, GPI_0_CTL, GPI_1_CTL, GPI_2_CTL, TOP_CFG5};
+use registers_trigger::{FRQ_PHASE_L, GPI_0_CTL, GPI_1_CTL, GPI_2_CTL, Gpi, TOP_CFG5};
 
 // Everything that `configure` does, once its checks have passed.
 #[tactic(auto, using(exchange::proofs::Pushes::push_append))]
@@ -43,7 +40,7 @@ pub fn frequency(session: &mut [u8], hz: u16)
     let word = convert::period(hz);
     let frq_lra_per_l = FRQ_LRA_PER_L::new().with_LRA_PER_L(convert::low_part(word));
     write(session, Register::FRQ_LRA_PER_H, convert::high_part(word));
-    write(session, Register::FRQ_LRA_PER_L, frq_lra_per_l.bits());
+    write(session, Register::FRQ_LRA_PER_L, frq_lra_per_l.into());
 }
 
 #[tactic(auto, unfolding(crate::specs::Configure::feature_steps))]
@@ -60,7 +57,7 @@ fn features(session: &mut [u8], a: ActuatorConfig, d: DeviceConfig)
         TOP_CFG2::MEM_DATA_SIGNED_WIDTH,
         !accelerates as u8,
     );
-    write(session, Register::TOP_CFG5, top_cfg5.bits());
+    write(session, Register::TOP_CFG5, top_cfg5.into());
 }
 
 fn top_cfg1(a: ActuatorConfig, d: DeviceConfig) -> u8
@@ -75,7 +72,7 @@ fn top_cfg1(a: ActuatorConfig, d: DeviceConfig) -> u8
         .with_RAPID_STOP_EN(tracks && d.rapid_stop)
         .with_AMP_PID_EN(false)
         .with_EMBEDDED_MODE(true)
-        .bits()
+        .into()
 }
 
 // Acceleration is for tracking only.
@@ -100,7 +97,7 @@ fn limits(session: &mut [u8], a: ActuatorConfig)
         Register::ACTUATOR2,
         convert::voltage(a.absolute_max_mV),
     );
-    write(session, Register::ACTUATOR3, actuator3.bits());
+    write(session, Register::ACTUATOR3, actuator3.into());
 }
 
 #[tactic(auto, unfolding(crate::specs::Configure::calibration_steps))]
@@ -111,7 +108,7 @@ fn calibration(session: &mut [u8], a: ActuatorConfig)
     let trim4 = convert::trim4(a.impedance_mOhm, a.inductance_uH);
     write(session, Register::CALIB_V2I_H, (v2i / 256) as u8);
     write(session, Register::CALIB_V2I_L, (v2i % 256) as u8);
-    write(session, Register::TRIM4, trim4.bits());
+    write(session, Register::TRIM4, trim4.into());
 }
 
 #[tactic(auto, unfolding(crate::specs::Configure::pid_steps))]
@@ -160,8 +157,8 @@ fn custom_waveform(session: &mut [u8])
 {
     let seq_ctl1 = SEQ_CTL1::new().with_WAVEGEN_MODE(true);
     let top_cfg4 = TOP_CFG4::new().with_V2I_FACTOR_FREEZE(true);
-    write(session, Register::SEQ_CTL1, seq_ctl1.bits());
-    write(session, Register::TOP_CFG4, top_cfg4.bits());
+    write(session, Register::SEQ_CTL1, seq_ctl1.into());
+    write(session, Register::TOP_CFG4, top_cfg4.into());
 }
 
 #[tactic(auto, unfolding(crate::specs::Configure::phase_steps))]
@@ -172,7 +169,7 @@ fn phase(session: &mut [u8])
         .with_DELAY_SHIFT_L(0)
         .with_DELAY_FREEZE(true);
     write(session, Register::FRQ_PHASE_H, 0);
-    write(session, Register::FRQ_PHASE_L, frq_phase_l.bits());
+    write(session, Register::FRQ_PHASE_L, frq_phase_l.into());
 }
 
 #[tactic(auto, using(exchange::proofs::Pushes::push_append), unfolding(crate::specs::Configure::trigger_steps, crate::specs::Configure::given_steps))]
@@ -186,83 +183,18 @@ fn triggers(session: &mut [u8], d: DeviceConfig)
     }
 }
 
-#[tactic(auto, unfolding(crate::specs::Configure::gpi_steps))]
-fn gpi<G: GpiControl>(session: &mut [u8], trigger: Option<TriggerConfig>)
+#[tactic(auto, unfolding(crate::specs::Configure::gpi_steps, crate::specs::Configure::gpi_byte))]
+fn gpi<G: Gpi>(session: &mut [u8], trigger: Option<TriggerConfig>)
     ensures { session.new ≡ pushed_all session.old (gpi_steps G.digit trigger) }
 {
     if let Some(t) = trigger {
-        write(session, G::register(), G::byte(t));
+        let multi = t.mode == TriggerMode::MultiSequence;
+        write(
+            session,
+            G::register(),
+            G::byte(t.polarity.into(), multi, t.sequence_id),
+        );
     }
-}
-
-// The control register of a GPI, which has the digit in its name and in those of its fields.
-trait GpiControl {
-    ghost digit: { Digit };
-
-    fn register() -> Register
-        ensures { result.0 ≡ gpi_address digit };
-
-    // What it gets of a trigger.
-    fn byte(t: TriggerConfig) -> u8
-        ensures { result ≡ gpi_byte digit t };
-}
-
-impl GpiControl for GPI_0_CTL {
-    ghost digit = { "0" };
-
-    fn register() -> Register {
-        Register::GPI_0_CTL
-    }
-
-    #[tactic(auto, unfolding(crate::specs::Configure::gpi_byte))]
-    fn byte(t: TriggerConfig) -> u8 {
-        GPI_0_CTL::new()
-            .with_GPI0_POLARITY(t.polarity.into())
-            .with_GPI0_MODE(is_multi(t.mode))
-            .with_GPI0_SEQUENCE_ID(t.sequence_id)
-            .bits()
-    }
-}
-
-impl GpiControl for GPI_1_CTL {
-    ghost digit = { "1" };
-
-    fn register() -> Register {
-        Register::GPI_1_CTL
-    }
-
-    #[tactic(auto, unfolding(crate::specs::Configure::gpi_byte))]
-    fn byte(t: TriggerConfig) -> u8 {
-        GPI_1_CTL::new()
-            .with_GPI1_POLARITY(t.polarity.into())
-            .with_GPI1_MODE(is_multi(t.mode))
-            .with_GPI1_SEQUENCE_ID(t.sequence_id)
-            .bits()
-    }
-}
-
-impl GpiControl for GPI_2_CTL {
-    ghost digit = { "2" };
-
-    fn register() -> Register {
-        Register::GPI_2_CTL
-    }
-
-    #[tactic(auto, unfolding(crate::specs::Configure::gpi_byte))]
-    fn byte(t: TriggerConfig) -> u8 {
-        GPI_2_CTL::new()
-            .with_GPI2_POLARITY(t.polarity.into())
-            .with_GPI2_MODE(is_multi(t.mode))
-            .with_GPI2_SEQUENCE_ID(t.sequence_id)
-            .bits()
-    }
-}
-
-// The mode bit of a trigger.
-fn is_multi(mode: TriggerMode) -> bool
-    ensures { code_of result ≡ trigger_mode_code mode }
-{
-    mode == TriggerMode::MultiSequence
 }
 
 // ---- steps on one register

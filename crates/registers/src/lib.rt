@@ -1,15 +1,16 @@
 // The register addresses of the DA728x: `Register` of registers.rs, document 01, "Settings to registers". Each address is a
 // constant of the type, and only this crate makes a `Register`.
 //
-// Proved: `address` is the register's address, and `all` lists the addresses of specs/Table.antt. The four private functions at the
-// end, which nothing calls, are proved only if each constant has the address that the table lists under its name. Nothing is left out.
+// Proved: `address` is the register's address, `all` lists the addresses of specs/Table.antt, and each constant of `NAMED` has the
+// address that the table lists under the name beside it. Nothing is left out.
 #![tactic(auto)]
 
 ghost use Rattle.std.specs.Prelude.{◌≡◌, true};
+ghost use Rattle.std.specs.List.{list_all};
 ghost use Rattle.registers.specs.Table.{registers, addresses, lists};
 
 // A register, by its address.
-#[derive(Clone, Copy)]
+#[derive(Debug, Clone, Copy, PartialEq, Eq)]
 pub struct Register(u8);
 
 impl Register {
@@ -155,63 +156,55 @@ impl Register {
     }
 }
 
-// ---- each constant beside its name
+// Each constant beside its name, in the written order.
+const NAMED: [(&str, Register); 42] = [
+    ("CHIP_REV", Register::CHIP_REV),
+    ("IRQ_EVENT1", Register::IRQ_EVENT1),
+    ("IRQ_EVENT_WARNING_DIAG", Register::IRQ_EVENT_WARNING_DIAG),
+    ("IRQ_EVENT_SEQ_DIAG", Register::IRQ_EVENT_SEQ_DIAG),
+    ("IRQ_STATUS1", Register::IRQ_STATUS1),
+    ("IRQ_MASK1", Register::IRQ_MASK1),
+    ("FRQ_LRA_PER_H", Register::FRQ_LRA_PER_H),
+    ("FRQ_LRA_PER_L", Register::FRQ_LRA_PER_L),
+    ("ACTUATOR1", Register::ACTUATOR1),
+    ("ACTUATOR2", Register::ACTUATOR2),
+    ("ACTUATOR3", Register::ACTUATOR3),
+    ("CALIB_V2I_H", Register::CALIB_V2I_H),
+    ("CALIB_V2I_L", Register::CALIB_V2I_L),
+    ("TOP_CFG1", Register::TOP_CFG1),
+    ("TOP_CFG2", Register::TOP_CFG2),
+    ("TOP_CFG4", Register::TOP_CFG4),
+    ("TOP_INT_CFG1", Register::TOP_INT_CFG1),
+    ("TOP_INT_CFG6_H", Register::TOP_INT_CFG6_H),
+    ("TOP_INT_CFG6_L", Register::TOP_INT_CFG6_L),
+    ("TOP_INT_CFG7_H", Register::TOP_INT_CFG7_H),
+    ("TOP_INT_CFG7_L", Register::TOP_INT_CFG7_L),
+    ("TOP_INT_CFG8", Register::TOP_INT_CFG8),
+    ("TOP_CTL1", Register::TOP_CTL1),
+    ("TOP_CTL2", Register::TOP_CTL2),
+    ("SEQ_CTL1", Register::SEQ_CTL1),
+    ("SWG_C1", Register::SWG_C1),
+    ("SWG_C2", Register::SWG_C2),
+    ("SWG_C3", Register::SWG_C3),
+    ("SEQ_CTL2", Register::SEQ_CTL2),
+    ("GPI_0_CTL", Register::GPI_0_CTL),
+    ("GPI_1_CTL", Register::GPI_1_CTL),
+    ("GPI_2_CTL", Register::GPI_2_CTL),
+    ("MEM_CTL1", Register::MEM_CTL1),
+    ("MEM_CTL2", Register::MEM_CTL2),
+    ("POLARITY", Register::POLARITY),
+    ("FRQ_PHASE_H", Register::FRQ_PHASE_H),
+    ("FRQ_PHASE_L", Register::FRQ_PHASE_L),
+    ("TRIM4", Register::TRIM4),
+    ("TOP_CFG5", Register::TOP_CFG5),
+    ("IRQ_MASK2", Register::IRQ_MASK2),
+    ("SNP_MEM_0", Register::SNP_MEM_0),
+    ("SNP_MEM_99", Register::SNP_MEM_99),
+];
 
-fn interrupts_named() {
-    named(b"CHIP_REV", Register::CHIP_REV);
-    named(b"IRQ_EVENT1", Register::IRQ_EVENT1);
-    named(b"IRQ_EVENT_WARNING_DIAG", Register::IRQ_EVENT_WARNING_DIAG);
-    named(b"IRQ_EVENT_SEQ_DIAG", Register::IRQ_EVENT_SEQ_DIAG);
-    named(b"IRQ_STATUS1", Register::IRQ_STATUS1);
-    named(b"IRQ_MASK1", Register::IRQ_MASK1);
+// The table lists each constant's address under the name beside it; nothing calls this.
+fn named() -> [(&'static str, Register); 42]
+    ensures { list_all (λ p. lists registers p.0.now p.1.0) result ≡ true }
+{
+    NAMED
 }
-
-fn actuator_named() {
-    named(b"FRQ_LRA_PER_H", Register::FRQ_LRA_PER_H);
-    named(b"FRQ_LRA_PER_L", Register::FRQ_LRA_PER_L);
-    named(b"ACTUATOR1", Register::ACTUATOR1);
-    named(b"ACTUATOR2", Register::ACTUATOR2);
-    named(b"ACTUATOR3", Register::ACTUATOR3);
-    named(b"CALIB_V2I_H", Register::CALIB_V2I_H);
-    named(b"CALIB_V2I_L", Register::CALIB_V2I_L);
-    named(b"TOP_CFG1", Register::TOP_CFG1);
-    named(b"TOP_CFG2", Register::TOP_CFG2);
-    named(b"TOP_CFG4", Register::TOP_CFG4);
-}
-
-fn control_named() {
-    named(b"TOP_INT_CFG1", Register::TOP_INT_CFG1);
-    named(b"TOP_INT_CFG6_H", Register::TOP_INT_CFG6_H);
-    named(b"TOP_INT_CFG6_L", Register::TOP_INT_CFG6_L);
-    named(b"TOP_INT_CFG7_H", Register::TOP_INT_CFG7_H);
-    named(b"TOP_INT_CFG7_L", Register::TOP_INT_CFG7_L);
-    named(b"TOP_INT_CFG8", Register::TOP_INT_CFG8);
-    named(b"TOP_CTL1", Register::TOP_CTL1);
-    named(b"TOP_CTL2", Register::TOP_CTL2);
-    named(b"SEQ_CTL1", Register::SEQ_CTL1);
-    named(b"SWG_C1", Register::SWG_C1);
-    named(b"SWG_C2", Register::SWG_C2);
-    named(b"SWG_C3", Register::SWG_C3);
-}
-
-fn trigger_named() {
-    named(b"SEQ_CTL2", Register::SEQ_CTL2);
-    named(b"GPI_0_CTL", Register::GPI_0_CTL);
-    named(b"GPI_1_CTL", Register::GPI_1_CTL);
-    named(b"GPI_2_CTL", Register::GPI_2_CTL);
-    named(b"MEM_CTL1", Register::MEM_CTL1);
-    named(b"MEM_CTL2", Register::MEM_CTL2);
-    named(b"POLARITY", Register::POLARITY);
-    named(b"FRQ_PHASE_H", Register::FRQ_PHASE_H);
-    named(b"FRQ_PHASE_L", Register::FRQ_PHASE_L);
-    named(b"TRIM4", Register::TRIM4);
-    named(b"TOP_CFG5", Register::TOP_CFG5);
-    named(b"IRQ_MASK2", Register::IRQ_MASK2);
-    named(b"SNP_MEM_0", Register::SNP_MEM_0);
-    named(b"SNP_MEM_99", Register::SNP_MEM_99);
-}
-
-// The table lists the register's address under this name.
-fn named(name: &[u8], register: Register)
-    requires { lists registers name.now register.0 ≡ true }
-{}

@@ -1,9 +1,9 @@
-// The registers of the actuator's ratings and of the drive: FRQ_LRA_PER_H to TOP_CFG4 of registers.rs, document 01, "Settings
-// to registers". A register is a byte: `new` is zero, `from` keeps every bit, `bits` hands the byte back; the method of a
-// field's name reads the field, and `with_` before the name alters it. Proved: each method's result, by the field's name in
-// registers/specs/Table.antt, which has the names and widths of the Rust in the written order; `fields` and `replaced` list what all
-// the getters and all the `with_` make of one byte, and equal definitions that go through the table part by part. Left out:
-// what else the attribute `bitfield` makes, such as `set_` methods and printing.
+// The registers of the actuator's ratings and of the drive: FRQ_LRA_PER_H to TOP_CFG4 of registers.rs, document 01,
+// "Settings to registers". A register is a byte: `new` is zero, and both `From` keep every bit; the method of a field's name
+// reads the field, and `with_` before the name alters it. Proved: each method's result, by the field's name in
+// registers/specs/Table.antt, which has the names and widths of the Rust in the written order; `fields` and `replaced` list
+// what all the getters and all the `with_` make of one byte, and equal definitions that go through the table part by part.
+// Left out: what else the attribute `bitfield` makes, such as `set_` methods; `Debug` prints the byte, not the fields.
 #![tactic(auto)]
 
 ghost use Rattle.std.specs.Prelude.{◌≡◌};
@@ -14,26 +14,14 @@ ghost use Rattle.registers.specs.Table.{actuator, read_only, parts_of};
 use field::{flag, get, with, with_flag};
 
 // FRQ_LRA_PER_H register (0x0A).
-#[derive(Clone, Copy)]
+#[derive(Debug, Clone, Copy, PartialEq, Eq, Default)]
 pub struct FRQ_LRA_PER_H(u8);
 
 impl FRQ_LRA_PER_H {
     pub fn new() -> Self
         ensures { result.0 ≡ 0 }
     {
-        FRQ_LRA_PER_H(0)
-    }
-
-    pub fn from(bits: u8) -> Self
-        ensures { result.0 ≡ bits }
-    {
-        FRQ_LRA_PER_H(bits)
-    }
-
-    pub fn bits(self) -> u8
-        ensures { result ≡ self.0 }
-    {
-        self.0
+        Self::default()
     }
 
     pub fn LRA_PER_H(self) -> u8
@@ -49,27 +37,31 @@ impl FRQ_LRA_PER_H {
     }
 }
 
+impl From<u8> for FRQ_LRA_PER_H {
+    ghost from_gives = { λ bits register. register.0 ≡ bits };
+
+    fn from(bits: u8) -> Self {
+        FRQ_LRA_PER_H(bits)
+    }
+}
+
+impl From<FRQ_LRA_PER_H> for u8 {
+    ghost from_gives = { λ register bits. bits ≡ register.0 };
+
+    fn from(register: FRQ_LRA_PER_H) -> u8 {
+        register.0
+    }
+}
+
 // FRQ_LRA_PER_L register (0x0B).
-#[derive(Clone, Copy)]
+#[derive(Debug, Clone, Copy, PartialEq, Eq, Default)]
 pub struct FRQ_LRA_PER_L(u8);
 
 impl FRQ_LRA_PER_L {
     pub fn new() -> Self
         ensures { result.0 ≡ 0 }
     {
-        FRQ_LRA_PER_L(0)
-    }
-
-    pub fn from(bits: u8) -> Self
-        ensures { result.0 ≡ bits }
-    {
-        FRQ_LRA_PER_L(bits)
-    }
-
-    pub fn bits(self) -> u8
-        ensures { result ≡ self.0 }
-    {
-        self.0
+        Self::default()
     }
 
     pub fn LRA_PER_L(self) -> u8
@@ -85,27 +77,31 @@ impl FRQ_LRA_PER_L {
     }
 }
 
+impl From<u8> for FRQ_LRA_PER_L {
+    ghost from_gives = { λ bits register. register.0 ≡ bits };
+
+    fn from(bits: u8) -> Self {
+        FRQ_LRA_PER_L(bits)
+    }
+}
+
+impl From<FRQ_LRA_PER_L> for u8 {
+    ghost from_gives = { λ register bits. bits ≡ register.0 };
+
+    fn from(register: FRQ_LRA_PER_L) -> u8 {
+        register.0
+    }
+}
+
 // ACTUATOR1 register (0x0C).
-#[derive(Clone, Copy)]
+#[derive(Debug, Clone, Copy, PartialEq, Eq, Default)]
 pub struct ACTUATOR1(u8);
 
 impl ACTUATOR1 {
     pub fn new() -> Self
         ensures { result.0 ≡ 0 }
     {
-        ACTUATOR1(0)
-    }
-
-    pub fn from(bits: u8) -> Self
-        ensures { result.0 ≡ bits }
-    {
-        ACTUATOR1(bits)
-    }
-
-    pub fn bits(self) -> u8
-        ensures { result ≡ self.0 }
-    {
-        self.0
+        Self::default()
     }
 
     pub fn ACTUATOR_NOMMAX(self) -> u8
@@ -121,27 +117,31 @@ impl ACTUATOR1 {
     }
 }
 
+impl From<u8> for ACTUATOR1 {
+    ghost from_gives = { λ bits register. register.0 ≡ bits };
+
+    fn from(bits: u8) -> Self {
+        ACTUATOR1(bits)
+    }
+}
+
+impl From<ACTUATOR1> for u8 {
+    ghost from_gives = { λ register bits. bits ≡ register.0 };
+
+    fn from(register: ACTUATOR1) -> u8 {
+        register.0
+    }
+}
+
 // ACTUATOR2 register (0x0D).
-#[derive(Clone, Copy)]
+#[derive(Debug, Clone, Copy, PartialEq, Eq, Default)]
 pub struct ACTUATOR2(u8);
 
 impl ACTUATOR2 {
     pub fn new() -> Self
         ensures { result.0 ≡ 0 }
     {
-        ACTUATOR2(0)
-    }
-
-    pub fn from(bits: u8) -> Self
-        ensures { result.0 ≡ bits }
-    {
-        ACTUATOR2(bits)
-    }
-
-    pub fn bits(self) -> u8
-        ensures { result ≡ self.0 }
-    {
-        self.0
+        Self::default()
     }
 
     pub fn ACTUATOR_ABSMAX(self) -> u8
@@ -157,27 +157,31 @@ impl ACTUATOR2 {
     }
 }
 
+impl From<u8> for ACTUATOR2 {
+    ghost from_gives = { λ bits register. register.0 ≡ bits };
+
+    fn from(bits: u8) -> Self {
+        ACTUATOR2(bits)
+    }
+}
+
+impl From<ACTUATOR2> for u8 {
+    ghost from_gives = { λ register bits. bits ≡ register.0 };
+
+    fn from(register: ACTUATOR2) -> u8 {
+        register.0
+    }
+}
+
 // ACTUATOR3 register (0x0E).
-#[derive(Clone, Copy)]
+#[derive(Debug, Clone, Copy, PartialEq, Eq, Default)]
 pub struct ACTUATOR3(u8);
 
 impl ACTUATOR3 {
     pub fn new() -> Self
         ensures { result.0 ≡ 0 }
     {
-        ACTUATOR3(0)
-    }
-
-    pub fn from(bits: u8) -> Self
-        ensures { result.0 ≡ bits }
-    {
-        ACTUATOR3(bits)
-    }
-
-    pub fn bits(self) -> u8
-        ensures { result ≡ self.0 }
-    {
-        self.0
+        Self::default()
     }
 
     pub fn IMAX(self) -> u8
@@ -193,27 +197,31 @@ impl ACTUATOR3 {
     }
 }
 
+impl From<u8> for ACTUATOR3 {
+    ghost from_gives = { λ bits register. register.0 ≡ bits };
+
+    fn from(bits: u8) -> Self {
+        ACTUATOR3(bits)
+    }
+}
+
+impl From<ACTUATOR3> for u8 {
+    ghost from_gives = { λ register bits. bits ≡ register.0 };
+
+    fn from(register: ACTUATOR3) -> u8 {
+        register.0
+    }
+}
+
 // CALIB_V2I_H register (0x0F).
-#[derive(Clone, Copy)]
+#[derive(Debug, Clone, Copy, PartialEq, Eq, Default)]
 pub struct CALIB_V2I_H(u8);
 
 impl CALIB_V2I_H {
     pub fn new() -> Self
         ensures { result.0 ≡ 0 }
     {
-        CALIB_V2I_H(0)
-    }
-
-    pub fn from(bits: u8) -> Self
-        ensures { result.0 ≡ bits }
-    {
-        CALIB_V2I_H(bits)
-    }
-
-    pub fn bits(self) -> u8
-        ensures { result ≡ self.0 }
-    {
-        self.0
+        Self::default()
     }
 
     pub fn V2I_FACTOR_H(self) -> u8
@@ -229,27 +237,31 @@ impl CALIB_V2I_H {
     }
 }
 
+impl From<u8> for CALIB_V2I_H {
+    ghost from_gives = { λ bits register. register.0 ≡ bits };
+
+    fn from(bits: u8) -> Self {
+        CALIB_V2I_H(bits)
+    }
+}
+
+impl From<CALIB_V2I_H> for u8 {
+    ghost from_gives = { λ register bits. bits ≡ register.0 };
+
+    fn from(register: CALIB_V2I_H) -> u8 {
+        register.0
+    }
+}
+
 // CALIB_V2I_L register (0x10).
-#[derive(Clone, Copy)]
+#[derive(Debug, Clone, Copy, PartialEq, Eq, Default)]
 pub struct CALIB_V2I_L(u8);
 
 impl CALIB_V2I_L {
     pub fn new() -> Self
         ensures { result.0 ≡ 0 }
     {
-        CALIB_V2I_L(0)
-    }
-
-    pub fn from(bits: u8) -> Self
-        ensures { result.0 ≡ bits }
-    {
-        CALIB_V2I_L(bits)
-    }
-
-    pub fn bits(self) -> u8
-        ensures { result ≡ self.0 }
-    {
-        self.0
+        Self::default()
     }
 
     pub fn V2I_FACTOR_L(self) -> u8
@@ -265,27 +277,31 @@ impl CALIB_V2I_L {
     }
 }
 
+impl From<u8> for CALIB_V2I_L {
+    ghost from_gives = { λ bits register. register.0 ≡ bits };
+
+    fn from(bits: u8) -> Self {
+        CALIB_V2I_L(bits)
+    }
+}
+
+impl From<CALIB_V2I_L> for u8 {
+    ghost from_gives = { λ register bits. bits ≡ register.0 };
+
+    fn from(register: CALIB_V2I_L) -> u8 {
+        register.0
+    }
+}
+
 // TOP_CFG1 register (0x13).
-#[derive(Clone, Copy)]
+#[derive(Debug, Clone, Copy, PartialEq, Eq, Default)]
 pub struct TOP_CFG1(u8);
 
 impl TOP_CFG1 {
     pub fn new() -> Self
         ensures { result.0 ≡ 0 }
     {
-        TOP_CFG1(0)
-    }
-
-    pub fn from(bits: u8) -> Self
-        ensures { result.0 ≡ bits }
-    {
-        TOP_CFG1(bits)
-    }
-
-    pub fn bits(self) -> u8
-        ensures { result ≡ self.0 }
-    {
-        self.0
+        Self::default()
     }
 
     pub fn AMP_PID_EN(self) -> bool
@@ -374,8 +390,24 @@ impl TOP_CFG1 {
     }
 }
 
+impl From<u8> for TOP_CFG1 {
+    ghost from_gives = { λ bits register. register.0 ≡ bits };
+
+    fn from(bits: u8) -> Self {
+        TOP_CFG1(bits)
+    }
+}
+
+impl From<TOP_CFG1> for u8 {
+    ghost from_gives = { λ register bits. bits ≡ register.0 };
+
+    fn from(register: TOP_CFG1) -> u8 {
+        register.0
+    }
+}
+
 // TOP_CFG2 register (0x14).
-#[derive(Clone, Copy)]
+#[derive(Debug, Clone, Copy, PartialEq, Eq, Default)]
 pub struct TOP_CFG2(u8);
 
 impl TOP_CFG2 {
@@ -387,19 +419,7 @@ impl TOP_CFG2 {
     pub fn new() -> Self
         ensures { result.0 ≡ 0 }
     {
-        TOP_CFG2(0)
-    }
-
-    pub fn from(bits: u8) -> Self
-        ensures { result.0 ≡ bits }
-    {
-        TOP_CFG2(bits)
-    }
-
-    pub fn bits(self) -> u8
-        ensures { result ≡ self.0 }
-    {
-        self.0
+        Self::default()
     }
 
     pub fn FULL_BRAKE_THR(self) -> u8
@@ -427,27 +447,31 @@ impl TOP_CFG2 {
     }
 }
 
+impl From<u8> for TOP_CFG2 {
+    ghost from_gives = { λ bits register. register.0 ≡ bits };
+
+    fn from(bits: u8) -> Self {
+        TOP_CFG2(bits)
+    }
+}
+
+impl From<TOP_CFG2> for u8 {
+    ghost from_gives = { λ register bits. bits ≡ register.0 };
+
+    fn from(register: TOP_CFG2) -> u8 {
+        register.0
+    }
+}
+
 // TOP_CFG4 register (0x16).
-#[derive(Clone, Copy)]
+#[derive(Debug, Clone, Copy, PartialEq, Eq, Default)]
 pub struct TOP_CFG4(u8);
 
 impl TOP_CFG4 {
     pub fn new() -> Self
         ensures { result.0 ≡ 0 }
     {
-        TOP_CFG4(0)
-    }
-
-    pub fn from(bits: u8) -> Self
-        ensures { result.0 ≡ bits }
-    {
-        TOP_CFG4(bits)
-    }
-
-    pub fn bits(self) -> u8
-        ensures { result ≡ self.0 }
-    {
-        self.0
+        Self::default()
     }
 
     pub fn TST_CALIB_IMPEDANCE_DIS(self) -> bool
@@ -475,7 +499,24 @@ impl TOP_CFG4 {
     }
 }
 
+impl From<u8> for TOP_CFG4 {
+    ghost from_gives = { λ bits register. register.0 ≡ bits };
+
+    fn from(bits: u8) -> Self {
+        TOP_CFG4(bits)
+    }
+}
+
+impl From<TOP_CFG4> for u8 {
+    ghost from_gives = { λ register bits. bits ≡ register.0 };
+
+    fn from(register: TOP_CFG4) -> u8 {
+        register.0
+    }
+}
+
 // What each named field reads when its register holds `byte`, registers and fields in the written order; a flag reads 0 or 1.
+#[tactic(auto, using(field::proofs::Methods::flag_code))]
 pub fn fields(byte: u8) -> [u8; 18]
     ensures { result ≡ readings actuator byte }
 {
@@ -513,6 +554,7 @@ pub fn fields(byte: u8) -> [u8; 18]
 
 // For each field that is not read-only, in the same order, what its register holds once the field is replaced by `value` in
 // `byte`; a flag is set where `value` is odd.
+#[tactic(auto, using(field::proofs::Methods::odd))]
 pub fn replaced(byte: u8, value: u8) -> [u8; 18]
     ensures { result ≡ replacements read_only actuator byte value }
 {

@@ -1,9 +1,9 @@
 // The registers of the control loop, of operation and of custom waveforms: TOP_INT_CFG1 to SWG_C3 of registers.rs, document
-// 01, "Settings to registers". A register is a byte: `new` is zero, `from` keeps every bit, `bits` hands the byte back; the
-// method of a field's name reads the field, and `with_` before the name alters it. Proved: each method's result, by the
-// field's name in registers/specs/Table.antt, which has the names and widths of the Rust in the written order; `fields` and `replaced`
-// list what all the getters and all the `with_` make of one byte, and equal definitions that go through the table part by
-// part. Left out: what else the attribute `bitfield` makes, such as `set_` methods and printing.
+// 01, "Settings to registers". A register is a byte: `new` is zero, and both `From` keep every bit; the method of a field's
+// name reads the field, and `with_` before the name alters it. Proved: each method's result, by the field's name in
+// registers/specs/Table.antt, which has the names and widths of the Rust in the written order; `fields` and `replaced` list
+// what all the getters and all the `with_` make of one byte, and equal definitions that go through the table part by part.
+// Left out: what else the attribute `bitfield` makes, such as `set_` methods; `Debug` prints the byte, not the fields.
 #![tactic(auto)]
 
 ghost use Rattle.std.specs.Prelude.{◌≡◌};
@@ -14,26 +14,14 @@ ghost use Rattle.registers.specs.Table.{control, read_only, parts_of};
 use field::{flag, get, with, with_flag};
 
 // TOP_INT_CFG1 register (0x17).
-#[derive(Clone, Copy)]
+#[derive(Debug, Clone, Copy, PartialEq, Eq, Default)]
 pub struct TOP_INT_CFG1(u8);
 
 impl TOP_INT_CFG1 {
     pub fn new() -> Self
         ensures { result.0 ≡ 0 }
     {
-        TOP_INT_CFG1(0)
-    }
-
-    pub fn from(bits: u8) -> Self
-        ensures { result.0 ≡ bits }
-    {
-        TOP_INT_CFG1(bits)
-    }
-
-    pub fn bits(self) -> u8
-        ensures { result ≡ self.0 }
-    {
-        self.0
+        Self::default()
     }
 
     pub fn BEMF_FAULT_LIM(self) -> u8
@@ -61,27 +49,31 @@ impl TOP_INT_CFG1 {
     }
 }
 
+impl From<u8> for TOP_INT_CFG1 {
+    ghost from_gives = { λ bits register. register.0 ≡ bits };
+
+    fn from(bits: u8) -> Self {
+        TOP_INT_CFG1(bits)
+    }
+}
+
+impl From<TOP_INT_CFG1> for u8 {
+    ghost from_gives = { λ register bits. bits ≡ register.0 };
+
+    fn from(register: TOP_INT_CFG1) -> u8 {
+        register.0
+    }
+}
+
 // TOP_INT_CFG6_H register (0x1C).
-#[derive(Clone, Copy)]
+#[derive(Debug, Clone, Copy, PartialEq, Eq, Default)]
 pub struct TOP_INT_CFG6_H(u8);
 
 impl TOP_INT_CFG6_H {
     pub fn new() -> Self
         ensures { result.0 ≡ 0 }
     {
-        TOP_INT_CFG6_H(0)
-    }
-
-    pub fn from(bits: u8) -> Self
-        ensures { result.0 ≡ bits }
-    {
-        TOP_INT_CFG6_H(bits)
-    }
-
-    pub fn bits(self) -> u8
-        ensures { result ≡ self.0 }
-    {
-        self.0
+        Self::default()
     }
 
     pub fn FRQ_PID_Kp_H(self) -> u8
@@ -97,27 +89,31 @@ impl TOP_INT_CFG6_H {
     }
 }
 
+impl From<u8> for TOP_INT_CFG6_H {
+    ghost from_gives = { λ bits register. register.0 ≡ bits };
+
+    fn from(bits: u8) -> Self {
+        TOP_INT_CFG6_H(bits)
+    }
+}
+
+impl From<TOP_INT_CFG6_H> for u8 {
+    ghost from_gives = { λ register bits. bits ≡ register.0 };
+
+    fn from(register: TOP_INT_CFG6_H) -> u8 {
+        register.0
+    }
+}
+
 // TOP_INT_CFG6_L register (0x1D).
-#[derive(Clone, Copy)]
+#[derive(Debug, Clone, Copy, PartialEq, Eq, Default)]
 pub struct TOP_INT_CFG6_L(u8);
 
 impl TOP_INT_CFG6_L {
     pub fn new() -> Self
         ensures { result.0 ≡ 0 }
     {
-        TOP_INT_CFG6_L(0)
-    }
-
-    pub fn from(bits: u8) -> Self
-        ensures { result.0 ≡ bits }
-    {
-        TOP_INT_CFG6_L(bits)
-    }
-
-    pub fn bits(self) -> u8
-        ensures { result ≡ self.0 }
-    {
-        self.0
+        Self::default()
     }
 
     pub fn FRQ_PID_Kp_L(self) -> u8
@@ -133,27 +129,31 @@ impl TOP_INT_CFG6_L {
     }
 }
 
+impl From<u8> for TOP_INT_CFG6_L {
+    ghost from_gives = { λ bits register. register.0 ≡ bits };
+
+    fn from(bits: u8) -> Self {
+        TOP_INT_CFG6_L(bits)
+    }
+}
+
+impl From<TOP_INT_CFG6_L> for u8 {
+    ghost from_gives = { λ register bits. bits ≡ register.0 };
+
+    fn from(register: TOP_INT_CFG6_L) -> u8 {
+        register.0
+    }
+}
+
 // TOP_INT_CFG7_H register (0x1E).
-#[derive(Clone, Copy)]
+#[derive(Debug, Clone, Copy, PartialEq, Eq, Default)]
 pub struct TOP_INT_CFG7_H(u8);
 
 impl TOP_INT_CFG7_H {
     pub fn new() -> Self
         ensures { result.0 ≡ 0 }
     {
-        TOP_INT_CFG7_H(0)
-    }
-
-    pub fn from(bits: u8) -> Self
-        ensures { result.0 ≡ bits }
-    {
-        TOP_INT_CFG7_H(bits)
-    }
-
-    pub fn bits(self) -> u8
-        ensures { result ≡ self.0 }
-    {
-        self.0
+        Self::default()
     }
 
     pub fn FRQ_PID_Ki_H(self) -> u8
@@ -169,27 +169,31 @@ impl TOP_INT_CFG7_H {
     }
 }
 
+impl From<u8> for TOP_INT_CFG7_H {
+    ghost from_gives = { λ bits register. register.0 ≡ bits };
+
+    fn from(bits: u8) -> Self {
+        TOP_INT_CFG7_H(bits)
+    }
+}
+
+impl From<TOP_INT_CFG7_H> for u8 {
+    ghost from_gives = { λ register bits. bits ≡ register.0 };
+
+    fn from(register: TOP_INT_CFG7_H) -> u8 {
+        register.0
+    }
+}
+
 // TOP_INT_CFG7_L register (0x1F).
-#[derive(Clone, Copy)]
+#[derive(Debug, Clone, Copy, PartialEq, Eq, Default)]
 pub struct TOP_INT_CFG7_L(u8);
 
 impl TOP_INT_CFG7_L {
     pub fn new() -> Self
         ensures { result.0 ≡ 0 }
     {
-        TOP_INT_CFG7_L(0)
-    }
-
-    pub fn from(bits: u8) -> Self
-        ensures { result.0 ≡ bits }
-    {
-        TOP_INT_CFG7_L(bits)
-    }
-
-    pub fn bits(self) -> u8
-        ensures { result ≡ self.0 }
-    {
-        self.0
+        Self::default()
     }
 
     pub fn FRQ_PID_Ki_L(self) -> u8
@@ -205,8 +209,24 @@ impl TOP_INT_CFG7_L {
     }
 }
 
+impl From<u8> for TOP_INT_CFG7_L {
+    ghost from_gives = { λ bits register. register.0 ≡ bits };
+
+    fn from(bits: u8) -> Self {
+        TOP_INT_CFG7_L(bits)
+    }
+}
+
+impl From<TOP_INT_CFG7_L> for u8 {
+    ghost from_gives = { λ register bits. bits ≡ register.0 };
+
+    fn from(register: TOP_INT_CFG7_L) -> u8 {
+        register.0
+    }
+}
+
 // TOP_INT_CFG8 register (0x20).
-#[derive(Clone, Copy)]
+#[derive(Debug, Clone, Copy, PartialEq, Eq, Default)]
 pub struct TOP_INT_CFG8(u8);
 
 impl TOP_INT_CFG8 {
@@ -218,19 +238,7 @@ impl TOP_INT_CFG8 {
     pub fn new() -> Self
         ensures { result.0 ≡ 0 }
     {
-        TOP_INT_CFG8(0)
-    }
-
-    pub fn from(bits: u8) -> Self
-        ensures { result.0 ≡ bits }
-    {
-        TOP_INT_CFG8(bits)
-    }
-
-    pub fn bits(self) -> u8
-        ensures { result ≡ self.0 }
-    {
-        self.0
+        Self::default()
     }
 
     pub fn FRQ_TRACK_BEMF_LIM(self) -> u8
@@ -267,8 +275,24 @@ impl TOP_INT_CFG8 {
     }
 }
 
+impl From<u8> for TOP_INT_CFG8 {
+    ghost from_gives = { λ bits register. register.0 ≡ bits };
+
+    fn from(bits: u8) -> Self {
+        TOP_INT_CFG8(bits)
+    }
+}
+
+impl From<TOP_INT_CFG8> for u8 {
+    ghost from_gives = { λ register bits. bits ≡ register.0 };
+
+    fn from(register: TOP_INT_CFG8) -> u8 {
+        register.0
+    }
+}
+
 // TOP_CTL1 register (0x22).
-#[derive(Clone, Copy)]
+#[derive(Debug, Clone, Copy, PartialEq, Eq, Default)]
 pub struct TOP_CTL1(u8);
 
 impl TOP_CTL1 {
@@ -284,19 +308,7 @@ impl TOP_CTL1 {
     pub fn new() -> Self
         ensures { result.0 ≡ 0 }
     {
-        TOP_CTL1(0)
-    }
-
-    pub fn from(bits: u8) -> Self
-        ensures { result.0 ≡ bits }
-    {
-        TOP_CTL1(bits)
-    }
-
-    pub fn bits(self) -> u8
-        ensures { result ≡ self.0 }
-    {
-        self.0
+        Self::default()
     }
 
     pub fn OPERATION_MODE(self) -> u8
@@ -345,27 +357,31 @@ impl TOP_CTL1 {
     }
 }
 
+impl From<u8> for TOP_CTL1 {
+    ghost from_gives = { λ bits register. register.0 ≡ bits };
+
+    fn from(bits: u8) -> Self {
+        TOP_CTL1(bits)
+    }
+}
+
+impl From<TOP_CTL1> for u8 {
+    ghost from_gives = { λ register bits. bits ≡ register.0 };
+
+    fn from(register: TOP_CTL1) -> u8 {
+        register.0
+    }
+}
+
 // TOP_CTL2 register (0x23).
-#[derive(Clone, Copy)]
+#[derive(Debug, Clone, Copy, PartialEq, Eq, Default)]
 pub struct TOP_CTL2(u8);
 
 impl TOP_CTL2 {
     pub fn new() -> Self
         ensures { result.0 ≡ 0 }
     {
-        TOP_CTL2(0)
-    }
-
-    pub fn from(bits: u8) -> Self
-        ensures { result.0 ≡ bits }
-    {
-        TOP_CTL2(bits)
-    }
-
-    pub fn bits(self) -> u8
-        ensures { result ≡ self.0 }
-    {
-        self.0
+        Self::default()
     }
 
     pub fn OVERRIDE_VAL(self) -> u8
@@ -381,8 +397,24 @@ impl TOP_CTL2 {
     }
 }
 
+impl From<u8> for TOP_CTL2 {
+    ghost from_gives = { λ bits register. register.0 ≡ bits };
+
+    fn from(bits: u8) -> Self {
+        TOP_CTL2(bits)
+    }
+}
+
+impl From<TOP_CTL2> for u8 {
+    ghost from_gives = { λ register bits. bits ≡ register.0 };
+
+    fn from(register: TOP_CTL2) -> u8 {
+        register.0
+    }
+}
+
 // SEQ_CTL1 register (0x24).
-#[derive(Clone, Copy)]
+#[derive(Debug, Clone, Copy, PartialEq, Eq, Default)]
 pub struct SEQ_CTL1(u8);
 
 impl SEQ_CTL1 {
@@ -394,19 +426,7 @@ impl SEQ_CTL1 {
     pub fn new() -> Self
         ensures { result.0 ≡ 0 }
     {
-        SEQ_CTL1(0)
-    }
-
-    pub fn from(bits: u8) -> Self
-        ensures { result.0 ≡ bits }
-    {
-        SEQ_CTL1(bits)
-    }
-
-    pub fn bits(self) -> u8
-        ensures { result ≡ self.0 }
-    {
-        self.0
+        Self::default()
     }
 
     pub fn SEQ_CONTINUE(self) -> bool
@@ -455,27 +475,31 @@ impl SEQ_CTL1 {
     }
 }
 
+impl From<u8> for SEQ_CTL1 {
+    ghost from_gives = { λ bits register. register.0 ≡ bits };
+
+    fn from(bits: u8) -> Self {
+        SEQ_CTL1(bits)
+    }
+}
+
+impl From<SEQ_CTL1> for u8 {
+    ghost from_gives = { λ register bits. bits ≡ register.0 };
+
+    fn from(register: SEQ_CTL1) -> u8 {
+        register.0
+    }
+}
+
 // SWG_C1 register (0x25).
-#[derive(Clone, Copy)]
+#[derive(Debug, Clone, Copy, PartialEq, Eq, Default)]
 pub struct SWG_C1(u8);
 
 impl SWG_C1 {
     pub fn new() -> Self
         ensures { result.0 ≡ 0 }
     {
-        SWG_C1(0)
-    }
-
-    pub fn from(bits: u8) -> Self
-        ensures { result.0 ≡ bits }
-    {
-        SWG_C1(bits)
-    }
-
-    pub fn bits(self) -> u8
-        ensures { result ≡ self.0 }
-    {
-        self.0
+        Self::default()
     }
 
     pub fn CUSTOM_WAVE_GEN_COEFF1(self) -> u8
@@ -491,27 +515,31 @@ impl SWG_C1 {
     }
 }
 
+impl From<u8> for SWG_C1 {
+    ghost from_gives = { λ bits register. register.0 ≡ bits };
+
+    fn from(bits: u8) -> Self {
+        SWG_C1(bits)
+    }
+}
+
+impl From<SWG_C1> for u8 {
+    ghost from_gives = { λ register bits. bits ≡ register.0 };
+
+    fn from(register: SWG_C1) -> u8 {
+        register.0
+    }
+}
+
 // SWG_C2 register (0x26).
-#[derive(Clone, Copy)]
+#[derive(Debug, Clone, Copy, PartialEq, Eq, Default)]
 pub struct SWG_C2(u8);
 
 impl SWG_C2 {
     pub fn new() -> Self
         ensures { result.0 ≡ 0 }
     {
-        SWG_C2(0)
-    }
-
-    pub fn from(bits: u8) -> Self
-        ensures { result.0 ≡ bits }
-    {
-        SWG_C2(bits)
-    }
-
-    pub fn bits(self) -> u8
-        ensures { result ≡ self.0 }
-    {
-        self.0
+        Self::default()
     }
 
     pub fn CUSTOM_WAVE_GEN_COEFF2(self) -> u8
@@ -527,27 +555,31 @@ impl SWG_C2 {
     }
 }
 
+impl From<u8> for SWG_C2 {
+    ghost from_gives = { λ bits register. register.0 ≡ bits };
+
+    fn from(bits: u8) -> Self {
+        SWG_C2(bits)
+    }
+}
+
+impl From<SWG_C2> for u8 {
+    ghost from_gives = { λ register bits. bits ≡ register.0 };
+
+    fn from(register: SWG_C2) -> u8 {
+        register.0
+    }
+}
+
 // SWG_C3 register (0x27).
-#[derive(Clone, Copy)]
+#[derive(Debug, Clone, Copy, PartialEq, Eq, Default)]
 pub struct SWG_C3(u8);
 
 impl SWG_C3 {
     pub fn new() -> Self
         ensures { result.0 ≡ 0 }
     {
-        SWG_C3(0)
-    }
-
-    pub fn from(bits: u8) -> Self
-        ensures { result.0 ≡ bits }
-    {
-        SWG_C3(bits)
-    }
-
-    pub fn bits(self) -> u8
-        ensures { result ≡ self.0 }
-    {
-        self.0
+        Self::default()
     }
 
     pub fn CUSTOM_WAVE_GEN_COEFF3(self) -> u8
@@ -563,7 +595,24 @@ impl SWG_C3 {
     }
 }
 
+impl From<u8> for SWG_C3 {
+    ghost from_gives = { λ bits register. register.0 ≡ bits };
+
+    fn from(bits: u8) -> Self {
+        SWG_C3(bits)
+    }
+}
+
+impl From<SWG_C3> for u8 {
+    ghost from_gives = { λ register bits. bits ≡ register.0 };
+
+    fn from(register: SWG_C3) -> u8 {
+        register.0
+    }
+}
+
 // What each named field reads when its register holds `byte`, registers and fields in the written order; a flag reads 0 or 1.
+#[tactic(auto, using(field::proofs::Methods::flag_code))]
 pub fn fields(byte: u8) -> [u8; 18]
     ensures { result ≡ readings control byte }
 {
@@ -603,6 +652,7 @@ pub fn fields(byte: u8) -> [u8; 18]
 
 // For each field that is not read-only, in the same order, what its register holds once the field is replaced by `value` in
 // `byte`; a flag is set where `value` is odd.
+#[tactic(auto, using(field::proofs::Methods::odd))]
 pub fn replaced(byte: u8, value: u8) -> [u8; 18]
     ensures { result ≡ replacements read_only control byte value }
 {

@@ -1,10 +1,10 @@
 // The registers of the chip's revision and of its interrupts: CHIP_REV to IRQ_MASK1 of registers.rs, document 01, "Settings
-// to registers". A register is a byte: `new` is zero, `from` keeps every bit, `bits` hands the byte back; the method of a
-// field's name reads the field, and `with_` before the name alters it; the two fields of CHIP_REV are read-only and have no
-// `with_`. Proved: each method's result, by the field's name in registers/specs/Table.antt, which has the names and widths of the Rust
-// in the written order; `fields` and `replaced` list what all the getters and all the `with_` make of one byte, and equal
+// to registers". A register is a byte: `new` is zero, and both `From` keep every bit; the method of a field's name reads the
+// field, and `with_` before the name alters it; the two fields of CHIP_REV are read-only and have no `with_`. Proved: each
+// method's result, by the field's name in registers/specs/Table.antt, which has the names and widths of the Rust in the
+// written order; `fields` and `replaced` list what all the getters and all the `with_` make of one byte, and equal
 // definitions that go through the table part by part. Left out: what else the attribute `bitfield` makes, such as `set_`
-// methods and printing.
+// methods; `Debug` prints the byte, not the fields.
 #![tactic(auto)]
 
 ghost use Rattle.std.specs.Prelude.{◌≡◌};
@@ -15,26 +15,14 @@ ghost use Rattle.registers.specs.Table.{interrupts, read_only, parts_of};
 use field::{flag, get, with_flag};
 
 // Chip revision register.
-#[derive(Clone, Copy)]
+#[derive(Debug, Clone, Copy, PartialEq, Eq, Default)]
 pub struct CHIP_REV(u8);
 
 impl CHIP_REV {
     pub fn new() -> Self
         ensures { result.0 ≡ 0 }
     {
-        CHIP_REV(0)
-    }
-
-    pub fn from(bits: u8) -> Self
-        ensures { result.0 ≡ bits }
-    {
-        CHIP_REV(bits)
-    }
-
-    pub fn bits(self) -> u8
-        ensures { result ≡ self.0 }
-    {
-        self.0
+        Self::default()
     }
 
     pub fn CHIP_REV_MAJOR(self) -> u8
@@ -50,27 +38,31 @@ impl CHIP_REV {
     }
 }
 
+impl From<u8> for CHIP_REV {
+    ghost from_gives = { λ bits register. register.0 ≡ bits };
+
+    fn from(bits: u8) -> Self {
+        CHIP_REV(bits)
+    }
+}
+
+impl From<CHIP_REV> for u8 {
+    ghost from_gives = { λ register bits. bits ≡ register.0 };
+
+    fn from(register: CHIP_REV) -> u8 {
+        register.0
+    }
+}
+
 // IRQ Event 1 register (0x03).
-#[derive(Clone, Copy)]
+#[derive(Debug, Clone, Copy, PartialEq, Eq, Default)]
 pub struct IRQ_EVENT1(u8);
 
 impl IRQ_EVENT1 {
     pub fn new() -> Self
         ensures { result.0 ≡ 0 }
     {
-        IRQ_EVENT1(0)
-    }
-
-    pub fn from(bits: u8) -> Self
-        ensures { result.0 ≡ bits }
-    {
-        IRQ_EVENT1(bits)
-    }
-
-    pub fn bits(self) -> u8
-        ensures { result ≡ self.0 }
-    {
-        self.0
+        Self::default()
     }
 
     pub fn E_SEQ_CONTINUE(self) -> bool
@@ -170,27 +162,31 @@ impl IRQ_EVENT1 {
     }
 }
 
+impl From<u8> for IRQ_EVENT1 {
+    ghost from_gives = { λ bits register. register.0 ≡ bits };
+
+    fn from(bits: u8) -> Self {
+        IRQ_EVENT1(bits)
+    }
+}
+
+impl From<IRQ_EVENT1> for u8 {
+    ghost from_gives = { λ register bits. bits ≡ register.0 };
+
+    fn from(register: IRQ_EVENT1) -> u8 {
+        register.0
+    }
+}
+
 // IRQ Event Warning Diag register (0x04).
-#[derive(Clone, Copy)]
+#[derive(Debug, Clone, Copy, PartialEq, Eq, Default)]
 pub struct IRQ_EVENT_WARNING_DIAG(u8);
 
 impl IRQ_EVENT_WARNING_DIAG {
     pub fn new() -> Self
         ensures { result.0 ≡ 0 }
     {
-        IRQ_EVENT_WARNING_DIAG(0)
-    }
-
-    pub fn from(bits: u8) -> Self
-        ensures { result.0 ≡ bits }
-    {
-        IRQ_EVENT_WARNING_DIAG(bits)
-    }
-
-    pub fn bits(self) -> u8
-        ensures { result ≡ self.0 }
-    {
-        self.0
+        Self::default()
     }
 
     pub fn E_OVERTEMP_WARN(self) -> bool
@@ -242,27 +238,31 @@ impl IRQ_EVENT_WARNING_DIAG {
     }
 }
 
+impl From<u8> for IRQ_EVENT_WARNING_DIAG {
+    ghost from_gives = { λ bits register. register.0 ≡ bits };
+
+    fn from(bits: u8) -> Self {
+        IRQ_EVENT_WARNING_DIAG(bits)
+    }
+}
+
+impl From<IRQ_EVENT_WARNING_DIAG> for u8 {
+    ghost from_gives = { λ register bits. bits ≡ register.0 };
+
+    fn from(register: IRQ_EVENT_WARNING_DIAG) -> u8 {
+        register.0
+    }
+}
+
 // IRQ Event Sequence Diag register (0x05).
-#[derive(Clone, Copy)]
+#[derive(Debug, Clone, Copy, PartialEq, Eq, Default)]
 pub struct IRQ_EVENT_SEQ_DIAG(u8);
 
 impl IRQ_EVENT_SEQ_DIAG {
     pub fn new() -> Self
         ensures { result.0 ≡ 0 }
     {
-        IRQ_EVENT_SEQ_DIAG(0)
-    }
-
-    pub fn from(bits: u8) -> Self
-        ensures { result.0 ≡ bits }
-    {
-        IRQ_EVENT_SEQ_DIAG(bits)
-    }
-
-    pub fn bits(self) -> u8
-        ensures { result ≡ self.0 }
-    {
-        self.0
+        Self::default()
     }
 
     pub fn E_PWM_FAULT(self) -> bool
@@ -302,27 +302,31 @@ impl IRQ_EVENT_SEQ_DIAG {
     }
 }
 
+impl From<u8> for IRQ_EVENT_SEQ_DIAG {
+    ghost from_gives = { λ bits register. register.0 ≡ bits };
+
+    fn from(bits: u8) -> Self {
+        IRQ_EVENT_SEQ_DIAG(bits)
+    }
+}
+
+impl From<IRQ_EVENT_SEQ_DIAG> for u8 {
+    ghost from_gives = { λ register bits. bits ≡ register.0 };
+
+    fn from(register: IRQ_EVENT_SEQ_DIAG) -> u8 {
+        register.0
+    }
+}
+
 // IRQ Status 1 register (0x06).
-#[derive(Clone, Copy)]
+#[derive(Debug, Clone, Copy, PartialEq, Eq, Default)]
 pub struct IRQ_STATUS1(u8);
 
 impl IRQ_STATUS1 {
     pub fn new() -> Self
         ensures { result.0 ≡ 0 }
     {
-        IRQ_STATUS1(0)
-    }
-
-    pub fn from(bits: u8) -> Self
-        ensures { result.0 ≡ bits }
-    {
-        IRQ_STATUS1(bits)
-    }
-
-    pub fn bits(self) -> u8
-        ensures { result ≡ self.0 }
-    {
-        self.0
+        Self::default()
     }
 
     pub fn STA_SEQ_CONTINUE(self) -> bool
@@ -422,27 +426,31 @@ impl IRQ_STATUS1 {
     }
 }
 
+impl From<u8> for IRQ_STATUS1 {
+    ghost from_gives = { λ bits register. register.0 ≡ bits };
+
+    fn from(bits: u8) -> Self {
+        IRQ_STATUS1(bits)
+    }
+}
+
+impl From<IRQ_STATUS1> for u8 {
+    ghost from_gives = { λ register bits. bits ≡ register.0 };
+
+    fn from(register: IRQ_STATUS1) -> u8 {
+        register.0
+    }
+}
+
 // IRQ Mask 1 register (0x07).
-#[derive(Clone, Copy)]
+#[derive(Debug, Clone, Copy, PartialEq, Eq, Default)]
 pub struct IRQ_MASK1(u8);
 
 impl IRQ_MASK1 {
     pub fn new() -> Self
         ensures { result.0 ≡ 0 }
     {
-        IRQ_MASK1(0)
-    }
-
-    pub fn from(bits: u8) -> Self
-        ensures { result.0 ≡ bits }
-    {
-        IRQ_MASK1(bits)
-    }
-
-    pub fn bits(self) -> u8
-        ensures { result ≡ self.0 }
-    {
-        self.0
+        Self::default()
     }
 
     pub fn SEQ_CONTINUE_M(self) -> bool
@@ -542,7 +550,24 @@ impl IRQ_MASK1 {
     }
 }
 
+impl From<u8> for IRQ_MASK1 {
+    ghost from_gives = { λ bits register. register.0 ≡ bits };
+
+    fn from(bits: u8) -> Self {
+        IRQ_MASK1(bits)
+    }
+}
+
+impl From<IRQ_MASK1> for u8 {
+    ghost from_gives = { λ register bits. bits ≡ register.0 };
+
+    fn from(register: IRQ_MASK1) -> u8 {
+        register.0
+    }
+}
+
 // What each named field reads when its register holds `byte`, registers and fields in the written order; a flag reads 0 or 1.
+#[tactic(auto, using(field::proofs::Methods::flag_code))]
 pub fn fields(byte: u8) -> [u8; 33]
     ensures { result ≡ readings interrupts byte }
 {
@@ -591,6 +616,7 @@ pub fn fields(byte: u8) -> [u8; 33]
 
 // For each field that is not read-only, in the same order, what its register holds once the field is replaced by `value` in
 // `byte`; a flag is set where `value` is odd.
+#[tactic(auto, using(field::proofs::Methods::odd))]
 pub fn replaced(byte: u8, value: u8) -> [u8; 31]
     ensures { result ≡ replacements read_only interrupts byte value }
 {

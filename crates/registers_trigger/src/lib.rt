@@ -1,40 +1,31 @@
 // The registers of sequences, triggers, the waveform memory and trims: SEQ_CTL2 to IRQ_MASK2 of registers.rs, document 01,
-// "Settings to registers". A register is a byte: `new` is zero, `from` keeps every bit, `bits` hands the byte back; the
-// method of a field's name reads the field, and `with_` before the name alters it; WAV_MEM_BASE_ADDR is read-only and has no
-// `with_`. Proved: each method's result, by the field's name in registers/specs/Table.antt, which has the names and widths of the Rust
-// in the written order; `fields` and `replaced` list what all the getters and all the `with_` make of one byte, and equal
+// "Settings to registers". A register is a byte: `new` is zero, and both `From` keep every bit; the method of a field's name
+// reads the field, and `with_` before the name alters it; WAV_MEM_BASE_ADDR is read-only and has no `with_`. The three GPI
+// registers keep their own types, whose fields' names have the register's digit, and share the trait `Gpi`. Proved: each
+// method's result, by the field's name in registers/specs/Table.antt, which has the names and widths of the Rust in the
+// written order; `fields` and `replaced` list what all the getters and all the `with_` make of one byte, and equal
 // definitions that go through the table part by part. Left out: what else the attribute `bitfield` makes, such as `set_`
-// methods and printing.
+// methods; `Debug` prints the byte, not the fields.
 #![tactic(auto)]
 
 ghost use Rattle.std.specs.Prelude.{◌≡◌};
 ghost use Rattle.field.specs.Field.{code_of};
 ghost use Rattle.field.specs.Layout.{get_at, is_at, with_at, readings, replacements};
-ghost use Rattle.registers.specs.Table.{trigger, read_only, parts_of};
+ghost use Rattle.registers.specs.Table.{trigger, read_only, address_of, parts_of};
+ghost use Rattle.registers_trigger.specs.Gpi.{Digit, gpi_name, gpi_with};
 
 use field::{flag, get, with, with_flag};
+use registers::Register;
 
 // SEQ_CTL2 register (0x28).
-#[derive(Clone, Copy)]
+#[derive(Debug, Clone, Copy, PartialEq, Eq, Default)]
 pub struct SEQ_CTL2(u8);
 
 impl SEQ_CTL2 {
     pub fn new() -> Self
         ensures { result.0 ≡ 0 }
     {
-        SEQ_CTL2(0)
-    }
-
-    pub fn from(bits: u8) -> Self
-        ensures { result.0 ≡ bits }
-    {
-        SEQ_CTL2(bits)
-    }
-
-    pub fn bits(self) -> u8
-        ensures { result ≡ self.0 }
-    {
-        self.0
+        Self::default()
     }
 
     pub fn PS_SEQ_ID(self) -> u8
@@ -62,27 +53,44 @@ impl SEQ_CTL2 {
     }
 }
 
+impl From<u8> for SEQ_CTL2 {
+    ghost from_gives = { λ bits register. register.0 ≡ bits };
+
+    fn from(bits: u8) -> Self {
+        SEQ_CTL2(bits)
+    }
+}
+
+impl From<SEQ_CTL2> for u8 {
+    ghost from_gives = { λ register bits. bits ≡ register.0 };
+
+    fn from(register: SEQ_CTL2) -> u8 {
+        register.0
+    }
+}
+
+// What the three GPI registers share: the same fields, under names that differ in the register's digit.
+pub trait Gpi {
+    ghost digit: { Digit };
+
+    // The register's address.
+    fn register() -> Register
+        ensures { result.0 ≡ address_of (gpi_name digit) };
+
+    // The register's byte with these fields.
+    fn byte(polarity: u8, multi: bool, sequence_id: u8) -> u8
+        ensures { result ≡ gpi_with digit polarity (code_of multi) sequence_id };
+}
+
 // GPI0 Control register (0x29).
-#[derive(Clone, Copy)]
+#[derive(Debug, Clone, Copy, PartialEq, Eq, Default)]
 pub struct GPI_0_CTL(u8);
 
 impl GPI_0_CTL {
     pub fn new() -> Self
         ensures { result.0 ≡ 0 }
     {
-        GPI_0_CTL(0)
-    }
-
-    pub fn from(bits: u8) -> Self
-        ensures { result.0 ≡ bits }
-    {
-        GPI_0_CTL(bits)
-    }
-
-    pub fn bits(self) -> u8
-        ensures { result ≡ self.0 }
-    {
-        self.0
+        Self::default()
     }
 
     pub fn GPI0_POLARITY(self) -> u8
@@ -122,27 +130,47 @@ impl GPI_0_CTL {
     }
 }
 
+impl From<u8> for GPI_0_CTL {
+    ghost from_gives = { λ bits register. register.0 ≡ bits };
+
+    fn from(bits: u8) -> Self {
+        GPI_0_CTL(bits)
+    }
+}
+
+impl From<GPI_0_CTL> for u8 {
+    ghost from_gives = { λ register bits. bits ≡ register.0 };
+
+    fn from(register: GPI_0_CTL) -> u8 {
+        register.0
+    }
+}
+
+impl Gpi for GPI_0_CTL {
+    ghost digit = { "0" };
+
+    fn register() -> Register {
+        Register::GPI_0_CTL
+    }
+
+    fn byte(polarity: u8, multi: bool, sequence_id: u8) -> u8 {
+        GPI_0_CTL::new()
+            .with_GPI0_POLARITY(polarity)
+            .with_GPI0_MODE(multi)
+            .with_GPI0_SEQUENCE_ID(sequence_id)
+            .0
+    }
+}
+
 // GPI1 Control register (0x2A).
-#[derive(Clone, Copy)]
+#[derive(Debug, Clone, Copy, PartialEq, Eq, Default)]
 pub struct GPI_1_CTL(u8);
 
 impl GPI_1_CTL {
     pub fn new() -> Self
         ensures { result.0 ≡ 0 }
     {
-        GPI_1_CTL(0)
-    }
-
-    pub fn from(bits: u8) -> Self
-        ensures { result.0 ≡ bits }
-    {
-        GPI_1_CTL(bits)
-    }
-
-    pub fn bits(self) -> u8
-        ensures { result ≡ self.0 }
-    {
-        self.0
+        Self::default()
     }
 
     pub fn GPI1_POLARITY(self) -> u8
@@ -182,27 +210,47 @@ impl GPI_1_CTL {
     }
 }
 
+impl From<u8> for GPI_1_CTL {
+    ghost from_gives = { λ bits register. register.0 ≡ bits };
+
+    fn from(bits: u8) -> Self {
+        GPI_1_CTL(bits)
+    }
+}
+
+impl From<GPI_1_CTL> for u8 {
+    ghost from_gives = { λ register bits. bits ≡ register.0 };
+
+    fn from(register: GPI_1_CTL) -> u8 {
+        register.0
+    }
+}
+
+impl Gpi for GPI_1_CTL {
+    ghost digit = { "1" };
+
+    fn register() -> Register {
+        Register::GPI_1_CTL
+    }
+
+    fn byte(polarity: u8, multi: bool, sequence_id: u8) -> u8 {
+        GPI_1_CTL::new()
+            .with_GPI1_POLARITY(polarity)
+            .with_GPI1_MODE(multi)
+            .with_GPI1_SEQUENCE_ID(sequence_id)
+            .0
+    }
+}
+
 // GPI2 Control register (0x2B).
-#[derive(Clone, Copy)]
+#[derive(Debug, Clone, Copy, PartialEq, Eq, Default)]
 pub struct GPI_2_CTL(u8);
 
 impl GPI_2_CTL {
     pub fn new() -> Self
         ensures { result.0 ≡ 0 }
     {
-        GPI_2_CTL(0)
-    }
-
-    pub fn from(bits: u8) -> Self
-        ensures { result.0 ≡ bits }
-    {
-        GPI_2_CTL(bits)
-    }
-
-    pub fn bits(self) -> u8
-        ensures { result ≡ self.0 }
-    {
-        self.0
+        Self::default()
     }
 
     pub fn GPI2_POLARITY(self) -> u8
@@ -242,27 +290,47 @@ impl GPI_2_CTL {
     }
 }
 
+impl From<u8> for GPI_2_CTL {
+    ghost from_gives = { λ bits register. register.0 ≡ bits };
+
+    fn from(bits: u8) -> Self {
+        GPI_2_CTL(bits)
+    }
+}
+
+impl From<GPI_2_CTL> for u8 {
+    ghost from_gives = { λ register bits. bits ≡ register.0 };
+
+    fn from(register: GPI_2_CTL) -> u8 {
+        register.0
+    }
+}
+
+impl Gpi for GPI_2_CTL {
+    ghost digit = { "2" };
+
+    fn register() -> Register {
+        Register::GPI_2_CTL
+    }
+
+    fn byte(polarity: u8, multi: bool, sequence_id: u8) -> u8 {
+        GPI_2_CTL::new()
+            .with_GPI2_POLARITY(polarity)
+            .with_GPI2_MODE(multi)
+            .with_GPI2_SEQUENCE_ID(sequence_id)
+            .0
+    }
+}
+
 // MEM_CTL1 register (0x2C).
-#[derive(Clone, Copy)]
+#[derive(Debug, Clone, Copy, PartialEq, Eq, Default)]
 pub struct MEM_CTL1(u8);
 
 impl MEM_CTL1 {
     pub fn new() -> Self
         ensures { result.0 ≡ 0 }
     {
-        MEM_CTL1(0)
-    }
-
-    pub fn from(bits: u8) -> Self
-        ensures { result.0 ≡ bits }
-    {
-        MEM_CTL1(bits)
-    }
-
-    pub fn bits(self) -> u8
-        ensures { result ≡ self.0 }
-    {
-        self.0
+        Self::default()
     }
 
     pub fn WAV_MEM_BASE_ADDR(self) -> u8
@@ -272,27 +340,31 @@ impl MEM_CTL1 {
     }
 }
 
+impl From<u8> for MEM_CTL1 {
+    ghost from_gives = { λ bits register. register.0 ≡ bits };
+
+    fn from(bits: u8) -> Self {
+        MEM_CTL1(bits)
+    }
+}
+
+impl From<MEM_CTL1> for u8 {
+    ghost from_gives = { λ register bits. bits ≡ register.0 };
+
+    fn from(register: MEM_CTL1) -> u8 {
+        register.0
+    }
+}
+
 // MEM_CTL2 register (0x2D).
-#[derive(Clone, Copy)]
+#[derive(Debug, Clone, Copy, PartialEq, Eq, Default)]
 pub struct MEM_CTL2(u8);
 
 impl MEM_CTL2 {
     pub fn new() -> Self
         ensures { result.0 ≡ 0 }
     {
-        MEM_CTL2(0)
-    }
-
-    pub fn from(bits: u8) -> Self
-        ensures { result.0 ≡ bits }
-    {
-        MEM_CTL2(bits)
-    }
-
-    pub fn bits(self) -> u8
-        ensures { result ≡ self.0 }
-    {
-        self.0
+        Self::default()
     }
 
     pub fn WAV_MEM_LOCK(self) -> bool
@@ -308,27 +380,31 @@ impl MEM_CTL2 {
     }
 }
 
+impl From<u8> for MEM_CTL2 {
+    ghost from_gives = { λ bits register. register.0 ≡ bits };
+
+    fn from(bits: u8) -> Self {
+        MEM_CTL2(bits)
+    }
+}
+
+impl From<MEM_CTL2> for u8 {
+    ghost from_gives = { λ register bits. bits ≡ register.0 };
+
+    fn from(register: MEM_CTL2) -> u8 {
+        register.0
+    }
+}
+
 // FRQ_PHASE_H register (0x48).
-#[derive(Clone, Copy)]
+#[derive(Debug, Clone, Copy, PartialEq, Eq, Default)]
 pub struct FRQ_PHASE_H(u8);
 
 impl FRQ_PHASE_H {
     pub fn new() -> Self
         ensures { result.0 ≡ 0 }
     {
-        FRQ_PHASE_H(0)
-    }
-
-    pub fn from(bits: u8) -> Self
-        ensures { result.0 ≡ bits }
-    {
-        FRQ_PHASE_H(bits)
-    }
-
-    pub fn bits(self) -> u8
-        ensures { result ≡ self.0 }
-    {
-        self.0
+        Self::default()
     }
 
     pub fn DELAY_H(self) -> u8
@@ -344,27 +420,31 @@ impl FRQ_PHASE_H {
     }
 }
 
+impl From<u8> for FRQ_PHASE_H {
+    ghost from_gives = { λ bits register. register.0 ≡ bits };
+
+    fn from(bits: u8) -> Self {
+        FRQ_PHASE_H(bits)
+    }
+}
+
+impl From<FRQ_PHASE_H> for u8 {
+    ghost from_gives = { λ register bits. bits ≡ register.0 };
+
+    fn from(register: FRQ_PHASE_H) -> u8 {
+        register.0
+    }
+}
+
 // FRQ_PHASE_L register (0x49).
-#[derive(Clone, Copy)]
+#[derive(Debug, Clone, Copy, PartialEq, Eq, Default)]
 pub struct FRQ_PHASE_L(u8);
 
 impl FRQ_PHASE_L {
     pub fn new() -> Self
         ensures { result.0 ≡ 0 }
     {
-        FRQ_PHASE_L(0)
-    }
-
-    pub fn from(bits: u8) -> Self
-        ensures { result.0 ≡ bits }
-    {
-        FRQ_PHASE_L(bits)
-    }
-
-    pub fn bits(self) -> u8
-        ensures { result ≡ self.0 }
-    {
-        self.0
+        Self::default()
     }
 
     pub fn DELAY_SHIFT_L(self) -> u8
@@ -392,27 +472,31 @@ impl FRQ_PHASE_L {
     }
 }
 
+impl From<u8> for FRQ_PHASE_L {
+    ghost from_gives = { λ bits register. register.0 ≡ bits };
+
+    fn from(bits: u8) -> Self {
+        FRQ_PHASE_L(bits)
+    }
+}
+
+impl From<FRQ_PHASE_L> for u8 {
+    ghost from_gives = { λ register bits. bits ≡ register.0 };
+
+    fn from(register: FRQ_PHASE_L) -> u8 {
+        register.0
+    }
+}
+
 // TRIM4 register (0x60).
-#[derive(Clone, Copy)]
+#[derive(Debug, Clone, Copy, PartialEq, Eq, Default)]
 pub struct TRIM4(u8);
 
 impl TRIM4 {
     pub fn new() -> Self
         ensures { result.0 ≡ 0 }
     {
-        TRIM4(0)
-    }
-
-    pub fn from(bits: u8) -> Self
-        ensures { result.0 ≡ bits }
-    {
-        TRIM4(bits)
-    }
-
-    pub fn bits(self) -> u8
-        ensures { result ≡ self.0 }
-    {
-        self.0
+        Self::default()
     }
 
     pub fn LOOP_FILT_RES_TRIM(self) -> u8
@@ -440,27 +524,31 @@ impl TRIM4 {
     }
 }
 
+impl From<u8> for TRIM4 {
+    ghost from_gives = { λ bits register. register.0 ≡ bits };
+
+    fn from(bits: u8) -> Self {
+        TRIM4(bits)
+    }
+}
+
+impl From<TRIM4> for u8 {
+    ghost from_gives = { λ register bits. bits ≡ register.0 };
+
+    fn from(register: TRIM4) -> u8 {
+        register.0
+    }
+}
+
 // TOP_CFG5 register (0x6E).
-#[derive(Clone, Copy)]
+#[derive(Debug, Clone, Copy, PartialEq, Eq, Default)]
 pub struct TOP_CFG5(u8);
 
 impl TOP_CFG5 {
     pub fn new() -> Self
         ensures { result.0 ≡ 0 }
     {
-        TOP_CFG5(0)
-    }
-
-    pub fn from(bits: u8) -> Self
-        ensures { result.0 ≡ bits }
-    {
-        TOP_CFG5(bits)
-    }
-
-    pub fn bits(self) -> u8
-        ensures { result ≡ self.0 }
-    {
-        self.0
+        Self::default()
     }
 
     pub fn V2I_FACTOR_OFFSET_EN(self) -> bool
@@ -476,27 +564,31 @@ impl TOP_CFG5 {
     }
 }
 
+impl From<u8> for TOP_CFG5 {
+    ghost from_gives = { λ bits register. register.0 ≡ bits };
+
+    fn from(bits: u8) -> Self {
+        TOP_CFG5(bits)
+    }
+}
+
+impl From<TOP_CFG5> for u8 {
+    ghost from_gives = { λ register bits. bits ≡ register.0 };
+
+    fn from(register: TOP_CFG5) -> u8 {
+        register.0
+    }
+}
+
 // IRQ_MASK2 register (0x83).
-#[derive(Clone, Copy)]
+#[derive(Debug, Clone, Copy, PartialEq, Eq, Default)]
 pub struct IRQ_MASK2(u8);
 
 impl IRQ_MASK2 {
     pub fn new() -> Self
         ensures { result.0 ≡ 0 }
     {
-        IRQ_MASK2(0)
-    }
-
-    pub fn from(bits: u8) -> Self
-        ensures { result.0 ≡ bits }
-    {
-        IRQ_MASK2(bits)
-    }
-
-    pub fn bits(self) -> u8
-        ensures { result ≡ self.0 }
-    {
-        self.0
+        Self::default()
     }
 
     pub fn ADC_SAT_M(self) -> bool
@@ -512,7 +604,24 @@ impl IRQ_MASK2 {
     }
 }
 
+impl From<u8> for IRQ_MASK2 {
+    ghost from_gives = { λ bits register. register.0 ≡ bits };
+
+    fn from(bits: u8) -> Self {
+        IRQ_MASK2(bits)
+    }
+}
+
+impl From<IRQ_MASK2> for u8 {
+    ghost from_gives = { λ register bits. bits ≡ register.0 };
+
+    fn from(register: IRQ_MASK2) -> u8 {
+        register.0
+    }
+}
+
 // What each named field reads when its register holds `byte`, registers and fields in the written order; a flag reads 0 or 1.
+#[tactic(auto, using(field::proofs::Methods::flag_code))]
 pub fn fields(byte: u8) -> [u8; 20]
     ensures { result ≡ readings trigger byte }
 {
@@ -553,6 +662,7 @@ pub fn fields(byte: u8) -> [u8; 20]
 
 // For each field that is not read-only, in the same order, what its register holds once the field is replaced by `value` in
 // `byte`; a flag is set where `value` is odd.
+#[tactic(auto, using(field::proofs::Methods::odd))]
 pub fn replaced(byte: u8, value: u8) -> [u8; 19]
     ensures { result ≡ replacements read_only trigger byte value }
 {

@@ -78,7 +78,7 @@ pub fn enabled(mode: OperationMode) -> u8
         .with_OPERATION_MODE(mode.into())
         .with_STANDBY_EN(false)
         .with_SEQ_START(false);
-    top_ctl1.bits()
+    top_ctl1.into()
 }
 
 // 1 is unlocked.
@@ -86,7 +86,7 @@ pub fn enabled(mode: OperationMode) -> u8
 pub fn mem_ctl2(unlocked: bool) -> u8
     ensures { result ≡ spec.mem_ctl2 unlocked }
 {
-    MEM_CTL2::new().with_WAV_MEM_LOCK(unlocked).bits()
+    MEM_CTL2::new().with_WAV_MEM_LOCK(unlocked).into()
 }
 
 #[tactic(auto, unfolding(crate::specs::Sessions::seq_ctl2))]
@@ -96,7 +96,7 @@ pub fn seq_ctl2(sequence_id: u8, loops: u8) -> u8
     SEQ_CTL2::new()
         .with_PS_SEQ_ID(sequence_id)
         .with_PS_SEQ_LOOP(loops)
-        .bits()
+        .into()
 }
 
 // ---- an upload

@@ -162,7 +162,7 @@ fn addresses_are_the_published_ones() {
 }
 
 /// Each constant of `Register` has the address that the published text gives its name, and `all` goes through them in order, as
-/// do the calls of `named`, each with a constant and its own name.
+/// does `NAMED`, each constant beside its own name.
 #[test]
 fn constants_are_the_published_addresses() {
     let text = text("crates/registers/src/lib.rt");
@@ -170,9 +170,9 @@ fn constants_are_the_published_addresses() {
     let mut order = Vec::new();
     let mut named = Vec::new();
     for line in text.lines().map(str::trim) {
-        if let Some(rest) = line.strip_prefix("named(b\"") {
+        if let Some(rest) = line.strip_prefix("(\"") {
             let (name, constant) =
-                rest.strip_suffix(");").unwrap().split_once("\", Register::").unwrap();
+                rest.strip_suffix("),").unwrap().split_once("\", Register::").unwrap();
             assert_eq!(name, constant);
             named.push(name.to_string());
         } else if let Some(rest) = line.strip_prefix("pub const ") {

@@ -15,7 +15,7 @@ gives register field p a v n = λ i. Write (a i) ((v ∙ ap (λ (b : ℕ). with_
 pub returns : goal.returns
 returns c =
     let a = c.args in
-    let first = gives "SWG_C1" "CUSTOM_WAVE_GEN_COEFF1" a.p1 c.address.ensures (c.bits.ensures ∙ c.with_CUSTOM_WAVE_GEN_COEFF1-swg_c1.ensures) c.new.ensures in
-    let second = gives "SWG_C2" "CUSTOM_WAVE_GEN_COEFF2" a.p2 c.address-2.ensures (c.bits-2.ensures ∙ c.with_CUSTOM_WAVE_GEN_COEFF2-swg_c2.ensures) c.new-2.ensures in
-    let third = gives "SWG_C3" "CUSTOM_WAVE_GEN_COEFF3" a.p3 c.address-3.ensures (c.bits-3.ensures ∙ c.with_CUSTOM_WAVE_GEN_COEFF3-swg_c3.ensures) c.new-3.ensures in
+    let first = gives "SWG_C1" "CUSTOM_WAVE_GEN_COEFF1" a.p1 c.address.ensures (c.into.ensures ∙ c.with_CUSTOM_WAVE_GEN_COEFF1-swg_c1.ensures) c.new.ensures in
+    let second = gives "SWG_C2" "CUSTOM_WAVE_GEN_COEFF2" a.p2 c.address-2.ensures (c.into-2.ensures ∙ c.with_CUSTOM_WAVE_GEN_COEFF2-swg_c2.ensures) c.new-2.ensures in
+    let third = gives "SWG_C3" "CUSTOM_WAVE_GEN_COEFF3" a.p3 c.address-3.ensures (c.into-3.ensures ∙ c.with_CUSTOM_WAVE_GEN_COEFF3-swg_c3.ensures) c.new-3.ensures in
     ran _ _ _ (_ ∷ []) (_ ∷ _ ∷ []) (omega arith) (runs_one _ _ c.run.ensures first) (on c.push-2.ensures (on c.push.ensures refl second) third)

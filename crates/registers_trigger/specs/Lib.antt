@@ -1,0 +1,2 @@
+-- The definitions that the contracts of `Gpi` cite.
+pub mod Gpi
