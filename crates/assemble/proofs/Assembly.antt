@@ -1,5 +1,6 @@
 -- What the code runs call by call answers and leaves what the calls, told apart by their builders, do: one call, then a list.
 -- Assumes nothing.
+use Rattle.std.specs.Prelude.{Option, Some, None}
 use mathlib.Core.Path.{◌≡◌, refl, sym, ap, ap₂, ◌∙◌}
 use mathlib.Core.Bool.{Bool, true, false, cond}
 use mathlib.Core.List.{List, [], ◌∷◌, ◌++◌}
@@ -15,7 +16,6 @@ use Rattle.sequence.specs.declared.SequenceBuilder.{SequenceBuilder}
 use Rattle.sequence.specs.Sequence.{new_sequence, with_frame}
 use Rattle.calls.specs.Said.{Call}
 use Rattle.calls.specs.Said as Call
-use Rattle.calls.specs.declared.UnderWay.{UnderWay}
 use Rattle.calls.specs.declared.Builders.{Builders}
 use Rattle.calls.specs.Calls.{calls_in, builders, frame_begun, uses}
 use Rattle.memory.specs.declared.WaveformMemoryBuilder.{WaveformMemoryBuilder}
@@ -28,10 +28,10 @@ use Rattle.assemble.specs.Flat.{State, state, flat_called}
 use Rattle.assemble.proofs.Flat.{nothing_yet, flat_after, flat_answers}
 
 -- the frame under construction that calls make
-abbrev pub under_way : List FrameCall → Told FrameBuilder → UnderWay
-under_way ks t = on_told t (λ f. UnderWay.Begun (frame_ran f ks)) (λ n. UnderWay.NotBegun)
+abbrev pub under_way : List FrameCall → Told FrameBuilder → Option FrameBuilder
+under_way ks t = on_told t (λ f. Some (frame_ran f ks)) (λ n. None)
 
-abbrev frame_in : FrameCalls → UnderWay
+abbrev frame_in : FrameCalls → Option FrameBuilder
 frame_in m = under_way m.calls (begun_by m.begin)
 
 -- the builders that the calls of each make
@@ -60,27 +60,27 @@ module _ (g : Groups) where
   abbrev b : Builders
   b = (mirror g).builders
 
-  abbrev on_frame : ℕ → UnderWay → Handed Builders
+  abbrev on_frame : ℕ → Option FrameBuilder → Handed Builders
   on_frame n f = handed n (builders b.snippet f b.sequence)
 
   -- a call on the frame
-  abbrev sets : FrameCall → UnderWay → Handed Builders
-  sets k u = on_told (frame_begun u) (λ f. on_frame (frame_step f k).number (UnderWay.Begun (frame_step f k).builder)) (λ n. refused n b)
+  abbrev sets : FrameCall → Option FrameBuilder → Handed Builders
+  sets k u = on_told (frame_begun u) (λ f. on_frame (frame_step f k).number (Some (frame_step f k).builder)) (λ n. refused n b)
 
   set_call : (k : FrameCall) (ks : List FrameCall) (t : Told FrameBuilder) → Three t → b.frame ≡ under_way ks t
       → sets k (under_way ks t) ≡ on_frame (answer_on t ks k) (under_way (ks ++ (k ∷ [])) t)
-  set_call k ks (gives f) h e = ap (λ (x : FrameBuilder). on_frame (frame_step (frame_ran f ks) k).number (UnderWay.Begun x)) (ran_append frame_step f ks (k ∷ []))
+  set_call k ks (gives f) h e = ap (λ (x : FrameBuilder). on_frame (frame_step (frame_ran f ks) k).number (Some x)) (ran_append frame_step f ks (k ∷ []))
   set_call k ks (refuses n) h e = ap₂ on_frame (sym h) e
 
   -- the frame added
-  abbrev added : Handed SequenceBuilder → UnderWay → Handed Builders
+  abbrev added : Handed SequenceBuilder → Option FrameBuilder → Handed Builders
   added r f = record { number = r.number; builder = record { snippet = b.snippet; frame = f; sequence = r.builder } }
 
-  frame_left : (t : Bool) → cond t (frame_in g.frame) UnderWay.NotBegun ≡ frame_in (cond t g.frame no_frame)
+  frame_left : (t : Bool) → cond t (frame_in g.frame) None ≡ frame_in (cond t g.frame no_frame)
   frame_left true = refl
   frame_left false = refl
 
-  abbrev adds : UnderWay → Handed Builders
+  abbrev adds : Option FrameBuilder → Handed Builders
   adds u = on_told (frame_begun u) (λ f. uses b (with_frame b.sequence (built_frame f))) (λ n. refused n b)
 
   add_call : (t : Told FrameBuilder) → Three t → b.frame ≡ under_way g.frame.calls t

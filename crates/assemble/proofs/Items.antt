@@ -1,4 +1,5 @@
 -- The items under construction hold what the accepted calls added. Assumes nothing.
+use Rattle.std.specs.Prelude.{Some, None}
 use mathlib.Core.Path.{◌≡◌, refl, sym, ap, ◌∙◌}
 use mathlib.Core.Bool.{Bool, true, false, cond}
 use mathlib.Core.List.{List, [], ◌∷◌, map}
@@ -13,7 +14,6 @@ use Rattle.sequence.specs.Sequence.{no_sequence, sequence_bytes}
 use Rattle.frame.specs.declared.FrameBuilder.{FrameBuilder}
 use Rattle.frame.specs.Frame.{bytes_of, frame_bytes, built_frame}
 use Rattle.content.specs.Content.{byte_of, frames_bytes}
-use Rattle.calls.specs.declared.UnderWay.TheVariants as UnderWay
 use Rattle.calls.specs.Calls.{frame_begun}
 use Rattle.pattern.specs.Calls.{snippet_from, points_from, begun_by, FrameCalls, frame_from, sequence_from, frames_from}
 use Rattle.pattern.proofs.Items.{frame_ran}
@@ -43,7 +43,7 @@ frames_some (f ∷ fs) n e = le-ltb n 1 (omega (arith, e, length-append (bytes_o
 -- a frame that is begun is built of its fields
 module _ (m : FrameCalls) where
   frame_told : (t : Told FrameBuilder) → FrameOutcome m t → Three t
-      → on_told (frame_begun (on_told t (λ f. UnderWay.Begun (frame_ran f m.calls)) (λ n. UnderWay.NotBegun))) (λ f. gives (frame_bytes (built_frame f))) refuses
+      → on_told (frame_begun (on_told t (λ f. Some (frame_ran f m.calls)) (λ n. None))) (λ f. gives (frame_bytes (built_frame f))) refuses
       ≡ on_told t (λ f. gives (bytes_of (frame_from m))) refuses
   frame_told (gives f) w h = ap gives (built_bytes (frame_ran f m.calls) ∙ ap bytes_of w.0)
   frame_told (refuses n) w h = ap refuses (sym h)

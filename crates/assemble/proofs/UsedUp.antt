@@ -1,4 +1,5 @@
 -- What a call finds. Assumes nothing.
+use Rattle.std.specs.Prelude.{Option, Some}
 use mathlib.Core.Path.{◌≡◌, refl, sym, ap, ◌∙◌}
 use mathlib.Core.Bool.{false}
 use mathlib.Core.List.{List, [], ◌∷◌, ◌++◌}
@@ -13,7 +14,6 @@ use Rattle.sequence.specs.Sequence.{new_sequence, built_sequence}
 use Rattle.frame.specs.declared.Gain.TheVariants.{Full}
 use Rattle.calls.specs.Said.{Call}
 use Rattle.calls.specs.Said as Call
-use Rattle.calls.specs.declared.UnderWay.{UnderWay}
 use Rattle.calls.specs.declared.Builders.{Builders}
 use Rattle.memory.specs.Memory.{new_memory}
 use Rattle.pattern.specs.Calls.{SnippetCall, snippet_step, snippet_from, FrameCall, gain, frame_step, Begin, begun_by, FrameCalls, sequence_step, sequence_from, MemoryCall, add_snippet, add_sequence, memory_step, memory_from}
@@ -28,7 +28,7 @@ use Rattle.assemble.proofs.Steps.{snippet_answers, frame_answers, sequence_answe
 
 -- a frame under construction, after a call on it that was refused
 frame_left : (t : Told FrameBuilder) (ks : List FrameCall) (k : FrameCall) → 0 < answer_on t ks k → under_way (ks ++ (k ∷ [])) t ≡ under_way ks t
-frame_left (gives f) ks k h = ap UnderWay.Begun (sym (ran_append frame_step f ks (k ∷ [])) ∙ (frame_answers (frame_ran f ks) k).1 h)
+frame_left (gives f) ks k h = ap Some (sym (ran_append frame_step f ks (k ∷ [])) ∙ (frame_answers (frame_ran f ks) k).1 h)
 frame_left (refuses n) ks k h = refl
 
 -- an item that was refused stays
@@ -50,7 +50,7 @@ module _ (g : Groups) where
   left (Call.builder (Call.begin_frame k)) d h = absurd (d k refl)
   left (Call.builder (Call.on_frame k)) d h =
       let e = frame_left (begun_by g.frame.begin) g.frame.calls k h in
-      record { builders = ap (λ (f : UnderWay). record { snippet = b.snippet; frame = f; sequence = b.sequence }) e; memory = refl }
+      record { builders = ap (λ (f : Option FrameBuilder). record { snippet = b.snippet; frame = f; sequence = b.sequence }) e; memory = refl }
   left (Call.builder Call.sequence_new) d h = absurd (omega arith)
   left (Call.builder Call.add_frame) d h =
       let e = sym (ran_append sequence_step new_sequence g.sequence (g.frame ∷ [])) ∙ (sequence_answers b.sequence g.frame.calls (begun_by g.frame.begin) (three g.frame.begin)).1 h in

@@ -1,10 +1,9 @@
 -- A list of builder calls on one builder of each kind, told apart by the builders that they go to: the lists of calls that demand 3 speaks
 -- of (document 01, 'The hundred bytes', second paragraph). Every exported function that takes a list of calls is promised by this.
-use Rattle.std.specs.Prelude.{ℕ, suc, ◌+◌, ◌*◌, min, false, cond, List, [], ◌∷◌, ◌++◌, ltb}
+use Rattle.std.specs.Prelude.{ℕ, suc, ◌+◌, ◌*◌, min, false, cond, List, [], ◌∷◌, ◌++◌, ltb, Some, None}
 use Rattle.errors.specs.Told.{on_told, told_number, Handed, handed, Built}
 use Rattle.calls.specs.Said.{Call}
 use Rattle.calls.specs.Said as Call
-use Rattle.calls.specs.declared.UnderWay.TheVariants as UnderWay
 use Rattle.calls.specs.declared.Builders.{Builders}
 use Rattle.calls.specs.Calls.{calls_in, builders}
 use Rattle.memory.specs.declared.WaveformMemory.{WaveformMemory}
@@ -75,7 +74,7 @@ answers_of bytes = answers_to grouped no_groups (calls_in bytes)
 -- the snippet, the frame and the sequence under construction after the calls
 abbrev pub builders_in : Groups → Builders
 builders_in g =
-    builders (snippet_from g.snippet) (on_told (begun_by g.frame.begin) (λ f. UnderWay.Begun (ran frame_step f g.frame.calls)) (λ n. UnderWay.NotBegun))
+    builders (snippet_from g.snippet) (on_told (begun_by g.frame.begin) (λ f. Some (ran frame_step f g.frame.calls)) (λ n. None))
     (sequence_from g.sequence)
 
 abbrev pub builders_of : List ℕ → Builders

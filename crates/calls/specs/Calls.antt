@@ -1,6 +1,6 @@
 -- Builder calls as bytes, and calls on one snippet, one frame and one sequence under construction: document 01, 'The hundred bytes',
 -- second paragraph, "Each call gets what the last handed back".
-use Rattle.std.specs.Prelude.{ℕ, ◌+◌, ◌*◌, cond, List, [], ◌∷◌, ltb, length, get_or}
+use Rattle.std.specs.Prelude.{ℕ, ◌+◌, ◌*◌, cond, List, [], ◌∷◌, ltb, length, get_or, Option, Some, None}
 use Rattle.errors.specs.Told.{Told, gives, refuses, on_told, told_number, Handed, handed, accepted, refused}
 use Rattle.snippet.specs.declared.SnippetBuilder.{SnippetBuilder}
 use Rattle.snippet.specs.Snippet.{new_snippet}
@@ -12,10 +12,6 @@ use Rattle.sequence.specs.Sequence.{new_sequence, with_frame}
 use Rattle.pattern.specs.Calls.{ramp, step, point, snippet_step, FrameCall, gain, timebase, loop_count, frequency_hz, frame_step, new, silence, begun_by}
 use Rattle.calls.specs.Said.{BuilderCall, Call}
 use Rattle.calls.specs.Said as Call
-use Rattle.calls.specs.declared.FieldCall.{FieldCall}
-use Rattle.calls.specs.declared.FieldCall.TheVariants as Field
-use Rattle.calls.specs.declared.UnderWay.{UnderWay}
-use Rattle.calls.specs.declared.UnderWay.TheVariants as UnderWay
 use Rattle.calls.specs.declared.Builders.{Builders}
 use Rattle.calls.specs.declared.Record.{Record}
 
@@ -58,25 +54,25 @@ calls_in (code ∷ a ∷ b ∷ last ∷ r) = call_of (record_of code a b) ∷ ca
 
 -- ---- one call on the three builders
 
-abbrev pub builders : SnippetBuilder → UnderWay → SequenceBuilder → Builders
+abbrev pub builders : SnippetBuilder → Option FrameBuilder → SequenceBuilder → Builders
 builders s f q = record { snippet = s; frame = f; sequence = q }
 
 -- no frame is begun
 abbrev pub started : Builders
-started = builders new_snippet UnderWay.NotBegun new_sequence
+started = builders new_snippet None new_sequence
 
 -- the frame under construction: one that is not begun is refused with 3, as `new` of number 0 is
-abbrev pub frame_begun : UnderWay → Told FrameBuilder
-frame_begun UnderWay.NotBegun = refuses 3
-frame_begun (UnderWay.Begun f) = gives f
+abbrev pub frame_begun : Option FrameBuilder → Told FrameBuilder
+frame_begun None = refuses 3
+frame_begun (Some f) = gives f
 
 -- what `new` or `silence` leaves under construction: where it is refused, no frame
-abbrev pub under_way : Told FrameBuilder → UnderWay
-under_way t = on_told t UnderWay.Begun (λ n. UnderWay.NotBegun)
+abbrev pub under_way : Told FrameBuilder → Option FrameBuilder
+under_way t = on_told t Some (λ n. None)
 
 -- a frame that was accepted is used up
 abbrev pub uses : Builders → Handed SequenceBuilder → Handed Builders
-uses b s = handed s.number (builders b.snippet (cond (ltb 0 s.number) b.frame UnderWay.NotBegun) s.builder)
+uses b s = handed s.number (builders b.snippet (cond (ltb 0 s.number) b.frame None) s.builder)
 
 -- the call's number, and the builders after it; a call on one of the three leaves the other two
 abbrev pub called : Builders → BuilderCall → Handed Builders
@@ -86,7 +82,7 @@ called b (Call.on_snippet k) =
 called b (Call.begin_frame k) = handed (told_number (begun_by k)) (builders b.snippet (under_way (begun_by k)) b.sequence)
 called b (Call.on_frame k) =
     on_told (frame_begun b.frame)
-    (λ f. handed (frame_step f k).number (builders b.snippet (UnderWay.Begun (frame_step f k).builder) b.sequence))
+    (λ f. handed (frame_step f k).number (builders b.snippet (Some (frame_step f k).builder) b.sequence))
     (λ n. refused n b)
 called b Call.sequence_new = accepted (builders b.snippet b.frame new_sequence)
 called b Call.add_frame = on_told (frame_begun b.frame) (λ f. uses b (with_frame b.sequence (built_frame f))) (λ n. refused n b)
@@ -97,11 +93,3 @@ called_by b (Call.builder k) = called b k
 called_by b Call.add_snippet = refused 14 b
 called_by b Call.add_sequence = refused 14 b
 called_by b Call.unknown = refused 14 b
-
--- ---- as the private functions take it
-
-abbrev pub field_of : FieldCall → FrameCall
-field_of (Field.Gain c) = gain (gain_at c)
-field_of (Field.Timebase c) = timebase (timebase_at c)
-field_of (Field.LoopCount k) = loop_count k
-field_of (Field.FrequencyHz f) = frequency_hz f

@@ -1,4 +1,6 @@
 -- Every item is short or a refusal, so its answer has room in a number. Assumes nothing.
+use Rattle.std.specs.Prelude.{Option, Some, None}
+use Rattle.frame.specs.declared.FrameBuilder.{FrameBuilder}
 use mathlib.Core.Path.{sym, subst}
 use mathlib.Core.Bool.{Bool, true, false, cond}
 use mathlib.Core.List.{List, ◌++◌}
@@ -15,14 +17,13 @@ use Rattle.content.specs.Content.{byte_of, point_bytes, frames_bytes}
 use Rattle.pattern.specs.Calls.{points_from, frames_from}
 use Rattle.pattern.proofs.Snippets.{snippet_holds}
 use Rattle.pattern.proofs.Sequences.{sequence_holds}
-use Rattle.calls.specs.declared.UnderWay.{UnderWay}
 use Rattle.calls.specs.Calls.{frame_begun}
 use Rattle.assemble.specs.Lists.{groups_of, builders_of}
 use Rattle.assemble.specs.Items.{snippet_item, frame_item, sequence_item}
 use Rattle.assemble.proofs.Items.{whole_items}
 
 -- the bytes of a frame under construction
-abbrev frame_under_way : UnderWay → Told (List ℕ)
+abbrev frame_under_way : Option FrameBuilder → Told (List ℕ)
 frame_under_way u = on_told (frame_begun u) (λ f. gives (frame_bytes (built_frame f))) refuses
 
 -- an item of few bytes, whose length has room in a number, whatever the buffer
@@ -52,9 +53,9 @@ few_sequence calls =
     let h = sequence_holds (groups_of calls).sequence in
     subst Few (sym (whole_items calls).sequence) (few_told (ltb (length fs) 1) 10 (frames_bytes fs) (omega arith) (omega (arith, h.counted, h.room)))
 
-frame_few : (u : UnderWay) → Few (frame_under_way u)
-frame_few UnderWay.NotBegun = omega arith
-frame_few (UnderWay.Begun f) =
+frame_few : (u : Option FrameBuilder) → Few (frame_under_way u)
+frame_few None = omega arith
+frame_few (Some f) =
     let l : List ℕ = bytes_of f ++ replicate 3 0 in
     let e = length-take (length (bytes_of f)) (take 3 l) in
     let d = length-take 3 l in

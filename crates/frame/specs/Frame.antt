@@ -25,10 +25,10 @@ timebase_code Ms21_76 = 1
 timebase_code Ms43_52 = 2
 timebase_code Ms87_04 = 3
 
--- what is said of a loop count or a frequency where it is absent, and where it is given
-abbrev pub on_given {ℓ} : {A : Type ℓ} → Option ℕ → A → (ℕ → A) → A
+-- what is said where a setting is absent, and where it is given
+abbrev pub on_given {ℓ} : {A : Type 0} {B : Type ℓ} → Option A → B → (A → B) → B
 on_given None absent given = absent
-on_given (Some n) absent given = given n
+on_given (Some a) absent given = given a
 
 -- ---- the bytes
 

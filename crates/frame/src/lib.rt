@@ -9,7 +9,7 @@
 
 mod bits;
 
-ghost use Rattle.std.specs.Prelude.{◌≡◌, ◌%◌, ◌+◌, ◌^◌, ◌≤◌, ◌<◌, length};
+ghost use Rattle.std.specs.Prelude.{◌≡◌, ◌%◌, ◌+◌, ◌^◌, ◌≤◌, ◌<◌, length, IfErr};
 ghost use Rattle.laws.specs.Whole.{whole, whole_out, length_of};
 ghost use Rattle.errors.specs.Number.{told, handed_by};
 ghost use Rattle.errors.specs.Told.{gives};
@@ -254,7 +254,8 @@ impl FrameBuilder {
     // The first frame of the bytes and how many of them it takes, or NotAnImage.
     #[tactic(auto, unfolding(crate::specs::Read::read_frame))]
     pub fn read(bytes: &[u8]) -> Result<(FrameBuilder, usize), Error>
-        ensures { read_told result ≡ first_frame bytes.now }
+        ensures value { read_told result ≡ first_frame bytes.now }
+        ensures refusal { IfErr result (λ e. e ≡ Error.NotAnImage) }
     {
         match bytes {
             [a, rest @ ..] if bits::top(*a) < 1 => match rest {
@@ -267,7 +268,8 @@ impl FrameBuilder {
 
     // A second byte says whether a third follows; bit 2 clear and bit 1 set is made by no builder.
     fn read_second(a: u8, b: u8, rest: &[u8]) -> Result<(FrameBuilder, usize), Error>
-        ensures { read_told result ≡ second_at a b rest.now }
+        ensures value { read_told result ≡ second_at a b rest.now }
+        ensures refusal { IfErr result (λ e. e ≡ Error.NotAnImage) }
     {
         if bits::present_in(b) < 1 {
             if bits::high_in(b) < 1 {

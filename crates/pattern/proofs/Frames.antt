@@ -1,5 +1,6 @@
 -- A frame's builder holds in each field what the last accepted call gave, and is admitted; its bytes are those of its fields.
 -- Assumes nothing.
+use Rattle.std.specs.Prelude.{Option, Some, None}
 use mathlib.Core.Path.{◌≡◌, refl, ap, ◌∙◌, subst}
 use mathlib.Core.Bool.{Bool, true, false, cond}
 use mathlib.Core.List.{List, [], ◌∷◌, ◌++◌}
@@ -9,8 +10,6 @@ use native.Mathlib.Omega.{arith}
 use borrow.Author.Tests.{lt-ltb, le-ltb}
 use lib.ListN.{length, take, replicate}
 use Rattle.errors.specs.Told.{Told, gives, refuses}
-use Rattle.frame.specs.declared.Frequency.{Frequency}
-use Rattle.frame.specs.declared.Frequency.TheVariants as Frequency
 use Rattle.frame.specs.declared.FrameBuilder.{FrameBuilder}
 use Rattle.frame.specs.Agreement.{FrameAdmitted}
 use Rattle.frame.proofs.Parts.{third_byte}
@@ -21,9 +20,9 @@ use Rattle.pattern.proofs.Items.{frame_ran}
 
 -- ---- a built frame shows the bytes of its fields
 
-third_short : (a b : ℕ) (q : Frequency) → take (length (a ∷ b ∷ third_byte q)) (take 3 ((a ∷ b ∷ third_byte q) ++ replicate 3 0)) ≡ a ∷ b ∷ third_byte q
-third_short a b Frequency.Absent = refl
-third_short a b (Frequency.Given f) = refl
+third_short : (a b : ℕ) (q : Option ℕ) → take (length (a ∷ b ∷ third_byte q)) (take 3 ((a ∷ b ∷ third_byte q) ++ replicate 3 0)) ≡ a ∷ b ∷ third_byte q
+third_short a b None = refl
+third_short a b (Some f) = refl
 
 pub built_bytes : (b : FrameBuilder) → frame_bytes (built_frame b) ≡ bytes_of b
 built_bytes b = go (has_second b) where

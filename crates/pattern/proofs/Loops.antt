@@ -1,5 +1,6 @@
 -- A frame that was read has a loop count exactly where it has a second byte.
 -- Assumes nothing.
+use Rattle.std.specs.Prelude.{Option, Some, None}
 use Prim.Native.Nat.{ℕ, ◌%◌, ◌≤◌}
 use mathlib.Core.Path.{◌≡◌, refl, sym, ap, ◌∙◌, subst}
 use mathlib.Core.Bool.{Bool, true, false}
@@ -11,10 +12,6 @@ use lib.Dec.{leb}
 use Rattle.laws.specs.Bytes.{All, Bytes}
 use Rattle.frame.specs.declared.Gain.{Gain}
 use Rattle.frame.specs.declared.Timebase.{Timebase}
-use Rattle.frame.specs.declared.LoopCount.{LoopCount}
-use Rattle.frame.specs.declared.LoopCount.TheVariants as LoopCount
-use Rattle.frame.specs.declared.Frequency.{Frequency}
-use Rattle.frame.specs.declared.Frequency.TheVariants as Frequency
 use Rattle.frame.specs.declared.FrameBuilder.{FrameBuilder}
 use Rattle.frame.specs.Agreement.{FrameAdmitted}
 use Rattle.frame.specs.Builder.{frame_with}
@@ -30,12 +27,12 @@ use Rattle.content.proofs.Sameness.{canonical}
 use Rattle.pattern.specs.Demand.{LoopAsRead}
 
 module _ (n : ℕ) (g : Gain) (t : Timebase) where
-  loop_written : (k : LoopCount) (q : Frequency) → n ≤ 15 → LoopAsRead (frame_with n g t (written (absent_is_zero n q) k) q)
-  loop_written (LoopCount.Given k) Frequency.Absent h = refl
-  loop_written (LoopCount.Given k) (Frequency.Given f) h = refl
-  loop_written LoopCount.Absent (Frequency.Given f) h = refl
-  loop_written LoopCount.Absent Frequency.Absent h = go (leb 8 n) refl where
-    go : (z : Bool) → leb 8 n ≡ z → LoopAsRead (frame_with n g t (written z LoopCount.Absent) Frequency.Absent)
+  loop_written : (k : Option ℕ) (q : Option ℕ) → n ≤ 15 → LoopAsRead (frame_with n g t (written (absent_is_zero n q) k) q)
+  loop_written (Some k) None h = refl
+  loop_written (Some k) (Some f) h = refl
+  loop_written None (Some f) h = refl
+  loop_written None None h = go (leb 8 n) refl where
+    go : (z : Bool) → leb 8 n ≡ z → LoopAsRead (frame_with n g t (written z None) None)
     go true e = refl
     go false e = let l = leb-false 8 n e in sym (lt-leb 8 (n % 16) (omega arith))
 

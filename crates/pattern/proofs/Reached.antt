@@ -1,5 +1,6 @@
 -- Everything that is admitted can be built: a call for each point, frame and item, none refused.
 -- Assumes nothing.
+use Rattle.std.specs.Prelude.{Option, Some, None}
 use mathlib.Core.Path.{◌≡◌, refl, sym, ap, ap₂, ◌∙◌, subst}
 use mathlib.Core.Logic.{◌⊎◌, inl, inr}
 use mathlib.Core.Bool.{Bool, true, false, cond}
@@ -19,10 +20,6 @@ use Rattle.snippet.specs.Point as made
 use Rattle.snippet.specs.Snippet.{new_snippet, with_made}
 use Rattle.frame.specs.declared.Gain.{Gain}
 use Rattle.frame.specs.declared.Timebase.{Timebase}
-use Rattle.frame.specs.declared.LoopCount.{LoopCount}
-use Rattle.frame.specs.declared.LoopCount.TheVariants as LoopCount
-use Rattle.frame.specs.declared.Frequency.{Frequency}
-use Rattle.frame.specs.declared.Frequency.TheVariants as Frequency
 use Rattle.frame.specs.declared.FrameBuilder.{FrameBuilder}
 use Rattle.frame.specs.Agreement.{FrameAdmitted}
 use Rattle.frame.proofs.Parts.{LoopAdmitted, FrequencyAdmitted}
@@ -110,19 +107,19 @@ points_reached ps f = all_held snippet_step added_point snippet.Holds snippet.on
 
 -- ---- frames
 
-abbrev loop_calls : LoopCount → List FrameCall
-loop_calls LoopCount.Absent = []
-loop_calls (LoopCount.Given k) = loop_count k ∷ []
+abbrev loop_calls : Option ℕ → List FrameCall
+loop_calls None = []
+loop_calls (Some k) = loop_count k ∷ []
 
-abbrev frequency_calls : Frequency → List FrameCall
-frequency_calls Frequency.Absent = []
-frequency_calls (Frequency.Given f) = frequency_hz f ∷ []
+abbrev frequency_calls : Option ℕ → List FrameCall
+frequency_calls None = []
+frequency_calls (Some f) = frequency_hz f ∷ []
 
 abbrev begin_of : ℕ → Begin
 begin_of zero = silence
 begin_of (suc n) = new (suc n)
 
-abbrev frame_call_of : ℕ → Gain → Timebase → LoopCount → Frequency → FrameCalls
+abbrev frame_call_of : ℕ → Gain → Timebase → Option ℕ → Option ℕ → FrameCalls
 frame_call_of n g t l q = record { begin = begin_of n; calls = gain g ∷ timebase t ∷ (loop_calls l ++ frequency_calls q) }
 
 abbrev pub frame_call : FrameBuilder → FrameCalls
@@ -136,12 +133,12 @@ begun_back : (n : ℕ) → n ≤ 15 → begun_by (begin_of n) ≡ gives (plain_f
 begun_back zero h = refl
 begun_back (suc n) h = simp (le-ltb (suc n) 1 (omega arith), le-ltb 15 (suc n) h)
 
-frame_back : (n : ℕ) (g : Gain) (t : Timebase) (l : LoopCount) (q : Frequency) → LoopAdmitted l → FrequencyAdmitted q
+frame_back : (n : ℕ) (g : Gain) (t : Timebase) (l : Option ℕ) (q : Option ℕ) → LoopAdmitted l → FrequencyAdmitted q
     → frame_from (frame_call_of n g t l q) ≡ frame_with n g t l q
-frame_back n g t LoopCount.Absent Frequency.Absent hl hq = simp (number_back n)
-frame_back n g t LoopCount.Absent (Frequency.Given f) hl hq = simp (number_back n, le-ltb 511 f hq)
-frame_back n g t (LoopCount.Given k) Frequency.Absent hl hq = simp (number_back n, le-ltb 15 k hl)
-frame_back n g t (LoopCount.Given k) (Frequency.Given f) hl hq = simp (number_back n, le-ltb 15 k hl, le-ltb 511 f hq)
+frame_back n g t None None hl hq = simp (number_back n)
+frame_back n g t None (Some f) hl hq = simp (number_back n, le-ltb 511 f hq)
+frame_back n g t (Some k) None hl hq = simp (number_back n, le-ltb 15 k hl)
+frame_back n g t (Some k) (Some f) hl hq = simp (number_back n, le-ltb 15 k hl, le-ltb 511 f hq)
 
 -- the builder after the calls has the fields that the calls say
 ran_plain : (n : ℕ) (ks : List FrameCall) (b : Begin) → number_of b ≡ n → frame_ran (plain_frame n) ks ≡ frame_from (record { begin = b; calls = ks })

@@ -1,7 +1,6 @@
 -- Lists of builder calls, and what they hold: document 01, 'The hundred bytes', second paragraph. Each snippet, frame, sequence and image
 -- comes from a list of calls on one builder of its kind, begun with a new one, and finished items are passed on as built.
-use Rattle.std.specs.Prelude.{ℕ, ◌%◌, Bool, true, false, cond, List, [], ◌∷◌, ltb}
-use Rattle.std.proofs.Math.Option.{Option, none, some}
+use Rattle.std.specs.Prelude.{ℕ, ◌%◌, Option, Some, None, Bool, true, false, cond, List, [], ◌∷◌, ltb}
 use Rattle.laws.specs.Lists.{joined}
 use Rattle.errors.specs.Told.{Told, gives, on_told, Handed, refused, Built}
 use Rattle.snippet.specs.declared.SnippetBuilder.{SnippetBuilder}
@@ -11,20 +10,16 @@ use Rattle.frame.specs.declared.Gain.{Gain}
 use Rattle.frame.specs.declared.Gain.TheVariants.{Full}
 use Rattle.frame.specs.declared.Timebase.{Timebase}
 use Rattle.frame.specs.declared.Timebase.TheVariants.{Ms5_44}
-use Rattle.frame.specs.declared.LoopCount.{LoopCount}
-use Rattle.frame.specs.declared.LoopCount.TheVariants as LoopCount
-use Rattle.frame.specs.declared.Frequency.{Frequency}
-use Rattle.frame.specs.declared.Frequency.TheVariants as Frequency
 use Rattle.frame.specs.declared.FrameBuilder.{FrameBuilder}
 use Rattle.frame.specs.Builder.{frame_with, silent_frame, new_frame, with_gain, with_timebase, with_loop_count, with_frequency}
-use Rattle.frame.specs.Frame.{built_frame}
+use Rattle.frame.specs.Frame.{on_given, built_frame}
 use Rattle.sequence.specs.declared.SequenceBuilder.{SequenceBuilder}
 use Rattle.sequence.specs.Sequence.{new_sequence, with_frame, built_sequence}
 use Rattle.memory.specs.declared.WaveformMemory.{WaveformMemory}
 use Rattle.memory.specs.declared.WaveformMemoryBuilder.{WaveformMemoryBuilder}
 use Rattle.memory.specs.Memory.{new_memory, with_snippet, with_sequence, built_memory}
 use Rattle.content.specs.Content.{Point, Content}
-use Rattle.content.specs.ReadImage.{on_option, point_in}
+use Rattle.content.specs.ReadImage.{point_in}
 
 -- ---- any builder B with calls K, each of which adds an X when it is accepted
 
@@ -110,21 +105,21 @@ number_of (new n) = n
 number_of silence = 0
 
 -- what a call sets: gain, timebase, loop count (accepted up to 15), frequency (accepted up to 511)
-abbrev pub sets : FrameCall → Option Gain × Option Timebase × Option LoopCount × Option Frequency
-sets (gain g) = (some g, none, none, none)
-sets (timebase t) = (none, some t, none, none)
-sets (loop_count k) = (none, none, cond (ltb 15 k) none (some (LoopCount.Given k)), none)
-sets (frequency_hz f) = (none, none, none, cond (ltb 511 f) none (some (Frequency.Given f)))
+abbrev pub sets : FrameCall → Option Gain × Option Timebase × Option (Option ℕ) × Option (Option ℕ)
+sets (gain g) = (Some g, None, None, None)
+sets (timebase t) = (None, Some t, None, None)
+sets (loop_count k) = (None, None, cond (ltb 15 k) None (Some (Some k)), None)
+sets (frequency_hz f) = (None, None, None, cond (ltb 511 f) None (Some (Some f)))
 
 -- the last that the calls set in one field, else the default
 abbrev pub last_set : {A : Type 0} → (FrameCall → Option A) → A → List FrameCall → A
 last_set field a [] = a
-last_set field a (k ∷ ks) = last_set field (on_option (field k) a (λ x. x)) ks
+last_set field a (k ∷ ks) = last_set field (on_given (field k) a (λ x. x)) ks
 
 abbrev pub frame_from : FrameCalls → FrameBuilder
 frame_from m =
     frame_with (number_of m.begin) (last_set (λ k. (sets k).0) Full m.calls) (last_set (λ k. (sets k).1) Ms5_44 m.calls)
-    (last_set (λ k. (sets k).2) LoopCount.Absent m.calls) (last_set (λ k. (sets k).3) Frequency.Absent m.calls)
+    (last_set (λ k. (sets k).2) None m.calls) (last_set (λ k. (sets k).3) None m.calls)
 
 -- ---- a sequence: each call adds the frame that its own calls make; where `new` was refused there is no frame to add
 

@@ -4,7 +4,7 @@ use Rattle.std.specs.Prelude.{ℕ, ◌≡◌, ◌↔◌, Bool, true, false, List
 use Rattle.std.proofs.Math.Option.{none, some}
 use Rattle.laws.specs.Bytes.{All, Bytes}
 use Rattle.frame.specs.declared.FrameBuilder.{FrameBuilder}
-use Rattle.frame.specs.Frame.{on_loop, has_second}
+use Rattle.frame.specs.Frame.{on_given, has_second}
 use Rattle.memory.specs.Memory.{memory_of, built_memory}
 use Rattle.content.specs.Content.{Content, point_bytes, frames_bytes, Admitted, image_of, Same}
 use Rattle.content.specs.ReadImage.{read_image}
@@ -31,7 +31,7 @@ ImageOf l c = Admitted c × (image_of c ≡ l)
 
 -- "an absent loop count for a one-byte frame, a present one otherwise"
 abbrev pub LoopAsRead : FrameBuilder → Type 0
-LoopAsRead f = on_loop f.loop_count false (λ _. true) ≡ has_second f
+LoopAsRead f = on_given f.loop_count false (λ _. true) ≡ has_second f
 
 pub record Demand3 : Type 0 where
   -- the acceleration flag changes nothing: the refusal and the image are those without it

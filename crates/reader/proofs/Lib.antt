@@ -1,9 +1,9 @@
 pub mod Capacity
 pub mod Cuts
 pub mod Flats
-pub mod Found
 pub mod Loops
 pub mod Placed
 pub mod Running
-pub mod Turns
+pub mod Scanned
+pub mod Steps
 pub mod Whole

@@ -91,10 +91,12 @@ module _ (image : List ℕ) (p e : ℕ) (f : p < e) (g : e < length image) where
   unfolding push_snippet
   snippet_good o h = let n = item_length in simp (item_some, le-leb (length (item image p e)) 16 (omega arith))
 
-  pub sequence_run : (o : Frames) (m : Option Frames) → run_frames 32 (item image p e) o ≡ m → push_sequence (item image p e) o ≡ and_then m (λ x. some (end_sequence x))
+-- a sequence by its frames
+module _ (bs : List ℕ) (h : 1 ≤ length bs) (o : Frames) where
+  pub sequence_run : (m : Option Frames) → run_frames 32 bs o ≡ m → push_sequence bs o ≡ and_then m (λ x. some (end_sequence x))
   unfolding push_sequence
-  sequence_run o m k =
-      ap (λ (t : Bool). cond t (and_then (run_frames 32 (item image p e) o) (λ x. some (end_sequence x))) none) item_some
+  sequence_run m k =
+      ap (λ (t : Bool). cond t (and_then (run_frames 32 bs o) (λ x. some (end_sequence x))) none) (le-leb 1 (length bs) h)
       ∙ ap (λ (x : Option Frames). and_then x (λ y. some (end_sequence y))) k
 
 -- ---- parts of the image

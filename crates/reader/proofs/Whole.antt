@@ -12,7 +12,6 @@ use lib.ListN.{length, take, drop, length-take}
 use lib.Seq.{take-add, take_at, drop_at, length-take-le}
 use Rattle.laws.specs.Bytes.{All, Bytes}
 use Rattle.errors.specs.Told.{gives, refuses}
-use Rattle.errors.specs.declared.Answer.TheVariants as Answer
 use Rattle.frame.specs.declared.FrameBuilder.{FrameBuilder}
 use Rattle.frame.specs.Builder.{silent_frame}
 use Rattle.content.specs.Content.{Point, Content, point_bytes}
@@ -23,8 +22,8 @@ use Rattle.content.proofs.Points.{points_there}
 use Rattle.content.proofs.Items.{counts_sound}
 use Rattle.reader.specs.declared.Points.{Points}
 use Rattle.reader.specs.declared.Frames.{Frames}
-use Rattle.reader.specs.declared.Reading.{Reading}
-use Rattle.reader.specs.Reading.{no_points, no_frames, reading_of}
+use Rattle.std.specs.Prelude.{Ok}
+use Rattle.reader.specs.Reading.{Reading, no_points, no_frames, reading_of}
 use Rattle.reader.specs.Walk.{push_snippet, push_sequence, walk_sequences, no_reading, sequences_then, after_snippets, snippets_then, after_counts, scanned}
 use Rattle.reader.specs.Told.{reading_told}
 use Rattle.reader.proofs.Capacity.{Tracks, flat_points, flat_frames, raw_snippet, raw_same, tracks_snippets, tracks_sequences}
@@ -66,7 +65,7 @@ made x y = and_then (and_then x (λ xs. some (map points_in xs))) (λ s. and_the
 abbrev reads : Bool → Option Points → Option Frames → Reading
 reads zeros none n = no_reading
 reads zeros (some s) none = no_reading
-reads zeros (some s) (some q) = cond zeros (record { answer = Answer.Done; snippets = s; sequences = q }) no_reading
+reads zeros (some s) (some q) = cond zeros (Ok (record { snippets = s; sequences = q })) no_reading
 
 cond_none : (t : Bool) → Right (cond t none none) no_reading
 cond_none true = none_right
@@ -91,11 +90,10 @@ last_step true (some s) (some xs) k w (some q) (some ys) j =
     let b = shows silent_frame 16 (flat_frames q) ys j in
     let p = k ∙ ap (flat_of 0 15) (there xs (w xs refl)) in (
       λ i. gives (record { snippets = map points_in (a i); sequences = b i }),
-      λ i. record {
-        answer = Answer.Done;
+      λ i. Ok (record {
         snippets = record { items = (p i).items; len = (p i).len; ends = (p i).ends; count = (p i).count };
         sequences = record { items = (j i).items; len = (j i).len; ends = (j i).ends; count = (j i).count };
-      },
+      }),
     )
 
 -- ---- after the snippets

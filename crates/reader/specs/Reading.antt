@@ -1,17 +1,16 @@
 -- What the reader answers: the lists of an image, or 18 (document 01, 'Who can cause which answer', and demand 3, "it returns lists that
 -- the builders admit and whose image those bytes are").
-use Rattle.std.specs.Prelude.{ℕ, ◌-◌, List, [], ◌∷◌, ◌++◌, map, length, take, drop, replicate}
+use Rattle.std.specs.Prelude.{ℕ, Result, Ok, Err, ◌-◌, List, [], ◌∷◌, ◌++◌, map, length, take, drop, replicate}
 use Rattle.std.proofs.Math.Option.{Option, none, some}
 use Rattle.laws.specs.Lists.{joined}
-use Rattle.errors.specs.declared.Answer.TheVariants as Answer
-use Rattle.errors.specs.declared.Error.TheVariants as Error
+use Rattle.errors.specs.declared.Error.{Error}
 use Rattle.frame.specs.declared.FrameBuilder.{FrameBuilder}
 use Rattle.frame.specs.Builder.{silent_frame}
 use Rattle.memory.specs.Image.{end_pointers}
 use Rattle.content.specs.Content.{Content, point_bytes}
 use Rattle.reader.specs.declared.Points.{Points}
 use Rattle.reader.specs.declared.Frames.{Frames}
-use Rattle.reader.specs.declared.Reading.{Reading}
+use Rattle.reader.specs.declared.Lists.{Lists}
 
 -- the parts of a list that end before each index, one after the other
 abbrev pub parts : {A : Type 0} → ℕ → List ℕ → List A → List (List A)
@@ -48,8 +47,11 @@ abbrev pub laid_frames : List (List FrameBuilder) → Frames
 laid_frames ls =
     record { items = padded 96 silent_frame (joined ls); len = length (joined ls); ends = padded 16 0 (end_pointers 0 ls); count = length ls }
 
--- the lists of a content; what is refused holds none
+-- what the reader answers
+abbrev pub Reading : Type 0
+Reading = Result Lists Error
+
+-- the lists of a content
 abbrev pub reading_of : Option Content → Reading
-reading_of none = record { answer = Answer.Refused Error.NotAnImage; snippets = laid_points []; sequences = laid_frames [] }
-reading_of (some c) =
-    record { answer = Answer.Done; snippets = laid_points (map point_bytes c.snippets); sequences = laid_frames c.sequences }
+reading_of none = Err Error.NotAnImage
+reading_of (some c) = Ok (record { snippets = laid_points (map point_bytes c.snippets); sequences = laid_frames c.sequences })

@@ -1,17 +1,13 @@
 -- The reader step by step, as the code goes: what the private functions' contracts cite. proofs/Whole.antt: it is `read_image`, laid out
 -- as `reading_of` says.
-use Rattle.std.specs.Prelude.{ℕ, zero, suc, ◌+◌, ◌-◌, true, false, cond, ◌&&◌, List, [], ◌∷◌, ltb, leb, eqb, length, take, drop, get_or}
+use Rattle.std.specs.Prelude.{ℕ, zero, suc, ◌+◌, ◌-◌, ◌≡◌, Result, Ok, Err, cond, ◌&&◌, List, [], ◌∷◌, ltb, leb, eqb, length, take, drop, get_or}
 use Rattle.std.proofs.Math.Option.{Option, none, some}
-use Rattle.errors.specs.declared.Answer.TheVariants as Answer
-use Rattle.errors.specs.Told.{Told, refuses}
-use Rattle.frame.specs.Read.{read_frame, Taken, first_frame}
+use Rattle.errors.specs.declared.Error.{Error}
+use Rattle.frame.specs.Read.{read_frame}
 use Rattle.content.specs.ReadImage.{and_then, all_zero, counts_fit}
 use Rattle.reader.specs.declared.Points.{Points}
 use Rattle.reader.specs.declared.Frames.{Frames}
-use Rattle.reader.specs.declared.Reading.{Reading}
-use Rattle.reader.specs.declared.SnippetsRead.{SnippetsRead}
-use Rattle.reader.specs.declared.SequencesRead.{SequencesRead}
-use Rattle.reader.specs.Reading.{no_points, no_frames, reading_of}
+use Rattle.reader.specs.Reading.{Reading, no_points, no_frames, reading_of}
 use Rattle.reader.specs.Flat.{push_points, push_frame, end_snippet, end_sequence}
 
 -- ---- one item
@@ -28,6 +24,11 @@ push_snippet bs o = cond (leb 1 (length bs) && leb (length bs) 16) (some (end_sn
 
 unfoldable pub push_sequence : List ℕ → Frames → Option Frames
 push_sequence bs o = cond (leb 1 (length bs)) (and_then (run_frames 32 bs o) (λ f. some (end_sequence f))) none
+
+-- how the code answers: what a step made of the lists, or 18
+abbrev pub Stepped : {S : Type 0} → Option S → Result Unit Error → S → Type 0
+Stepped none answer state = answer ≡ Err Error.NotAnImage
+Stepped (some s) answer state = (answer ≡ Ok tt) × (state ≡ s)
 
 -- ---- the items that end at the pointers
 
@@ -48,27 +49,13 @@ module _ {S : Type 0} (step : List ℕ → S → Option S) (image : List ℕ) wh
 abbrev pub walk_snippets : List ℕ → ℕ → List ℕ → Points → Option (Walked Points)
 walk_snippets = walk push_snippet
 
-abbrev pub no_snippets : SnippetsRead
-no_snippets = record { found = false; snippets = no_points; last = 0 }
-
-abbrev pub snippets_read : Option (Walked Points) → SnippetsRead
-snippets_read none = no_snippets
-snippets_read (some w) = record { found = true; snippets = w.state; last = w.last }
-
--- the frame behind index p of a sequence that ends at index e, of which k frames were read
-abbrev pub next_frame : List ℕ → ℕ → ℕ → ℕ → Told Taken
-next_frame image p e k =
-    cond (ltb p e) (cond (ltb e (length image)) (cond (ltb k 32) (first_frame (item image p e)) (refuses 18)) (refuses 18)) (refuses 18)
-
 abbrev pub walk_sequences : List ℕ → ℕ → List ℕ → Frames → Option (Walked Frames)
 walk_sequences = walk push_sequence
 
-abbrev pub no_sequences : SequencesRead
-no_sequences = record { found = false; sequences = no_frames; last = 0 }
-
-abbrev pub sequences_read : Option (Walked Frames) → SequencesRead
-sequences_read none = no_sequences
-sequences_read (some w) = record { found = true; sequences = w.state; last = w.last }
+-- how the code answers: the state and the last index, or 18
+abbrev pub Walks : {S : Type 0} → Option (Walked S) → Result ℕ Error → S → Type 0
+Walks none answer state = answer ≡ Err Error.NotAnImage
+Walks (some w) answer state = (answer ≡ Ok w.last) × (state ≡ w.state)
 
 -- ---- the image
 
@@ -77,7 +64,7 @@ no_reading = reading_of none
 
 -- all bytes after index last are zero
 abbrev pub finished : List ℕ → Points → Frames → ℕ → Reading
-finished image s q last = cond (all_zero (drop (last + 1) image)) (record { answer = Answer.Done; snippets = s; sequences = q }) no_reading
+finished image s q last = cond (all_zero (drop (last + 1) image)) (Ok (record { snippets = s; sequences = q })) no_reading
 
 abbrev pub sequences_then : List ℕ → Points → Option (Walked Frames) → Reading
 sequences_then image s none = no_reading

@@ -10,77 +10,39 @@ use crate::{Frames, Points};
 use frame::FrameBuilder;
 use snippet::PwlPoint;
 
-#[derive(Clone, Copy)]
-pub enum PointAt {
-    Point(PwlPoint),
-    Absent,
-}
-
-#[derive(Clone, Copy)]
-pub enum FrameAt {
-    Frame(FrameBuilder),
-    Absent,
-}
-
-// An index into the flat list, if the i-th list has a j-th element.
-#[derive(Clone, Copy)]
-enum Place {
-    At(usize),
-    Nowhere,
-}
-
-// The j-th point of the i-th snippet, both counted from 0.
-pub fn point_at(points: Points, i: usize, j: usize) -> PointAt
-    ensures { point_at_told result ≡ element (snippets_in points) i j }
+// The j-th point of the i-th snippet, both counted from 0, if there is one.
+pub fn point_at(points: &Points, i: usize, j: usize) -> Option<PwlPoint>
+    ensures { point_at_told result ≡ element (snippets_in points.now) i j }
 {
-    let ends = points.ends;
-    match find(&ends, points.count as usize, i, j) {
-        Place::At(k) => {
-            if 96 <= k {
-                return PointAt::Absent;
-            }
-            PointAt::Point(PwlPoint::from_byte(points.items[k]))
-        }
-        Place::Nowhere => PointAt::Absent,
+    match find(&points.ends, points.count as usize, i, j) {
+        Some(k) if k < 96 => Some(PwlPoint::from_byte(points.items[k])),
+        _ => None,
     }
 }
 
-// The j-th frame of the i-th sequence, both counted from 0.
-pub fn frame_at(frames: Frames, i: usize, j: usize) -> FrameAt
-    ensures { frame_at_told result ≡ element (sequences_in frames) i j }
+// The j-th frame of the i-th sequence, both counted from 0, if there is one.
+pub fn frame_at(frames: &Frames, i: usize, j: usize) -> Option<FrameBuilder>
+    ensures { frame_at_told result ≡ element (sequences_in frames.now) i j }
 {
-    let ends = frames.ends;
-    match find(&ends, frames.count as usize, i, j) {
-        Place::At(k) => {
-            if 96 <= k {
-                return FrameAt::Absent;
-            }
-            let f = frames.items[k];
-            FrameAt::Frame(f)
-        }
-        Place::Nowhere => FrameAt::Absent,
+    match find(&frames.ends, frames.count as usize, i, j) {
+        Some(k) if k < 96 => Some(frames.items[k]),
+        _ => None,
     }
 }
 
-// Where the j-th element of the i-th list stands, by the ends of the first `count` lists.
-fn find(ends: &[u8], count: usize, i: usize, j: usize) -> Place
+// Where the j-th element of the i-th list stands in the flat list, by the ends of the first `count` lists.
+fn find(ends: &[u8], count: usize, i: usize, j: usize) -> Option<usize>
     ensures { place_told result ≡ place_in 0 (take count ends.now) i j }
 {
-    if ends.len() <= i {
-        return Place::Nowhere;
-    }
-    if count <= i {
-        return Place::Nowhere;
+    if ends.len() <= i || count <= i {
+        return None;
     }
     let from = start(ends, i);
     let to = ends[i] as usize;
-    if to <= from {
-        return Place::Nowhere;
+    if to <= from || to - from <= j {
+        return None;
     }
-    if to - from <= j {
-        return Place::Nowhere;
-    }
-    Place::At(from + j)
+    Some(from + j)
 }
 
 // Where the i-th list starts: at the end of the one before.

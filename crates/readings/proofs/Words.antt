@@ -1,5 +1,6 @@
 -- Admitted frames are told by their numbers, and by the bytes of those.
 -- Assumes nothing.
+use Rattle.std.specs.Prelude.{Option, Some, None}
 use mathlib.Core.Path.{◌≡◌, refl, sym, ap, ◌∙◌}
 use mathlib.Core.List.{List, [], ◌∷◌}
 use Prim.Native.Nat.{ℕ, zero, suc, ◌+◌, ◌*◌, ◌/◌, ◌^◌, ◌<◌}
@@ -8,8 +9,6 @@ use lib.ListN.{length, take, drop}
 use lib.Seq.{take_at, drop_at}
 use Rattle.laws.specs.Bytes.{All}
 use Rattle.laws.specs.Lists.{low_bytes}
-use Rattle.frame.specs.declared.LoopCount.{LoopCount}
-use Rattle.frame.specs.declared.Frequency.{Frequency}
 use Rattle.frame.specs.declared.FrameBuilder.{FrameBuilder}
 use Rattle.frame.specs.Agreement.{FrameAdmitted}
 use Rattle.frame.proofs.Parts.{loop_byte, frequency_word, LoopAdmitted, FrequencyAdmitted}
@@ -23,25 +22,25 @@ use Rattle.readings.proofs.Laying.{word_length}
 
 -- ---- the fields
 
-loop_small : (k : LoopCount) → LoopAdmitted k → loop_byte k < 256
-loop_small LoopCount.Absent h = omega arith
-loop_small (LoopCount.Given k) h = omega arith
+loop_small : (k : Option ℕ) → LoopAdmitted k → loop_byte k < 256
+loop_small None h = omega arith
+loop_small (Some k) h = omega arith
 
-frequency_small : (f : Frequency) → FrequencyAdmitted f → frequency_word f < 65536
-frequency_small Frequency.Absent h = omega arith
-frequency_small (Frequency.Given f) h = omega arith
+frequency_small : (f : Option ℕ) → FrequencyAdmitted f → frequency_word f < 65536
+frequency_small None h = omega arith
+frequency_small (Some f) h = omega arith
 
-loop_told : (j k : LoopCount) → LoopAdmitted j → LoopAdmitted k → loop_byte j ≡ loop_byte k → j ≡ k
-loop_told LoopCount.Absent LoopCount.Absent h g e = refl
-loop_told LoopCount.Absent (LoopCount.Given k) h g e = absurd (omega arith)
-loop_told (LoopCount.Given j) LoopCount.Absent h g e = absurd (omega arith)
-loop_told (LoopCount.Given j) (LoopCount.Given k) h g e = ap LoopCount.Given e
+loop_told : (j k : Option ℕ) → LoopAdmitted j → LoopAdmitted k → loop_byte j ≡ loop_byte k → j ≡ k
+loop_told None None h g e = refl
+loop_told None (Some k) h g e = absurd (omega arith)
+loop_told (Some j) None h g e = absurd (omega arith)
+loop_told (Some j) (Some k) h g e = ap Some e
 
-frequency_told : (a b : Frequency) → FrequencyAdmitted a → FrequencyAdmitted b → frequency_word a ≡ frequency_word b → a ≡ b
-frequency_told Frequency.Absent Frequency.Absent h g e = refl
-frequency_told Frequency.Absent (Frequency.Given b) h g e = absurd (omega arith)
-frequency_told (Frequency.Given a) Frequency.Absent h g e = absurd (omega arith)
-frequency_told (Frequency.Given a) (Frequency.Given b) h g e = ap Frequency.Given e
+frequency_told : (a b : Option ℕ) → FrequencyAdmitted a → FrequencyAdmitted b → frequency_word a ≡ frequency_word b → a ≡ b
+frequency_told None None h g e = refl
+frequency_told None (Some b) h g e = absurd (omega arith)
+frequency_told (Some a) None h g e = absurd (omega arith)
+frequency_told (Some a) (Some b) h g e = ap Some e
 
 -- ---- a frame
 

@@ -6,21 +6,21 @@ use Rattle.laws.proofs.Lists.{length_of_map}
 use Rattle.reader.proofs.Placed.{element_past, element_there, element_absent}
 use Rattle.reader.proofs.items.point_at.Goals as goal
 
-pub returns-then-k-ge96 : goal.returns-then-k-ge96
-returns-then-k-ge96 c =
-    let p = c.args.points in
-    let h : length p.items ≡ 96 = search (rules, length_of_map) in
-    element_past (take p.count p.ends) p.items c.args.i c.args.j 96 h _ c.in-At.ensures c.if-k-ge96.true
-
-pub returns-else-k-ge96 : goal.returns-else-k-ge96
-returns-else-k-ge96 c =
-    let p = c.args.points in
+pub returns-in-Some : goal.returns-in-Some
+returns-in-Some c =
+    let p = c.args.points.now in
     let h : length p.items ≡ 96 = search (rules, length_of_map) in
     ap (λ (x : PwlPoint). some x.byte) c.from_byte.ensures
-    ∙ element_there (take p.count p.ends) p.items c.args.i c.args.j 96 h _ 0 c.in-At.ensures c.if-k-ge96.false
+    ∙ element_there (take p.count p.ends) p.items c.args.i c.args.j 96 h _ 0 c.in-Some.ensures c.if-k-lt96.true
 
-pub returns-in-Nowhere : goal.returns-in-Nowhere
-returns-in-Nowhere c =
-    let p = c.args.points in
+pub returns-in_default : goal.returns-in_default
+returns-in_default c =
+    let p = c.args.points.now in
     let h : length p.items ≡ 96 = search (rules, length_of_map) in
-    element_absent (take p.count p.ends) p.items c.args.i c.args.j 96 h c.in-Nowhere.ensures
+    element_past (take p.count p.ends) p.items c.args.i c.args.j 96 h _ c.in-Some.ensures c.if-k-lt96.false
+
+pub returns-in_default-2 : goal.returns-in_default-2
+returns-in_default-2 c =
+    let p = c.args.points.now in
+    let h : length p.items ≡ 96 = search (rules, length_of_map) in
+    element_absent (take p.count p.ends) p.items c.args.i c.args.j 96 h c.in_default.ensures

@@ -1,0 +1,19 @@
+-- A sequence is its frames.
+use Rattle.std.proofs.Common.{◌∙◌, Err, ap, arith, refl, sym}
+use mathlib.Core.Option.{some}
+use Rattle.reader.specs.Walk.{run_frames}
+use Rattle.reader.proofs.Loops.{sequence_run}
+use Rattle.reader.proofs.Steps.{stepped_ok, stepped_err, stepped_none, stepped_some, passed}
+use Rattle.reader.proofs.FramesGather.add.Goals as goal
+
+pub returns-in_err-push_all : goal.returns-in_err-push_all
+returns-in_err-push_all c =
+    let a = c.args in
+    let n = stepped_err (run_frames 32 a.item.now a.self.now) _ c.push_all.ensures c.in_err-push_all.was in
+    stepped_none _ _ (sequence_run a.item.now (omega arith) a.self.now _ n.0) (passed _ c.from_residual.ensures.1 ∙ ap Err n.1)
+
+pub returns : goal.returns
+returns c =
+    let a = c.args in
+    let m = stepped_ok (run_frames 32 a.item.now a.self.now) c.push_all.ensures c.in_ok-push_all.was in
+    stepped_some _ (sequence_run a.item.now (omega arith) a.self.now _ m ∙ ap some (sym c.end.ensures)) refl
