@@ -3,7 +3,8 @@
 
 #![tactic(auto)]
 
-use show::{Image, Refusal};
+use assemble::Refusal;
+use show::Image;
 use std::io;
 
 // The calls of 'shallow ahead', its refused ramp among them: the code and the arguments of each, as include/da728x.h has them.
@@ -56,11 +57,12 @@ pub fn ahead(rt: &impl Print) -> io::Result<()> {
     print!(rt; "{}", Image(&image))
 }
 
-// A refusal is told by 256 times the place of its call, and its number.
-fn tell(rt: &impl Print, answer: u32) -> io::Result<()> {
-    let place = answer / 256;
-    match Refusal::numbered((answer % 256) as u8) {
-        Some(refusal) => println!(rt; "  refused with {refusal} at call {place}"),
-        None => print!(rt; "  made"),
+fn tell(rt: &impl Print, answer: Result<(), Refusal>) -> io::Result<()> {
+    match answer {
+        Ok(()) => print!(rt; "  made"),
+        Err(Refusal { place, error }) => {
+            let error = show::Refusal(error);
+            println!(rt; "  refused with {error} at call {place}")
+        }
     }
 }

@@ -16,43 +16,6 @@ use std::fmt;
 #[derive(Clone, Copy, Debug)]
 pub struct Refusal(pub Error);
 
-const ERRORS: [Error; 24] = [
-    Error::InvalidTimebase,
-    Error::InvalidAmplitude,
-    Error::InvalidSnippetId,
-    Error::InvalidLoopCount,
-    Error::InvalidFrequency,
-    Error::TooManySnippets,
-    Error::TooManySequences,
-    Error::WaveformMemoryFull,
-    Error::EmptySnippet,
-    Error::EmptySequence,
-    Error::InvalidValue,
-    Error::WrongMode,
-    Error::MissingTriggerConfigInEtwmMode,
-    Error::NotSupported,
-    Error::NotConfigured,
-    Error::VariantMismatch,
-    Error::I2c(0),
-    Error::NotAnImage,
-    Error::OutOfTurn,
-    Error::InvalidVoltage,
-    Error::InvalidCurrentOrImpedance,
-    Error::InvalidDriveFrequency,
-    Error::BufferTooShort,
-    Error::MissingSequence,
-];
-
-impl Refusal {
-    /// The error with this number.
-    pub fn numbered(number: u8) -> Option<Refusal> {
-        ERRORS
-            .iter()
-            .find(|e| e.number() == number)
-            .map(|e| Refusal(*e))
-    }
-}
-
 impl fmt::Display for Refusal {
     fn fmt<W: fmt::Write>(&self, f: &mut fmt::Formatter<W>) -> fmt::Result {
         let number = self.0.number();
