@@ -1,6 +1,6 @@
 -- A step of the memory's builder, made on the bytes that keep its items: one law for snippets and sequences.
 -- Assumes nothing.
-use mathlib.Core.Path.{◌≡◌, refl, sym, ap, ap₂, ◌∙◌, subst}
+use mathlib.Core.Path.{◌≡◌, refl, sym, ap, ◌∙◌}
 use mathlib.Core.Bool.{Bool, true, false, cond}
 use mathlib.Core.List.{List, [], ◌∷◌, ◌++◌, map, map-append}
 use Prim.Native.Nat.{ℕ, ◌+◌, ◌≤◌, ◌<◌}
@@ -22,7 +22,7 @@ use Rattle.memory.specs.Image.{image_bytes}
 use Rattle.memory.specs.Memory.{new_memory, snippet_items, sequence_items, no_memory, memory_of, image_number, built_memory}
 use Rattle.memory.specs.declared.WaveformMemoryBuilder.{WaveformMemoryBuilder}
 use Rattle.assemble.specs.Kept as pool
-use Rattle.assemble.specs.Kept.{kept, Pushed, PushedUnless, added_number, KeptBoth}
+use Rattle.assemble.specs.Kept.{kept, Pushed, KeptBoth}
 use Rattle.assemble.proofs.Keeping.{count}
 use Rattle.pattern.proofs.Items.{with_built_snippet, with_built_sequence}
 use Rattle.assemble.specs.Holding.{Keeps, KeepsMemory, StepsSnippets, StepsSequences}
@@ -72,24 +72,26 @@ module _ {M A : Type 0} (most full : ℕ) (f : A → List ℕ) (array : M → Li
   abbrev Steps : ℕ → A → List ℕ → ℕ → List ℕ → Type 0
   Steps k a l n l' = (m : M) → Holds m l → (n ≡ (step k a m).number) × Holds (step k a m).builder l'
 
-  -- what an item that is added leaves, by its own number k and by whether there is room
-  module _ (k : ℕ) (a : A) (l l' x : List ℕ) (e : x ≡ f a) where
-    by : (n : ℕ) (t u : Bool) → n ≡ cond t k (cond u 0 full) → PushedUnless t most x l l' → (m : M) → Holds m l → ltb (get_or l 0 0) most ≡ u
-        → (n ≡ (cond t (refused k m) (cond (leb most (num m)) (refused full m) (accepted (add m a)))).number)
-        × Holds (cond t (refused k m) (cond (leb most (num m)) (refused full m) (accepted (add m a)))).builder l'
-    by n true u g p m h w = (g, subst (Holds m) (sym p) h)
-    by n false true g p m h w =
-        let b : num m < most = let c = number_is most f (array m) (num m) l h in let d = ltb-true (get_or l 0 0) most w in omega arith in
-        let r = keeps_more most f (array m) (num m) l h a x l' b e p in
-        rw (lt-leb most (num m) b) (g, rw (sets m a, counts m a) r)
-    by n false false g p m h w =
-        let b : most ≤ num m = let c = number_is most f (array m) (num m) l h in let d = ltb-false (get_or l 0 0) most w in omega arith in
-        rw (le-leb most (num m) b) (g, keeps_full most f (array m) (num m) l h x l' b p)
+  module _ (k : ℕ) (a : A) (l : List ℕ) where
+    -- an item that was refused
+    pub kept_out : (n : ℕ) → 0 < k → n ≡ k → Steps k a l n l
+    kept_out n h e m w = simp (lt-ltb 0 k h) (e, w)
 
-    -- where the code's number j is k, and its own `full` is this one
-    pub added : (n j i : ℕ) → j ≡ k → i ≡ full → n ≡ added_number most i j l → PushedUnless (ltb 0 j) most x l l' → Steps k a l n l'
-    added n j i u v g p m h =
-        by n (ltb 0 k) (ltb (get_or l 0 0) most) (g ∙ ap₂ (λ (d c : ℕ). added_number most c d l) u v) (subst (λ (d : ℕ). PushedUnless (ltb 0 d) most x l l') u p) m h refl
+    -- one that was built, x its bytes
+    module _ (z : k ≡ 0) (l' x : List ℕ) (e : x ≡ f a) (p : Pushed most x l l') where
+      by : (n : ℕ) (u : Bool) → n ≡ cond u 0 full → (m : M) → Holds m l → ltb (get_or l 0 0) most ≡ u
+          → (n ≡ (cond (leb most (num m)) (refused full m) (accepted (add m a))).number)
+          × Holds (cond (leb most (num m)) (refused full m) (accepted (add m a))).builder l'
+      by n true g m h w =
+          let b : num m < most = let c = number_is most f (array m) (num m) l h in let d = ltb-true (get_or l 0 0) most w in omega arith in
+          let r = keeps_more most f (array m) (num m) l h a x l' b e p in
+          rw (lt-leb most (num m) b) (g, rw (sets m a, counts m a) r)
+      by n false g m h w =
+          let b : most ≤ num m = let c = number_is most f (array m) (num m) l h in let d = ltb-false (get_or l 0 0) most w in omega arith in
+          rw (le-leb most (num m) b) (g, keeps_full most f (array m) (num m) l h x l' b p)
+
+      pub put_in : (n : ℕ) → n ≡ cond (ltb (get_or l 0 0) most) 0 full → Steps k a l n l'
+      put_in n g m h = simp (le-ltb 0 k (omega (arith, z))) (by n (ltb (get_or l 0 0) most) g m h refl)
 
 -- ---- the memory's builder
 
@@ -113,17 +115,23 @@ more_sequences m s =
       acceleration_enabled = m.acceleration_enabled;
     }
 
-module _ (r : Built Snippet SnippetBuilder) (l : List ℕ) where
-  pub snippet_added : (n j i : ℕ) (x l' : List ℕ) → j ≡ r.number → i ≡ 6 → n ≡ added_number 15 i j l → x ≡ snippet_bytes r.item → PushedUnless (ltb 0 j) 15 x l l'
-      → StepsSnippets (λ m. with_built_snippet m r) l n l'
-  snippet_added n j i x l' u v e f p =
-      added 15 6 snippet_bytes (λ m. m.snippets) (λ m. m.num_snippets) more_snippets (λ m a. refl) (λ m a. refl) r.number r.item l l' x f n j i u v e p
+module _ (r : Built Snippet SnippetBuilder) (l : List ℕ) (n : ℕ) where
+  pub snippet_out : 0 < r.number → n ≡ r.number → StepsSnippets (λ m. with_built_snippet m r) l n l
+  snippet_out = kept_out 15 6 snippet_bytes (λ m. m.snippets) (λ m. m.num_snippets) more_snippets (λ m a. refl) (λ m a. refl) r.number r.item l n
 
-module _ (r : Built Sequence SequenceBuilder) (l : List ℕ) where
-  pub sequence_added : (n j i : ℕ) (x l' : List ℕ) → j ≡ r.number → i ≡ 7 → n ≡ added_number 16 i j l → x ≡ sequence_bytes r.item → PushedUnless (ltb 0 j) 16 x l l'
+  pub snippet_in : r.number ≡ 0 → (x l' : List ℕ) → x ≡ snippet_bytes r.item → Pushed 15 x l l' → n ≡ cond (ltb (get_or l 0 0) 15) 0 6
+      → StepsSnippets (λ m. with_built_snippet m r) l n l'
+  snippet_in z x l' e p =
+      put_in 15 6 snippet_bytes (λ m. m.snippets) (λ m. m.num_snippets) more_snippets (λ m a. refl) (λ m a. refl) r.number r.item l z l' x e p n
+
+module _ (r : Built Sequence SequenceBuilder) (l : List ℕ) (n : ℕ) where
+  pub sequence_out : 0 < r.number → n ≡ r.number → StepsSequences (λ m. with_built_sequence m r) l n l
+  sequence_out = kept_out 16 7 sequence_bytes (λ m. m.sequences) (λ m. m.num_sequences) more_sequences (λ m a. refl) (λ m a. refl) r.number r.item l n
+
+  pub sequence_in : r.number ≡ 0 → (x l' : List ℕ) → x ≡ sequence_bytes r.item → Pushed 16 x l l' → n ≡ cond (ltb (get_or l 0 0) 16) 0 7
       → StepsSequences (λ m. with_built_sequence m r) l n l'
-  sequence_added n j i x l' u v e f p =
-      added 16 7 sequence_bytes (λ m. m.sequences) (λ m. m.num_sequences) more_sequences (λ m a. refl) (λ m a. refl) r.number r.item l l' x f n j i u v e p
+  sequence_in z x l' e p =
+      put_in 16 7 sequence_bytes (λ m. m.sequences) (λ m. m.num_sequences) more_sequences (λ m a. refl) (λ m a. refl) r.number r.item l z l' x e p n
 
 -- ---- from nothing to an image
 

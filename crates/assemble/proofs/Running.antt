@@ -3,7 +3,7 @@
 use mathlib.Core.Path.{◌≡◌, refl, sym, ap, ap₂, ◌∙◌, subst}
 use mathlib.Core.Bool.{Bool, true, false, cond}
 use mathlib.Core.List.{List, [], ◌∷◌, ◌++◌}
-use Prim.Native.Nat.{ℕ, zero, suc, ◌+◌, ◌≤◌, ◌<◌, min}
+use Prim.Native.Nat.{ℕ, zero, suc, ◌+◌, ◌≤◌, ◌<◌}
 use native.Mathlib.Decide.{ℕ_discrete, dec_le}
 use native.Mathlib.Omega.{arith}
 use borrow.Author.Tests.{lt-ltb, ltb-true, ltb-false}
@@ -77,17 +77,17 @@ module _ (b : Builders) (call : Call) (l k : List ℕ) (t : Handed Builders) whe
 
 -- ---- where a run stands
 
-pub record Running (bytes answers₀ answers snippets sequences : List ℕ) (b : Builders) (at i told : ℕ) : Type 0 where
+pub record Running (bytes answers₀ answers snippets sequences : List ℕ) (b : Builders) (ahead : List ℕ) (i told : ℕ) : Type 0 where
   pub memory : WaveformMemoryBuilder
   pub holds : KeepsMemory memory snippets sequences
-  pub rest : flat_after nothing_yet (calls_in bytes) ≡ flat_after (state b memory) (calls_in (drop at bytes))
-  pub stored : sets answers₀ 0 (flat_answers nothing_yet (calls_in bytes)) ≡ sets answers i (flat_answers (state b memory) (calls_in (drop at bytes)))
-  pub tells : first_refused 0 (flat_answers nothing_yet (calls_in bytes)) ≡ cond (ltb 0 told) told (first_refused i (flat_answers (state b memory) (calls_in (drop at bytes))))
-  pub counts : length (calls_in bytes) ≡ i + length (calls_in (drop at bytes))
+  pub rest : flat_after nothing_yet (calls_in bytes) ≡ flat_after (state b memory) (calls_in ahead)
+  pub stored : sets answers₀ 0 (flat_answers nothing_yet (calls_in bytes)) ≡ sets answers i (flat_answers (state b memory) (calls_in ahead))
+  pub tells : first_refused 0 (flat_answers nothing_yet (calls_in bytes)) ≡ cond (ltb 0 told) told (first_refused i (flat_answers (state b memory) (calls_in ahead)))
+  pub counts : length (calls_in bytes) ≡ i + length (calls_in ahead)
 
 -- before the first call
 pub begun : (bytes answers : List ℕ) {b : Builders} {ls qs : List ℕ} → b ≡ started → ls ≡ replicate 116 0 → qs ≡ replicate 117 0
-    → Running bytes answers answers ls qs b 0 0 0
+    → Running bytes answers answers ls qs b bytes 0 0
 begun bytes answers e f g =
     rw (e, f, g)
     (record { memory = nothing_yet.memory; holds = keeps_none; rest = refl; stored = refl; tells = refl; counts = omega arith })
@@ -110,18 +110,18 @@ first_last told = go (ltb 0 told) refl where
   go true e = refl
   go false e = let h = ltb-false 0 told e in omega arith
 
-module _ {bytes k₀ k ls qs : List ℕ} {b : Builders} {at i told : ℕ} (r : Running bytes k₀ k ls qs b at i told) where
+module _ {bytes k₀ k ls qs : List ℕ} {b : Builders} {ahead : List ℕ} {i told : ℕ} (r : Running bytes k₀ k ls qs b ahead i told) where
   -- one turn
-  pub turn : (call : Call) (t : Handed Builders) (ls' qs' k' : List ℕ) (b' : Builders) (n at' told' : ℕ) → at < length bytes → at' ≡ min (at + 4) (length bytes)
-      → call ≡ call_of (first_record (drop at bytes)) → StepsMemory b call ls qs t ls' qs' → n ≡ t.number → b' ≡ t.builder → k' ≡ set k i n
-      → told' ≡ cond (ltb 0 told) told (cond (ltb 0 n) (with_place n i) 0) → Running bytes k₀ k' ls' qs' b' at' (i + 1) told'
+  pub turn : (call : Call) (t : Handed Builders) (ls' qs' k' : List ℕ) (b' : Builders) (n : ℕ) (ahead' : List ℕ) (told' : ℕ) → 0 < length ahead → ahead' ≡ drop 4 ahead
+      → call ≡ call_of (first_record ahead) → StepsMemory b call ls qs t ls' qs' → n ≡ t.number → b' ≡ t.builder → k' ≡ set k i n
+      → told' ≡ cond (ltb 0 told) told (cond (ltb 0 n) (with_place n i) 0) → Running bytes k₀ k' ls' qs' b' ahead' (i + 1) told'
   unfolding flat_after flat_answers
-  turn call t ls' qs' k' b' n at' told' h e ec steps en eb ek et =
+  turn call t ls' qs' k' b' n ahead' told' h e ec steps en eb ek et =
       let m = r.memory in
       let w = steps m r.holds in
       let f = flat_called (state b m) call in
-      let ks = calls_in (drop at' bytes) in
-      let next : calls_in (drop at bytes) ≡ call ∷ ks = calls_next bytes at at' h e ∙ ap (λ (c : Call). c ∷ ks) (sym ec) in
+      let ks = calls_in ahead' in
+      let next : calls_in ahead ≡ call ∷ ks = calls_next ahead h ∙ ap (λ (l : List ℕ). call_of (first_record ahead) ∷ calls_in l) (sym e) ∙ ap (λ (c : Call). c ∷ ks) (sym ec) in
       let number : f.number ≡ n = sym (en ∙ ap (λ (x : Handed Builders). x.number) w.0) in
       let left : f.builder ≡ state b' f.builder.memory = ap (λ (x : Builders). state x f.builder.memory) (sym (eb ∙ ap (λ (x : Handed Builders). x.builder) w.0)) in
       let one : i + 1 ≡ suc i = omega arith in
@@ -144,9 +144,9 @@ module _ {bytes k₀ k ls qs : List ℕ} {b : Builders} {at i told : ℕ} (r : R
       }
 
   -- nothing is left
-  module _ (h : length bytes ≤ at) where
-    none : calls_in (drop at bytes) ≡ []
-    none = calls_none bytes at h
+  module _ (h : length ahead ≤ 0) where
+    none : calls_in ahead ≡ []
+    none = calls_none ahead h
 
     pub left_builders : b ≡ (flat_after nothing_yet (calls_in bytes)).builders
     unfolding flat_after

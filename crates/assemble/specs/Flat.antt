@@ -5,7 +5,6 @@ use Rattle.errors.specs.Told.{Handed, refused}
 use Rattle.snippet.specs.Snippet.{new_snippet, built_snippet}
 use Rattle.sequence.specs.Sequence.{new_sequence, built_sequence}
 use Rattle.calls.specs.Said.{Call}
-use Rattle.calls.specs.Said as Call
 use Rattle.calls.specs.declared.Builders.{Builders}
 use Rattle.calls.specs.Calls.{called}
 use Rattle.memory.specs.declared.WaveformMemoryBuilder.{WaveformMemoryBuilder}

@@ -1,5 +1,5 @@
 -- Items kept in lent bytes: their number, a length for each, then their bytes, of which a hundred have room.
-use Rattle.std.specs.Prelude.{ℕ, ◌+◌, ◌-◌, ◌≤◌, ◌≡◌, Bool, true, false, cond, List, [], ◌∷◌, ◌++◌, map, ltb, length, get_or, replicate}
+use Rattle.std.specs.Prelude.{ℕ, ◌+◌, ◌-◌, ◌≤◌, ◌≡◌, cond, List, [], ◌∷◌, ◌++◌, map, ltb, length, get_or, replicate}
 use Rattle.errors.specs.Told.{told_by, told_number}
 use Rattle.laws.specs.Copied.{copied}
 use Rattle.laws.specs.Whole.{whole, whole_out}
@@ -28,15 +28,6 @@ ends before (n ∷ ns) = (before + n) ∷ ends (before + n) ns
 abbrev pub Pushed : ℕ → List ℕ → List ℕ → List ℕ → Type 0
 Pushed most bytes l l' =
     (items : List (List ℕ)) → length items ≤ most → l ≡ kept most items → l' ≡ kept most (cond (ltb (length items) most) (items ++ (bytes ∷ [])) items)
-
--- the same, unless the item was refused before
-abbrev pub PushedUnless : Bool → ℕ → List ℕ → List ℕ → List ℕ → Type 0
-PushedUnless true most bytes l l' = l' ≡ l
-PushedUnless false most bytes l l' = Pushed most bytes l l'
-
--- the number of an item that is added: its own refusal, else `full` where there is no room
-abbrev pub added_number : ℕ → ℕ → ℕ → List ℕ → ℕ
-added_number most full number l = cond (ltb 0 number) number (cond (ltb (get_or l 0 0) most) 0 full)
 
 -- ---- the image
 

@@ -6,5 +6,6 @@ pub mod Holding
 pub mod Items
 pub mod Kept
 pub mod Lists
+pub mod Refusal
 pub mod Strict
 pub mod UsedUp

@@ -9,39 +9,57 @@
 
 mod pool;
 
-ghost use Rattle.std.specs.Prelude.{◌≡◌, false, cond, min, ◌+◌, ◌≤◌, ◌<◌, ltb, length, replicate, set};
+ghost use Rattle.std.specs.Prelude.{◌≡◌, false, cond, ◌+◌, ◌^◌, ◌<◌, ltb, length, replicate, set};
 ghost use Rattle.laws.specs.Copied.{copied};
 ghost use Rattle.laws.specs.Whole.{whole_out};
 ghost use Rattle.errors.specs.Number.{answer_number};
-ghost use Rattle.errors.specs.Told.{handed, built};
+ghost use Rattle.errors.specs.Told.{handed};
+ghost use Rattle.snippet.specs.Snippet.{built_snippet};
+ghost use Rattle.sequence.specs.Sequence.{built_sequence};
 ghost use Rattle.memory.specs.Memory.{with_snippet, with_sequence};
 ghost use Rattle.calls.specs.Calls.{calls_in, call_of};
 ghost use Rattle.pattern.specs.Calls.{memory_from, with_built};
-ghost use Rattle.assemble.specs.Lists.{groups_of, answers_of, builders_of, last_place, with_place, first_refused};
+ghost use Rattle.assemble.specs.Lists.{groups_of, answers_of, builders_of, with_place, first_refused};
 ghost use Rattle.assemble.specs.Items.{image_item, strict_item, leniently, strictly};
-ghost use Rattle.assemble.specs.Flat.{less_snippet, less_sequence};
-ghost use Rattle.assemble.specs.Kept.{room_for, PushedUnless, added_number};
+ghost use Rattle.assemble.specs.Kept.{room_for};
 ghost use Rattle.assemble.specs.Holding.{KeepsMemory, StepsSnippets, StepsSequences, StepsMemory};
+ghost use Rattle.assemble.specs.Refusal.{refusal_number, first_number, strict_number};
 
-use calls::{ADD_SEQUENCE, ADD_SNIPPET, Builders, Record, Stepped};
+use calls::{ADD_SEQUENCE, ADD_SNIPPET, Builders, Record};
 use errors::Error;
-use sequence::{BuiltSequence, SequenceBuilder};
-use snippet::{BuiltSnippet, SnippetBuilder};
+use sequence::SequenceBuilder;
+use snippet::SnippetBuilder;
 
 // The bytes that keep 15 snippets, and those that keep 16 sequences.
 const SNIPPETS_KEPT: usize = 116;
 
 const SEQUENCES_KEPT: usize = 117;
 
-// The last place of a call that has room in an answer.
+// The last place of a call that has room in a number.
 const LAST_PLACE: usize = 16777215;
 
-// What a run leaves: the builders, how many calls there were, and the first refusal with its place, or 0.
+// Why a list of calls makes no image: a refusal, and the place of its call, counted from 1. The build's own has place 0.
+#[derive(Debug, Clone, Copy, PartialEq, Eq)]
+pub struct Refusal {
+    pub error: Error,
+    pub place: usize,
+}
+
+impl Refusal {
+    // The refusal's number and 256 times its place; a later place counts as the last that has room.
+    pub fn number(self) -> u32
+        ensures { result ≡ refusal_number self }
+    {
+        u32::from(self.error.number()) + 256 * self.place.min(LAST_PLACE) as u32
+    }
+}
+
+// What a run leaves: the builders, how many calls there were, and the first refusal.
 #[derive(Clone, Copy)]
 struct Ran {
     builders: Builders,
     count: usize,
-    told: u32,
+    first: Option<Refusal>,
 }
 
 // Gives the answer to each call: they go to the front of `answers`, as many as fit. Builds nothing, and answers how many calls there are.
@@ -51,49 +69,45 @@ pub fn answers(calls: &[u8], answers: &mut [u8]) -> usize
 {
     let mut snippets = [0u8; SNIPPETS_KEPT];
     let mut sequences = [0u8; SEQUENCES_KEPT];
-    let r = run(calls, answers, &mut snippets, &mut sequences);
-    r.count
+    run(calls, answers, &mut snippets, &mut sequences).count
 }
 
 // The snippet, the frame and the sequence under construction after the calls.
 pub fn builders(calls: &[u8]) -> Builders
     ensures { result ≡ builders_of calls.now }
 {
-    let mut none = [0u8; 0];
     let mut snippets = [0u8; SNIPPETS_KEPT];
     let mut sequences = [0u8; SEQUENCES_KEPT];
-    let r = run(calls, &mut none, &mut snippets, &mut sequences);
-    r.builders
+    run(calls, &mut [], &mut snippets, &mut sequences).builders
 }
 
-// Builds the image of what the accepted calls added, whatever other calls were refused; it goes whole to the front of `image`. Answers 0,
-// or the number of the build's refusal, or, where there is none, of BufferTooShort; a refusal leaves `image`.
-pub fn assemble(calls: &[u8], image: &mut [u8]) -> u8
-    ensures answer { result ≡ leniently image.old calls.now }
+// Builds the image of what the accepted calls added, whatever other calls were refused; it goes whole to the front of `image`. Answers the
+// build's refusal or, where there is none, BufferTooShort; a refusal leaves `image`.
+pub fn assemble(calls: &[u8], image: &mut [u8]) -> Result<(), Error>
+    ensures answer { answer_number result ≡ leniently image.old calls.now }
     ensures image { image.new ≡ whole_out image.old (image_item calls.now) }
 {
-    let mut none = [0u8; 0];
     let mut snippets = [0u8; SNIPPETS_KEPT];
     let mut sequences = [0u8; SEQUENCES_KEPT];
-    run(calls, &mut none, &mut snippets, &mut sequences);
+    run(calls, &mut [], &mut snippets, &mut sequences);
     pool::image(&snippets, &sequences, image)
 }
 
-// Builds the image only if no call is refused. Answers 0, or the number of the first refusal with 256 times the place of its call, counted
-// from 1 (the build's own and BufferTooShort come with place 0); a refusal leaves `image`.
-pub fn assemble_strict(calls: &[u8], image: &mut [u8]) -> u32
-    ensures answer { result ≡ strictly image.old calls.now }
+// Builds the image only if no call is refused. Answers the first refusal with its place (the build's own and BufferTooShort come with place 0); a
+// refusal leaves `image`.
+pub fn assemble_strict(calls: &[u8], image: &mut [u8]) -> Result<(), Refusal>
+    ensures answer { strict_number result ≡ strictly image.old calls.now }
     ensures image { image.new ≡ whole_out image.old (strict_item calls.now) }
 {
-    let mut none = [0u8; 0];
     let mut snippets = [0u8; SNIPPETS_KEPT];
     let mut sequences = [0u8; SEQUENCES_KEPT];
-    let r = run(calls, &mut none, &mut snippets, &mut sequences);
-    let told = r.told;
-    if 0 < told {
-        return told;
+    match run(calls, &mut [], &mut snippets, &mut sequences).first {
+        Some(refusal) => Err(refusal),
+        None => match pool::image(&snippets, &sequences, image) {
+            Ok(()) => Ok(()),
+            Err(error) => Err(Refusal { error, place: 0 }),
+        },
     }
-    pool::image(&snippets, &sequences, image) as u32
 }
 
 // Runs the calls on new builders, the memory's kept in bytes that are zero; the answers go to the front of the buffer, as many as fit.
@@ -101,196 +115,100 @@ fn run(calls: &[u8], answers: &mut [u8], snippets: &mut [u8], sequences: &mut [u
     requires { (snippets.old ≡ replicate (room_for 15) 0) × (sequences.old ≡ replicate (room_for 16) 0) }
     ensures builders { result.builders ≡ builders_of calls.now }
     ensures count { result.count ≡ length (calls_in calls.now) }
-    ensures told { result.told ≡ first_refused 0 (answers_of calls.now) }
+    ensures told { first_number result.first ≡ first_refused 0 (answers_of calls.now) }
     ensures answers { answers.new ≡ copied answers.old (answers_of calls.now) }
     ensures memory { KeepsMemory (memory_from false (groups_of calls.now).memory) snippets.new sequences.new }
 {
     let mut b = Builders::new();
-    let mut at = 0usize;
+    let mut first = None;
     let mut i = 0usize;
-    let mut told = 0u32;
-    while at < calls.len() {
-        let record = Record::read(calls, at);
-        let r = step(b, record, snippets, sequences);
-        let n = r.number;
-        b = r.builders;
-        put(answers, i, n);
-        told = first(told, n, i);
-        at = next(at, calls.len());
+    let mut rest = calls;
+    while 0 < rest.len() {
+        let answer = step(&mut b, Record::read(rest), snippets, sequences);
+        put(answers, i, errors::number(answer));
+        first = earlier(first, answer, i);
         i += 1;
+        rest = &rest[4.min(rest.len())..];
     }
     Ran {
         builders: b,
         count: i,
-        told: told,
+        first,
     }
 }
 
-// Makes the call that a record says, on the builders or on the items kept.
-fn step(b: Builders, record: Record, snippets: &mut [u8], sequences: &mut [u8]) -> Stepped
+// Makes the call that a record says, on the builders or on the items kept. An item that was accepted is used up.
+fn step(
+    b: &mut Builders,
+    record: Record,
+    snippets: &mut [u8],
+    sequences: &mut [u8],
+) -> Result<(), Error>
     requires { (length snippets.old ≡ room_for 15) × (length sequences.old ≡ room_for 16) }
-    ensures { StepsMemory b (call_of «record») snippets.old sequences.old (handed result.number result.builders)
+    ensures { StepsMemory b.old (call_of «record») snippets.old sequences.old (handed (answer_number result) b.new)
         snippets.new sequences.new }
 {
-    let code = record.code;
-    match code {
+    match record.code {
         ADD_SNIPPET => {
-            let s = b.snippet;
-            let n = add_snippet(snippets, s.build());
-            less_snippet(b, n)
+            add_snippet(snippets, b.snippet)?;
+            b.snippet = SnippetBuilder::new();
+            Ok(())
         }
         ADD_SEQUENCE => {
-            let q = b.sequence;
-            let n = add_sequence(sequences, q.build());
-            less_sequence(b, n)
+            add_sequence(sequences, b.sequence)?;
+            b.sequence = SequenceBuilder::new();
+            Ok(())
         }
         _ => b.apply(record),
     }
 }
 
-// A snippet that was accepted is used up.
-fn less_snippet(b: Builders, number: u8) -> Stepped
-    ensures { handed result.number result.builders ≡ handed number (less_snippet b number) }
-{
-    if 0 < number {
-        return Stepped {
-            number: number,
-            builders: b,
-        };
-    }
-    let s = SnippetBuilder::new();
-    let f = b.frame;
-    let q = b.sequence;
-    let builders = Builders {
-        snippet: s,
-        frame: f,
-        sequence: q,
-    };
-    Stepped {
-        number: number,
-        builders: builders,
-    }
-}
-
-// A sequence that was accepted is used up.
-fn less_sequence(b: Builders, number: u8) -> Stepped
-    ensures { handed result.number result.builders ≡ handed number (less_sequence b number) }
-{
-    if 0 < number {
-        return Stepped {
-            number: number,
-            builders: b,
-        };
-    }
-    let s = b.snippet;
-    let f = b.frame;
-    let q = SequenceBuilder::new();
-    let builders = Builders {
-        snippet: s,
-        frame: f,
-        sequence: q,
-    };
-    Stepped {
-        number: number,
-        builders: builders,
-    }
-}
-
-// Puts a snippet behind the others, if it was built.
-fn add_snippet(list: &mut [u8], r: BuiltSnippet) -> u8
+// Puts the snippet behind the others, if it can be built.
+fn add_snippet(list: &mut [u8], b: SnippetBuilder) -> Result<(), Error>
     requires { length list.old ≡ room_for 15 }
-    ensures { StepsSnippets (λ m. with_built with_snippet m (built (answer_number r.answer) r.snippet r.builder))
-        list.old result list.new }
+    ensures { StepsSnippets (λ m. with_built with_snippet m (built_snippet b)) list.old (answer_number result) list.new }
 {
-    let a = r.answer;
-    let s = r.snippet;
-    let bytes = s.bytes();
-    let len = s.byte_len();
-    add(
+    let snippet = b.build()?;
+    pool::push(
         list,
         15,
-        Error::TooManySnippets.number(),
-        a.number(),
-        &bytes[..len],
+        Error::TooManySnippets,
+        &snippet.bytes()[..snippet.byte_len()],
     )
 }
 
-// Puts a sequence behind the others, if it was built.
-fn add_sequence(list: &mut [u8], r: BuiltSequence) -> u8
+// Puts the sequence behind the others, if it can be built.
+fn add_sequence(list: &mut [u8], b: SequenceBuilder) -> Result<(), Error>
     requires { length list.old ≡ room_for 16 }
-    ensures { StepsSequences (λ m. with_built with_sequence m (built (answer_number r.answer) r.sequence r.builder))
-        list.old result list.new }
+    ensures { StepsSequences (λ m. with_built with_sequence m (built_sequence b)) list.old (answer_number result) list.new }
 {
-    let a = r.answer;
-    let s = r.sequence;
-    let bytes = s.as_bytes();
-    let len = s.byte_len();
-    add(
-        list,
-        16,
-        Error::TooManySequences.number(),
-        a.number(),
-        &bytes[..len],
-    )
-}
-
-// Puts an item behind the others unless it was refused; answers that refusal, or `full` where there is no room.
-fn add(list: &mut [u8], most: usize, full: u8, number: u8, bytes: &[u8]) -> u8
-    requires { (length list.old ≡ room_for most) × (most ≤ 16) × (length bytes.now < 256) }
-    ensures answer { result ≡ added_number most full number list.old }
-    ensures list { PushedUnless (ltb 0 number) most bytes.now list.old list.new }
-{
-    if 0 < number {
-        return number;
-    }
-    if pool::push(list, most, bytes) {
-        return 0;
-    }
-    full
+    let sequence = b.build()?;
+    pool::push(list, 16, Error::TooManySequences, sequence.as_bytes())
 }
 
 // Stores at an index, if there is such a byte.
 fn put(answers: &mut [u8], i: usize, x: u8)
     ensures { answers.new ≡ set answers.old i x }
 {
-    if answers.len() <= i {
-        return;
+    if i < answers.len() {
+        answers[i] = x;
     }
-    answers[i] = x;
 }
 
-// The first refusal with its place: the one told before, else that of the i-th call, counted from 0.
-fn first(told: u32, number: u8, i: usize) -> u32
-    ensures { result ≡ cond (ltb 0 told) told (cond (ltb 0 number) (with_place number i) 0) }
+// The first refusal: the one told before, else that of the i-th call, counted from 0.
+fn earlier(first: Option<Refusal>, answer: Result<(), Error>, i: usize) -> Option<Refusal>
+    requires { i + 1 < 2 ^ 64 }
+    ensures { first_number result
+        ≡ cond (ltb 0 (first_number first)) (first_number first) (cond (ltb 0 (answer_number answer)) (with_place (answer_number answer) i) 0) }
 {
-    if 0 < told {
-        return told;
+    match first {
+        Some(refusal) => Some(refusal),
+        None => match answer {
+            Ok(()) => None,
+            Err(error) => Some(Refusal {
+                error,
+                place: i + 1,
+            }),
+        },
     }
-    if 0 < number {
-        return (number as u32) + 256 * (place(i) as u32);
-    }
-    0
-}
-
-fn place(i: usize) -> usize
-    ensures value { result ≡ min (i + 1) last_place }
-    ensures upper_bound { result ≤ last_place }
-{
-    if LAST_PLACE <= i {
-        return LAST_PLACE;
-    }
-    i + 1
-}
-
-// Where the next record begins.
-fn next(at: usize, len: usize) -> usize
-    ensures { result ≡ min (at + 4) len }
-{
-    if len <= at {
-        return len;
-    }
-    if len - at < 4 {
-        return len;
-    }
-    at + 4
 }

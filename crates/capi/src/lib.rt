@@ -6,8 +6,8 @@
 // docs/DIFFERENCES.md lists.
 #![tactic(auto)]
 
-ghost use Rattle.std.specs.Prelude.{◌≡◌, ltb, min, length};
-ghost use Rattle.errors.specs.Number.{encoded_told};
+ghost use Rattle.std.specs.Prelude.{◌≡◌, ◌*◌, ltb, min, length};
+ghost use Rattle.errors.specs.Number.{error_number, told};
 ghost use Rattle.errors.specs.Packed.{packed, Room};
 ghost use Rattle.snippet.specs.Point.{point, point_told, ramp_in, timebases_in, amplitude_in};
 ghost use Rattle.laws.specs.Copied.{copied};
@@ -22,9 +22,8 @@ ghost use Rattle.field.specs.Field.{code_of};
 ghost use Rattle.field.specs.Layout.{readings, replacements};
 ghost use Rattle.registers.specs.Table.{interrupts, actuator, control, trigger, read_only, addresses};
 
-use calls::UnderWay;
-use errors::{Encoded, Error};
-use snippet::{PointAnswer, PwlPoint};
+use errors::Error;
+use snippet::PwlPoint;
 
 // What a refusal's number is multiplied by beside a length or a count, and beside a point's byte.
 const REFUSED: u32 = 65536;
@@ -32,12 +31,12 @@ const REFUSED: u32 = 65536;
 const REFUSED_POINT: u16 = 256;
 
 // A point's answer as one number.
-fn word(made: PointAnswer) -> u16
+fn word(made: Result<PwlPoint, Error>) -> u16
     ensures { result ≡ packed 8 (point_told made) }
 {
     match made {
-        PointAnswer::Point(p) => p.as_byte() as u16,
-        PointAnswer::Refused(e) => (e.number() as u16) * REFUSED_POINT,
+        Ok(p) => p.as_byte() as u16,
+        Err(e) => (e.number() as u16) * REFUSED_POINT,
     }
 }
 
@@ -73,14 +72,21 @@ pub extern "C" fn da728x_point_amplitude(byte: u8) -> u8
 }
 
 // What encoding an item answers as one number.
-fn length_word(r: Encoded) -> u32
-    requires { Room 16 (encoded_told r) }
-    ensures { result ≡ packed 16 (encoded_told r) }
+fn length_word(r: Result<usize, Error>) -> u32
+    requires { Room 16 (told r) }
+    ensures { result ≡ packed 16 (told r) }
 {
     match r {
-        Encoded::Whole(n) => n as u32,
-        Encoded::Refused(e) => (e.number() as u32) * REFUSED,
+        Ok(n) => n as u32,
+        Err(e) => refusal_word(e),
     }
+}
+
+// A refusal as one number, beside lengths and counts.
+fn refusal_word(e: Error) -> u32
+    ensures { result ≡ error_number e * 65536 }
+{
+    u32::from(e.number()) * REFUSED
 }
 
 // Builds the snippet and encodes it into the front of `out`; answers its length, or the refusal, and then `out` stays.
@@ -89,16 +95,10 @@ pub extern "C" fn da728x_snippet(calls: &[u8], out: &mut [u8]) -> u32
     ensures answer { result ≡ packed 16 (length_of (whole out.old (snippet_item calls.now))) }
     ensures out { out.new ≡ whole_out out.old (snippet_item calls.now) }
 {
-    let b = assemble::builders(calls);
-    let s = b.snippet;
-    let r = s.build();
-    let a = r.answer;
-    let n = a.number();
-    if 0 < n {
-        return (n as u32) * REFUSED;
+    match assemble::builders(calls).snippet.build() {
+        Ok(snippet) => length_word(snippet.encode_into(out)),
+        Err(e) => refusal_word(e),
     }
-    let item = r.snippet;
-    length_word(item.encode_into(out))
 }
 
 // Builds the frame and encodes it into the front of `out`; answers its length, or the refusal, and then `out` stays.
@@ -107,11 +107,9 @@ pub extern "C" fn da728x_frame(calls: &[u8], out: &mut [u8]) -> u32
     ensures answer { result ≡ packed 16 (length_of (whole out.old (frame_item calls.now))) }
     ensures out { out.new ≡ whole_out out.old (frame_item calls.now) }
 {
-    let b = assemble::builders(calls);
-    let f = b.frame;
-    match f {
-        UnderWay::NotBegun => (Error::InvalidSnippetId.number() as u32) * REFUSED,
-        UnderWay::Begun(x) => length_word(x.build().encode_into(out)),
+    match assemble::builders(calls).frame {
+        Some(frame) => length_word(frame.build().encode_into(out)),
+        None => refusal_word(Error::InvalidSnippetId),
     }
 }
 
@@ -121,16 +119,10 @@ pub extern "C" fn da728x_sequence(calls: &[u8], out: &mut [u8]) -> u32
     ensures answer { result ≡ packed 16 (length_of (whole out.old (sequence_item calls.now))) }
     ensures out { out.new ≡ whole_out out.old (sequence_item calls.now) }
 {
-    let b = assemble::builders(calls);
-    let q = b.sequence;
-    let r = q.build();
-    let a = r.answer;
-    let n = a.number();
-    if 0 < n {
-        return (n as u32) * REFUSED;
+    match assemble::builders(calls).sequence.build() {
+        Ok(sequence) => length_word(sequence.encode_into(out)),
+        Err(e) => refusal_word(e),
     }
-    let item = r.sequence;
-    length_word(item.encode_into(out))
 }
 
 // How many bytes the sequence under construction has.
@@ -138,9 +130,7 @@ pub extern "C" fn da728x_sequence(calls: &[u8], out: &mut [u8]) -> u32
 pub extern "C" fn da728x_current_len(calls: &[u8]) -> usize
     ensures { result ≡ (builders_of calls.now).sequence.len }
 {
-    let b = assemble::builders(calls);
-    let q = b.sequence;
-    q.current_len()
+    assemble::builders(calls).sequence.current_len()
 }
 
 // Stores the answer to each call, and answers how many calls there are.
@@ -158,7 +148,7 @@ pub extern "C" fn da728x_assemble(calls: &[u8], image: &mut [u8]) -> u8
     ensures answer { result ≡ leniently image.old calls.now }
     ensures image { image.new ≡ whole_out image.old (image_item calls.now) }
 {
-    assemble::assemble(calls, image)
+    errors::number(assemble::assemble(calls, image))
 }
 
 // Builds the image if no call is refused.
@@ -167,7 +157,10 @@ pub extern "C" fn da728x_assemble_strict(calls: &[u8], image: &mut [u8]) -> u32
     ensures answer { result ≡ strictly image.old calls.now }
     ensures image { image.new ≡ whole_out image.old (strict_item calls.now) }
 {
-    assemble::assemble_strict(calls, image)
+    match assemble::assemble_strict(calls, image) {
+        Ok(()) => 0,
+        Err(refusal) => refusal.number(),
+    }
 }
 
 // How many snippets and sequences an image has.

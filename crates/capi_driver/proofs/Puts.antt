@@ -1,20 +1,12 @@
 -- A record put into the caller's bytes, and an exchange's bytes. Assumes nothing.
 use Prim.Native.Nat.{ℕ, zero, suc, ◌-◌, ◌≤◌}
-use mathlib.Core.Path.{◌≡◌, refl, sym, ap, ◌∙◌}
-use mathlib.Core.Bool.{Bool, cond}
+use mathlib.Core.Path.{◌≡◌, refl, ap, ◌∙◌}
 use mathlib.Core.List.{List, [], ◌∷◌, ◌++◌}
 use lib.ListN.{length, drop, replicate}
 use lib.Seq.{take_all}
-use borrow.Author.Tests.{eq-eqb}
 use Rattle.laws.specs.Copied.{copied}
 use Rattle.laws.specs.Lists.{at}
-use Rattle.laws.proofs.Copies.{copied_all}
 use Rattle.exchange.proofs.Laid.{drop_replicate}
-use Rattle.da728x.specs.declared.DA728x.{DA728x}
-use Rattle.da728x.specs.Record.{record_bytes}
-use Rattle.da728x.proofs.Kept.{record_length}
-use Rattle.outcome.specs.declared.Change.TheVariants.{To}
-use Rattle.capi_driver.specs.Words.{record_out}
 
 -- an image shorter than the memory, over zeros
 pub loaded_image : (image : List ℕ) → length image ≤ 100 → copied (replicate 100 0) image ≡ image ++ replicate (100 - length image) 0

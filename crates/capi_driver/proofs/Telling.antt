@@ -14,7 +14,7 @@ use Rattle.laws.specs.Bytes.{Bytes}
 use Rattle.laws.specs.Lists.{at}
 use Rattle.errors.specs.Told.{accepted, refused}
 use Rattle.config.specs.declared.Variant.TheVariants.{DA7280}
-use Rattle.std.specs.Prelude.{Option, Some, None, is_some}
+use Rattle.std.specs.Prelude.{Some, None, is_some}
 use Rattle.std.specs.Option.{unwrap_or}
 use Rattle.field.specs.Field.{code_of}
 use Rattle.exchange.specs.declared.Exchange.{Exchange}

@@ -22,7 +22,7 @@ use Rattle.exchange.proofs.Comes.{comes}
 use Rattle.exchange.proofs.Keeps.{keeps}
 use Rattle.exchange.proofs.Session.{session}
 use Rattle.sessions.specs.Sessions.{no_image, blank_record}
-use Rattle.std.specs.Prelude.{Option, Some, None}
+use Rattle.std.specs.Prelude.{Some, None}
 use Rattle.outcome.specs.Outcome.{big_endian, value_in, outcome_of}
 use Rattle.driver.specs.Theorems.{all_steps, Course}
 

@@ -1,7 +1,7 @@
 // Every operation of the driver (lib.rs; document 01, 'Settings to registers' and 'Exchanges'), begun as a session in bytes that the
-// caller lends; a refused one writes nothing. The `DA728x` of lib.rs is `da728x::DA728x` without its bus: it goes in by value with the
-// start and with each answer. `answer` gives it back, changed by the answer that completes `new` or `configure`, and by every one to an
-// upload that is taken: its count of sequences is 0 until the last. The start of an upload gives it back with 0 (document 02, CR 10).
+// caller lends; a refused one writes nothing. The `DA728x` of lib.rs is `da728x::DA728x` without its bus: each start reads it, and the
+// record in force is lent with each answer. `answer` changes it by the answer that completes `new` or `configure`, and by every one to an
+// upload that is taken: its count of sequences is 0 until the last. The start of an upload sets it to 0 (document 02, CR 10).
 // `set_custom_drive_waveform`, which has no finished body in the Rust, writes the registers that document 02 (CR 8) names.
 // Left out: the `defmt` prints.
 //

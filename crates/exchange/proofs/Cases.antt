@@ -41,7 +41,3 @@ module _ (st : List ℕ) (c : AnswerCall) (e : left st ≡ []) where
   pub idle_state : after_call st c ≡ st
   unfolding after_call state_after
   idle_state = ap (λ (f : Fit). state_by st (effect_of f)) (unfit_none st c.reply (length c.buffer) e)
-
-  pub idle_number : eqb (number_at st c) 0 ≡ false
-  unfolding report_of
-  idle_number = ap (λ (f : Fit). eqb (effect_of f).number 0) (unfit_none st c.reply (length c.buffer) e)

@@ -147,8 +147,9 @@ pub struct Opening<'a> {
     pub record: &'a [u8; RECORD_SIZE],
 }
 
-// Begins a session without steps; the caller's bytes stay as they are if they are not as many as a session has.
-#[inline]
+// Begins a session without steps; the caller's bytes stay as they are if they are not as many as a session has. Inlined, since each
+// caller knows most of what it opens with.
+#[inline(always)]
 #[tactic(auto, unfolding(crate::specs::State::begun_in))]
 pub fn begin(session: &mut [u8], opening: Opening<'_>)
     ensures { session.new

@@ -1,6 +1,6 @@
 -- What the answers of a step and of a walk say, and how they are told.
 -- Assumes nothing.
-use Rattle.std.proofs.Common.{◌≡◌, refl, sym, subst, ◌∙◌, ap, ℕ, Result, Ok, Err, IsErrAnd}
+use Rattle.std.proofs.Common.{◌≡◌, refl, sym, subst, ◌∙◌, ap, ℕ, Result, Ok, Err}
 use mathlib.Core.Option.{Option, none, some}
 use native.Mathlib.Omega.{arith}
 use Rattle.errors.specs.declared.Error.{Error}
@@ -45,8 +45,3 @@ walks_ok (some w) {n = n} h e = let k : w.last ≡ n = last (sym h.0 ∙ e) in �
 pub walks_err : {S : Type 0} (m : Option (Walked S)) {r : Result ℕ Error} (s : S) {e : Error} → Walks m r s → r ≡ Err e → (m ≡ none) × (e ≡ NotAnImage)
 walks_err none s h e = (refl, ap error_in (sym e ∙ h))
 walks_err (some w) s h e = differ (sym h.0 ∙ e)
-
--- the error that `?` hands on
-pub passed : {A : Type 0} (r : Result A Error) {e : Error} → IsErrAnd r (λ y. y ≡ e) → r ≡ Err e
-passed (Ok a) h = absurd h
-passed (Err y) h = ap Err h

@@ -4,7 +4,6 @@ use mathlib.Core.Path.{◌≡◌, refl, ap, ◌∙◌}
 use mathlib.Core.List.{List, [], ◌∷◌, ◌++◌}
 use lib.ListN.{length}
 use Rattle.exchange.specs.declared.Step.{Step}
-use Rattle.exchange.specs.declared.Step.TheVariants.{Read, Update}
 use Rattle.exchange.specs.State.{Begun, begun_with, begun_in, pushed, pushed_all}
 use Rattle.exchange.proofs.Pushes.{pushes}
 use Rattle.da728x.specs.declared.DA728x.{DA728x}
@@ -42,13 +41,5 @@ uploaded st address purpose image next xs e few h k l =
 
 -- ---- a session, by what is known of its values
 
-pub begins_as : (st : List ℕ) (address room purpose : ℕ) {n m : ℕ} {i j h k u : List ℕ} → u ≡ begun_in st (begun_with address n room purpose i h) [] → n ≡ m → i ≡ j → h ≡ k →
-    u ≡ begun_in st (begun_with address m room purpose j k) []
-begins_as st address room purpose e a b c = e ∙ (λ t. begun_in st (begun_with address (a t) room purpose (b t) (c t)) [])
-
 pub runs_one : (st : List ℕ) {u : List ℕ} (b : Begun) {x y : Step} → u ≡ begun_in st b (x ∷ []) → x ≡ y → u ≡ begun_in st b (y ∷ [])
 runs_one st b e h = e ∙ (λ i. begun_in st b (h i ∷ []))
-
-pub runs_update : (st : List ℕ) {u : List ℕ} (b : Begun) {r q v w : ℕ} (start width : ℕ) → u ≡ begun_in st b (Read r ∷ Update r start width v ∷ []) → r ≡ q → v ≡ w →
-    u ≡ begun_in st b (Read q ∷ Update q start width w ∷ [])
-runs_update st b start width e h k = e ∙ (λ i. begun_in st b (Read (h i) ∷ Update (h i) start width (k i) ∷ []))

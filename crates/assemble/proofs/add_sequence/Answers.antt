@@ -1,13 +1,15 @@
-use Rattle.std.proofs.Common.{ap, ◌∙◌, take}
+use Rattle.std.proofs.Common.{refl, subst}
 use Rattle.errors.specs.Number.{answer_number}
-use Rattle.errors.specs.Told.{built}
-use Rattle.laws.proofs.Lists.{shown_part}
-use Rattle.assemble.proofs.Holding.{sequence_added}
+use Rattle.errors.specs.Told.{Built, built}
+use Rattle.sequence.specs.declared.Sequence.{Sequence}
+use Rattle.sequence.specs.declared.SequenceBuilder.{SequenceBuilder}
+use Rattle.pattern.proofs.Items.{with_built_sequence}
+use Rattle.assemble.specs.Holding.{StepsSequences}
+use Rattle.assemble.proofs.Holding.{sequence_in}
 use Rattle.assemble.proofs.add_sequence.Goals as goal
 
 pub returns : goal.returns
 returns c =
-    let r = c.args.r in
-    let n = c.byte_len-len in
-    sequence_added (built (answer_number r.answer) r.sequence r.builder) c.args.list.now _ _ _ _ _ c.number-2.ensures c.number.ensures c.add.ensures.answer
-    (ap (take n.result) c.as_bytes-bytes.ensures ∙ shown_part r.sequence.«data» r.sequence.len n.result n.ensures) c.add.ensures.list
+    let a = c.args in
+    subst (λ (r : Built Sequence SequenceBuilder). StepsSequences (λ m. with_built_sequence m r) a.list.now (answer_number c.push.result) c.push.new.list) c.in_ok-sequence.ensures
+    (sequence_in (built 0 c.in_ok-sequence.sequence a.b) a.list.now _ refl _ _ c.as_bytes.ensures c.push.ensures.pushed c.push.ensures.value)

@@ -1,17 +1,17 @@
-use Rattle.std.proofs.Common.{◌≡◌, ◌-◌, ◌≤◌, length}
+use Rattle.std.proofs.Common.{◌≡◌, ◌+◌, ◌≤◌, length}
 use Rattle.assemble.specs.Kept.{room_for}
+use Rattle.assemble.specs.Refusal.{first_number}
 use Rattle.assemble.proofs.Running.{Running}
 use Rattle.assemble.proofs.run.Given as goal
 
 -- running what is left gives the builders and the answers of the whole, with the memory's builder kept in the bytes
-abbrev pub invariant-loop-at : goal.invariant-loop-at
-invariant-loop-at l = record {
-  within : l.at ≤ length l.calls;
-  counts : l.i ≤ l.at;
+abbrev pub invariant-loop-rest : goal.invariant-loop-rest
+invariant-loop-rest l = record {
+  counts : l.i + length l.rest ≤ length l.calls;
   snippets : length l.snippets ≡ room_for 15;
   sequences : length l.sequences ≡ room_for 16;
-  runs : Running l.calls l.fn.answers l.answers l.snippets l.sequences l.b l.at l.i l.told;
+  runs : Running l.calls l.fn.answers l.answers l.snippets l.sequences l.b l.rest l.i (first_number l.first);
 }
 
-abbrev pub decreases-loop-at : goal.decreases-loop-at
-decreases-loop-at l = length l.calls - l.at
+abbrev pub decreases-loop-rest : goal.decreases-loop-rest
+decreases-loop-rest l = length l.rest

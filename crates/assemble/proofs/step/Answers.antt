@@ -5,4 +5,4 @@ use Rattle.assemble.proofs.step.Goals as goal
 
 pub returns-in_default : goal.returns-in_default
 returns-in_default c =
-    small_step c.args.b (call_of c.args.record) c.args.snippets.now c.args.sequences.now _ (small_code c.args.record (omega arith) (omega arith)) c.apply.ensures
+    small_step c.args.b.now (call_of c.args.record) c.args.snippets.now c.args.sequences.now _ (small_code c.args.record (omega arith) (omega arith)) c.apply.ensures

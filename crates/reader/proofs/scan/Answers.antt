@@ -5,7 +5,8 @@ use Rattle.content.proofs.Items.{counts_sound}
 use Rattle.reader.specs.Walk.{push_snippet, push_sequence, walk_snippets, walk_sequences}
 use Rattle.reader.proofs.Loops.{part}
 use Rattle.reader.proofs.Scanned.{no_snippets, no_sequences, ended, walk_last}
-use Rattle.reader.proofs.Steps.{walks_ok, walks_err, passed}
+use Rattle.errors.proofs.Passed.{passed}
+use Rattle.reader.proofs.Steps.{walks_ok, walks_err}
 use Rattle.reader.proofs.scan.Goals as goal
 
 pub returns-in_err-last : goal.returns-in_err-last

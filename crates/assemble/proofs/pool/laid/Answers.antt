@@ -4,4 +4,4 @@ use Rattle.assemble.proofs.pool.laid.Goals as goal
 pub returns : goal.returns
 returns c =
     laid_over c.args.snippet_lens.now c.args.sequence_lens.now c.args.snippets.now c.args.sequences.now c.requires.size
-    _ _ _ _ _ c.pointers-last.ensures.value c.pointers-last.ensures.out_after c.pointers.ensures.out_after c.put.ensures c.put-2.ensures
+    _ _ _ _ _ c.pointers-last.ensures.value c.pointers-last.ensures.out_after c.pointers.ensures.out_after c.lay.ensures c.lay-2.ensures

@@ -4,7 +4,8 @@ use Rattle.std.proofs.lemmas.List.{take_rest}
 use Rattle.frame.specs.Read.{first_frame}
 use Rattle.reader.specs.Walk.{run_frames}
 use Rattle.reader.proofs.Running.{run_step, run_stop, run_full, run_end}
-use Rattle.reader.proofs.Steps.{stepped_none, stepped_some, passed}
+use Rattle.errors.proofs.Passed.{passed}
+use Rattle.reader.proofs.Steps.{stepped_none, stepped_some}
 use Rattle.reader.proofs.Frames.push_all.Goals as goal
 
 pub returns-then-bytes-at : goal.returns-then-bytes-at

@@ -3,7 +3,8 @@ use Rattle.std.proofs.Common.{◌∙◌, Err, ap, arith, refl, sym}
 use mathlib.Core.Option.{some}
 use Rattle.reader.specs.Walk.{run_frames}
 use Rattle.reader.proofs.Loops.{sequence_run}
-use Rattle.reader.proofs.Steps.{stepped_ok, stepped_err, stepped_none, stepped_some, passed}
+use Rattle.errors.proofs.Passed.{passed}
+use Rattle.reader.proofs.Steps.{stepped_ok, stepped_err, stepped_none, stepped_some}
 use Rattle.reader.proofs.FramesGather.add.Goals as goal
 
 pub returns-in_err-push_all : goal.returns-in_err-push_all
