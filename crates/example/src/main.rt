@@ -4,52 +4,42 @@
 #![tactic(auto)]
 
 use memory::WaveformMemory;
+use show::Image;
 use std::io;
 
 fn main(rt: HostRuntime) -> io::Result<()> {
-    show::text(
-        &rt,
-        b"1. Two patterns, by the builders: every call in order. A ramp or step has a length in timebases and an\n",
+    println!(rt;
+        "1. Two patterns, by the builders: every call in order. A ramp or step has a length in timebases and an"
     )?;
-    show::text(
-        &rt,
-        b"   amplitude to reach; loop count 0 plays a frame once\n",
-    )?;
+    println!(rt; "   amplitude to reach; loop count 0 plays a frame once")?;
     let ahead = example_patterns::shallow_ahead(&rt)?;
     let turn = example_patterns::turn_now(&rt)?;
-    show::text(
-        &rt,
-        b"\n2. Their images, a hundred bytes each, in hexadecimal; an end pointer is the index of an item's last byte\n",
+    println!(rt;
+        "\n2. Their images, a hundred bytes each, in hexadecimal; an end pointer is the index of an item's last byte"
     )?;
-    image(&rt, b"\nshallow ahead:", ahead)?;
-    image(&rt, b"\nturn now:", turn)?;
+    image(&rt, "shallow ahead", &ahead)?;
+    image(&rt, "turn now", &turn)?;
     example_calls::ahead(&rt)?;
-    show::text(&rt, b"\n3. The same images, read back\n")?;
-    read_back(&rt, b"\nshallow ahead\n", ahead)?;
-    read_back(&rt, b"\nturn now\n", turn)?;
-    damaged(&rt, turn)?;
-    let mut registers = [0u8; 256];
-    let mut session = [0u8; exchange::SESSION_SIZE];
-    example_drive::drive(&rt, turn, &mut registers, &mut session)
+    println!(rt; "\n3. The same images, read back")?;
+    println!(rt; "\nshallow ahead")?;
+    example_lists::read(&rt, ahead.bytes())?;
+    println!(rt; "\nturn now")?;
+    example_lists::read(&rt, turn.bytes())?;
+    damaged(&rt, &turn)?;
+    example_drive::drive(&rt, &turn)
 }
 
-fn image(rt: &impl Print, title: &[u8], memory: WaveformMemory) -> io::Result<()> {
-    let bytes = memory.as_bytes();
-    show::text(rt, title)?;
-    example_lists::layout(rt, &bytes, memory.num_snippets(), memory.num_sequences())?;
-    show::image(rt, &bytes)
-}
-
-fn read_back(rt: &impl Print, title: &[u8], memory: WaveformMemory) -> io::Result<()> {
-    let bytes = memory.as_bytes();
-    show::text(rt, title)?;
-    example_lists::read(rt, &bytes)
+fn image(rt: &impl Print, title: &str, memory: &WaveformMemory) -> io::Result<()> {
+    let bytes = memory.bytes();
+    print!(rt; "\n{title}:")?;
+    example_lists::layout(rt, bytes, memory.num_snippets(), memory.num_sequences())?;
+    print!(rt; "{}", Image(bytes))
 }
 
 // The same image with one byte changed, which is then no image.
-fn damaged(rt: &impl Print, memory: WaveformMemory) -> io::Result<()> {
-    let mut bytes = memory.as_bytes();
+fn damaged(rt: &impl Print, memory: &WaveformMemory) -> io::Result<()> {
+    let mut bytes = *memory.bytes();
     bytes[2] = 0xFF;
-    show::text(rt, b"\nturn now with byte 02 changed to FF\n")?;
+    println!(rt; "\nturn now with byte 02 changed to FF")?;
     example_lists::read(rt, &bytes)
 }

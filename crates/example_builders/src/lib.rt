@@ -1,19 +1,30 @@
-// The builder calls of the program `example`. Each is printed as it is made, with its refusal if it has one. Proved: every function returns.
+// The builder calls of the program `example`. Each is printed as it is made, with its refusal if it has one; a refused call adds nothing.
+// Proved: every function returns.
 #![tactic(auto)]
 
-use errors::Answer;
-use frame::{Frame, FrameBuilder, Gain, NewFrame, Timebase};
+use errors::Error;
+use frame::{Frame, FrameBuilder, Gain, Timebase};
 use memory::{WaveformMemory, WaveformMemoryBuilder};
 use sequence::SequenceBuilder;
+use show::Refusal;
 use snippet::SnippetBuilder;
 use std::io;
+
+/// All fields of a frame.
+#[derive(Clone, Copy, Debug)]
+pub struct FrameFields {
+    pub snippet_id: u8,
+    pub gain: Gain,
+    pub timebase: Timebase,
+    pub loop_count: u8,
+    pub frequency_hz: u16,
+}
 
 // ---- snippets
 
 pub fn new_snippet(rt: &impl Print, b: WaveformMemoryBuilder) -> io::Result<SnippetBuilder> {
-    show::text(rt, b"  snippet ")?;
-    show::decimal(rt, b.next_snippet_id() as u64)?;
-    show::text(rt, b"  ")?;
+    let id = b.next_snippet_id();
+    print!(rt; "  snippet {id}  ")?;
     Ok(SnippetBuilder::new())
 }
 
@@ -23,13 +34,8 @@ pub fn ramp(
     timebases: u8,
     amplitude: u8,
 ) -> io::Result<SnippetBuilder> {
-    show::text(rt, b" ramp(")?;
-    point(rt, timebases, amplitude)?;
-    let added = s.ramp(timebases, amplitude);
-    let answer = added.answer;
-    let next = added.builder;
-    tell(rt, answer)?;
-    Ok(next)
+    print!(rt; " ramp({timebases}, {amplitude})")?;
+    or_as_before(rt, s, s.ramp(timebases, amplitude))
 }
 
 pub fn step(
@@ -38,20 +44,8 @@ pub fn step(
     timebases: u8,
     amplitude: u8,
 ) -> io::Result<SnippetBuilder> {
-    show::text(rt, b" step(")?;
-    point(rt, timebases, amplitude)?;
-    let added = s.step(timebases, amplitude);
-    let answer = added.answer;
-    let next = added.builder;
-    tell(rt, answer)?;
-    Ok(next)
-}
-
-fn point(rt: &impl Print, timebases: u8, amplitude: u8) -> io::Result<()> {
-    show::decimal(rt, timebases as u64)?;
-    show::text(rt, b", ")?;
-    show::decimal(rt, amplitude as u64)?;
-    show::text(rt, b")")
+    print!(rt; " step({timebases}, {amplitude})")?;
+    or_as_before(rt, s, s.step(timebases, amplitude))
 }
 
 pub fn add_snippet(
@@ -59,119 +53,72 @@ pub fn add_snippet(
     b: WaveformMemoryBuilder,
     s: SnippetBuilder,
 ) -> io::Result<WaveformMemoryBuilder> {
-    let built = s.build();
-    let answer = built.answer;
-    let snippet = built.snippet;
-    tell(rt, answer)?;
-    show::text(rt, b": ")?;
-    show::decimal(rt, snippet.byte_len() as u64)?;
-    show::text(rt, b" points\n")?;
-    let added = b.add_snippet(snippet);
-    let answer = added.answer;
-    let next = added.builder;
-    tell(rt, answer)?;
-    Ok(next)
+    match s.build() {
+        Ok(snippet) => {
+            let points = snippet.byte_len();
+            println!(rt; ": {points} points")?;
+            or_as_before(rt, b, b.add_snippet(snippet))
+        }
+        Err(e) => refused(rt, b, e),
+    }
 }
 
 // ---- sequences
 
 pub fn new_sequence(rt: &impl Print, b: WaveformMemoryBuilder) -> io::Result<SequenceBuilder> {
-    show::text(rt, b"  sequence ")?;
-    show::decimal(rt, b.next_sequence_id() as u64)?;
-    show::end_line(rt)?;
+    let id = b.next_sequence_id();
+    println!(rt; "  sequence {id}")?;
     Ok(SequenceBuilder::new())
 }
 
-// A frame with all its fields.
 pub fn play(
     rt: &impl Print,
     q: SequenceBuilder,
-    snippet_id: u8,
-    gain: Gain,
-    timebase: Timebase,
-    loop_count: u8,
-    frequency_hz: u16,
+    frame: FrameFields,
 ) -> io::Result<SequenceBuilder> {
-    show::text(rt, b"    new(")?;
-    show::decimal(rt, snippet_id as u64)?;
-    show::text(rt, b")")?;
+    let snippet_id = frame.snippet_id;
+    print!(rt; "    new({snippet_id})")?;
     match FrameBuilder::new(snippet_id) {
-        NewFrame::Builder(f) => add_frame(
-            rt,
-            q,
-            looped(rt, voiced(rt, f, gain, timebase)?, loop_count, frequency_hz)?,
-        ),
-        NewFrame::Refused(e) => {
-            tell(rt, Answer::Refused(e))?;
-            show::end_line(rt)?;
+        Ok(f) => add_frame(rt, q, played(rt, f, frame)?),
+        Err(e) => {
+            let q = refused(rt, q, e)?;
+            println!(rt)?;
             Ok(q)
         }
     }
 }
 
-fn voiced(
-    rt: &impl Print,
-    f: FrameBuilder,
-    gain: Gain,
-    timebase: Timebase,
-) -> io::Result<FrameBuilder> {
-    show::text(rt, b" gain(")?;
-    show::gain(rt, gain.code())?;
-    show::text(rt, b")")?;
-    timed(rt, f.gain(gain), timebase)
+// The calls after the first.
+fn played(rt: &impl Print, f: FrameBuilder, frame: FrameFields) -> io::Result<Frame> {
+    let gain = show::gain(frame.gain);
+    let timebase = show::timebase(frame.timebase);
+    print!(rt; " gain({gain}) timebase({timebase})")?;
+    let f = f.gain(frame.gain).timebase(frame.timebase);
+
+    let loop_count = frame.loop_count;
+    print!(rt; " loop_count({loop_count})")?;
+    let f = or_as_before(rt, f, f.loop_count(loop_count))?;
+
+    let frequency_hz = frame.frequency_hz;
+    print!(rt; " frequency_hz({frequency_hz})")?;
+    Ok(or_as_before(rt, f, f.frequency_hz(frequency_hz))?.build())
 }
 
-fn timed(rt: &impl Print, f: FrameBuilder, timebase: Timebase) -> io::Result<FrameBuilder> {
-    show::text(rt, b" timebase(")?;
-    show::timebase(rt, timebase.code())?;
-    show::text(rt, b")")?;
-    Ok(f.timebase(timebase))
-}
-
-fn looped(
-    rt: &impl Print,
-    f: FrameBuilder,
-    loop_count: u8,
-    frequency_hz: u16,
-) -> io::Result<Frame> {
-    show::text(rt, b" loop_count(")?;
-    show::decimal(rt, loop_count as u64)?;
-    show::text(rt, b")")?;
-    let set = f.loop_count(loop_count);
-    let answer = set.answer;
-    let next = set.builder;
-    tell(rt, answer)?;
-    tuned(rt, next, frequency_hz)
-}
-
-fn tuned(rt: &impl Print, f: FrameBuilder, frequency_hz: u16) -> io::Result<Frame> {
-    show::text(rt, b" frequency_hz(")?;
-    show::decimal(rt, frequency_hz as u64)?;
-    show::text(rt, b")")?;
-    let set = f.frequency_hz(frequency_hz);
-    let answer = set.answer;
-    let next = set.builder;
-    tell(rt, answer)?;
-    Ok(next.build())
-}
-
-// The built-in silence, which lasts two timebases.
+/// The built-in silence, which lasts two timebases.
 pub fn pause(
     rt: &impl Print,
     q: SequenceBuilder,
     timebase: Timebase,
 ) -> io::Result<SequenceBuilder> {
-    show::text(rt, b"    silence()")?;
-    add_frame(rt, q, timed(rt, FrameBuilder::silence(), timebase)?.build())
+    let length = show::timebase(timebase);
+    print!(rt; "    silence() timebase({length})")?;
+    add_frame(rt, q, FrameBuilder::silence().timebase(timebase).build())
 }
 
 fn add_frame(rt: &impl Print, q: SequenceBuilder, frame: Frame) -> io::Result<SequenceBuilder> {
-    let added = q.add_frame(frame);
-    let answer = added.answer;
-    let next = added.builder;
-    tell(rt, answer)?;
-    show::end_line(rt)?;
-    Ok(next)
+    let q = or_as_before(rt, q, q.add_frame(frame))?;
+    println!(rt)?;
+    Ok(q)
 }
 
 pub fn add_sequence(
@@ -179,34 +126,33 @@ pub fn add_sequence(
     b: WaveformMemoryBuilder,
     q: SequenceBuilder,
 ) -> io::Result<WaveformMemoryBuilder> {
-    let built = q.build();
-    let answer = built.answer;
-    let sequence = built.sequence;
-    tell(rt, answer)?;
-    let added = b.add_sequence(sequence);
-    let answer = added.answer;
-    let next = added.builder;
-    tell(rt, answer)?;
-    Ok(next)
+    match q.build() {
+        Ok(sequence) => or_as_before(rt, b, b.add_sequence(sequence)),
+        Err(e) => refused(rt, b, e),
+    }
 }
 
 pub fn build(rt: &impl Print, b: WaveformMemoryBuilder) -> io::Result<WaveformMemory> {
-    let built = b.build();
-    let answer = built.answer;
-    tell(rt, answer)?;
-    let memory = built.memory;
-    Ok(memory)
-}
-
-// The refusal, if it is one.
-fn tell(rt: &impl Print, answer: Answer) -> io::Result<()> {
-    match answer {
-        Answer::Done => {}
-        Answer::Refused(e) => {
-            show::text(rt, b" refused with ")?;
-            show::error(rt, e.number())?;
-            show::text(rt, b",")?;
+    match b.build() {
+        Ok(memory) => Ok(memory),
+        Err(e) => {
+            refused(rt, b, e)?;
+            Err(io::Error::other("no image"))
         }
     }
-    Ok(())
+}
+
+// ---- what a call answers
+
+// What a call made, or what it was made on if it was refused.
+fn or_as_before<B: Copy>(rt: &impl Print, before: B, answer: Result<B, Error>) -> io::Result<B> {
+    match answer {
+        Ok(after) => Ok(after),
+        Err(e) => refused(rt, before, e),
+    }
+}
+
+fn refused<B: Copy>(rt: &impl Print, before: B, e: Error) -> io::Result<B> {
+    print!(rt; " refused with {},", Refusal(e))?;
+    Ok(before)
 }

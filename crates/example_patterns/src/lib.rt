@@ -2,7 +2,8 @@
 #![tactic(auto)]
 
 use example_builders::{
-    add_sequence, add_snippet, build, new_sequence, new_snippet, pause, play, ramp, step,
+    FrameFields, add_sequence, add_snippet, build, new_sequence, new_snippet, pause, play, ramp,
+    step,
 };
 use frame::{Gain, Timebase};
 use memory::{WaveformMemory, WaveformMemoryBuilder};
@@ -10,18 +11,27 @@ use sequence::SequenceBuilder;
 use snippet::SnippetBuilder;
 use std::io;
 
-// Two long swells, the second stronger.
+/// Two long swells, the second stronger.
 pub fn shallow_ahead(rt: &impl Print) -> io::Result<WaveformMemory> {
-    show::text(
-        rt,
-        b"\nshallow ahead: two long swells, the second stronger\n",
-    )?;
+    println!(rt; "\nshallow ahead: two long swells, the second stronger")?;
     let b = WaveformMemoryBuilder::new(false);
     let b = add_snippet(rt, b, swell(rt, new_snippet(rt, b)?)?)?;
+    let weaker = FrameFields {
+        snippet_id: 1,
+        gain: Gain::Half,
+        timebase: Timebase::Ms43_52,
+        loop_count: 0,
+        frequency_hz: 120,
+    };
+    let stronger = FrameFields {
+        gain: Gain::Full,
+        loop_count: 1,
+        ..weaker
+    };
     let q = new_sequence(rt, b)?;
-    let q = play(rt, q, 1, Gain::Half, Timebase::Ms43_52, 0, 120)?;
+    let q = play(rt, q, weaker)?;
     let q = pause(rt, q, Timebase::Ms87_04)?;
-    let q = play(rt, q, 1, Gain::Full, Timebase::Ms43_52, 1, 120)?;
+    let q = play(rt, q, stronger)?;
     build(rt, add_sequence(rt, b, q)?)
 }
 
@@ -33,25 +43,18 @@ fn swell(rt: &impl Print, s: SnippetBuilder) -> io::Result<SnippetBuilder> {
     ramp(rt, s, 4, 0)
 }
 
-// Sequence 0 turns to port, sequence 1 to starboard.
+/// Sequence 0 turns to port, sequence 1 to starboard.
 pub fn turn_now(rt: &impl Print) -> io::Result<WaveformMemory> {
-    show::text(
-        rt,
-        b"\nturn now: three sharp knocks, a pause and a thud to port; the other way round to starboard\n",
+    println!(rt;
+        "\nturn now: three sharp knocks, a pause and a thud to port; the other way round to starboard"
     )?;
     let b = WaveformMemoryBuilder::new(false);
     let b = add_snippet(rt, b, knock(rt, new_snippet(rt, b)?)?)?;
     let b = add_snippet(rt, b, thud(rt, new_snippet(rt, b)?)?)?;
-    let b = add_sequence(
-        rt,
-        b,
-        end_in_thud(rt, knock_thrice(rt, new_sequence(rt, b)?)?)?,
-    )?;
-    let b = add_sequence(
-        rt,
-        b,
-        knock_thrice(rt, begin_in_thud(rt, new_sequence(rt, b)?)?)?,
-    )?;
+    let port = end_in_thud(rt, knock_thrice(rt, new_sequence(rt, b)?)?)?;
+    let b = add_sequence(rt, b, port)?;
+    let starboard = knock_thrice(rt, begin_in_thud(rt, new_sequence(rt, b)?)?)?;
+    let b = add_sequence(rt, b, starboard)?;
     build(rt, b)
 }
 
@@ -65,18 +68,37 @@ fn thud(rt: &impl Print, s: SnippetBuilder) -> io::Result<SnippetBuilder> {
     ramp(rt, s, 8, 0)
 }
 
+// Each knock is stronger than the one before.
 fn knock_thrice(rt: &impl Print, q: SequenceBuilder) -> io::Result<SequenceBuilder> {
-    let q = play(rt, q, 1, Gain::Quarter, Timebase::Ms21_76, 0, 200)?;
-    let q = play(rt, q, 1, Gain::Half, Timebase::Ms21_76, 0, 200)?;
-    play(rt, q, 1, Gain::Full, Timebase::Ms21_76, 0, 200)
+    let mut q = q;
+    for gain in [Gain::Quarter, Gain::Half, Gain::Full] {
+        let knock = FrameFields {
+            snippet_id: 1,
+            gain,
+            timebase: Timebase::Ms21_76,
+            loop_count: 0,
+            frequency_hz: 200,
+        };
+        q = play(rt, q, knock)?;
+    }
+    Ok(q)
 }
+
+// The thud of both sequences.
+const THUD: FrameFields = FrameFields {
+    snippet_id: 2,
+    gain: Gain::Full,
+    timebase: Timebase::Ms21_76,
+    loop_count: 2,
+    frequency_hz: 300,
+};
 
 fn end_in_thud(rt: &impl Print, q: SequenceBuilder) -> io::Result<SequenceBuilder> {
     let q = pause(rt, q, Timebase::Ms87_04)?;
-    play(rt, q, 2, Gain::Full, Timebase::Ms21_76, 2, 300)
+    play(rt, q, THUD)
 }
 
 fn begin_in_thud(rt: &impl Print, q: SequenceBuilder) -> io::Result<SequenceBuilder> {
-    let q = play(rt, q, 2, Gain::Full, Timebase::Ms21_76, 2, 300)?;
+    let q = play(rt, q, THUD)?;
     pause(rt, q, Timebase::Ms87_04)
 }

@@ -157,7 +157,7 @@ impl Register {
 }
 
 // Each constant beside its name, in the written order.
-const NAMED: [(&str, Register); 42] = [
+pub const NAMED: [(&str, Register); 42] = [
     ("CHIP_REV", Register::CHIP_REV),
     ("IRQ_EVENT1", Register::IRQ_EVENT1),
     ("IRQ_EVENT_WARNING_DIAG", Register::IRQ_EVENT_WARNING_DIAG),

@@ -3,349 +3,189 @@
 // Proved: every function is safe and returns.
 #![tactic(auto)]
 
-use vectors_bytes::{MARKER, at, begins, both, field, front, number, part, same, sum, untouched};
+mod kind;
+mod told;
 
-// The first kind and the last.
-const FIRST: u8 = 32;
+use exchange::Reply;
+use kind::Kind;
+use vectors_bytes::{MARKER, number};
 
-const LAST: u8 = 49;
+// More exchanges than a session makes.
+const MOST: u64 = 128;
 
-// Whether a case of ten fields agrees; none of another kind does.
-pub fn agrees(kind: u8, bytes: &[u8], ends: &[usize]) -> bool {
-    match kind {
-        FIRST..=LAST => {
-            let mut state = [MARKER; exchange::SESSION_SIZE];
-            lending(kind, bytes, ends, &mut state)
-        }
-        _ => false,
-    }
-}
-
-// The record is lent with the start and with each answer; bytes of the marker, where the case has none.
-fn lending(kind: u8, bytes: &[u8], ends: &[usize], state: &mut [u8]) -> bool {
-    let mut record = [MARKER; exchange::RECORD_SIZE];
-    laws::copy_into(&mut record, field(bytes, ends, 1));
-    started(kind, bytes, ends, state, &mut record)
-}
-
-fn started(kind: u8, bytes: &[u8], ends: &[usize], state: &mut [u8], record: &mut [u8]) -> bool {
-    let number = begun(kind, bytes, ends, state, record);
-    if number != at(field(bytes, ends, 4), 0) {
-        return false;
-    }
-    if number == 0 {
-        return completed(bytes, ends, state, record);
-    }
-    both(
-        changed(record, field(bytes, ends, 1), field(bytes, ends, 8)),
-        refused(state, field(bytes, ends, 5), field(bytes, ends, 6)),
-    )
-}
-
-fn begun(kind: u8, bytes: &[u8], ends: &[usize], state: &mut [u8], record: &mut [u8]) -> u8 {
-    let arguments = field(bytes, ends, 2);
-    start(kind, record, arguments, field(bytes, ends, 3), state)
-}
-
-fn completed(bytes: &[u8], ends: &[usize], state: &mut [u8], record: &mut [u8]) -> bool {
-    let exchanges = field(bytes, ends, 5);
-    let told = field(bytes, ends, 6);
-    if runs(record, state, exchanges, told, field(bytes, ends, 7)) {
-        let after = field(bytes, ends, 8);
-        return both(
-            changed(record, field(bytes, ends, 1), after),
-            capi_driver::da728x_result(state) == number(field(bytes, ends, 9)),
-        );
-    }
-    false
-}
-
-// Begins a session of a kind from the first to the last: 0 or the number of the refusal.
-fn start(kind: u8, record: &mut [u8], arguments: &[u8], input: &[u8], session: &mut [u8]) -> u8 {
-    let a = at(arguments, 0);
-    match kind {
-        32 => capi_driver::da728x_new(a, at(arguments, 1), session),
-        33 => capi_driver::da728x_configure(record, input, session),
-        45 => capi_driver::da728x_upload_waveform_memory(record, input, a, session),
-        _ => begin(kind, record, arguments, session),
-    }
-}
-
-// The operations that have a record and perhaps numbers.
-fn begin(kind: u8, record: &[u8], arguments: &[u8], session: &mut [u8]) -> u8 {
-    if kind < 37 {
-        return get(kind, record, session);
-    }
-    match kind {
-        42 => custom(record, arguments, session),
-        46 => read(record, arguments, session),
-        40 | 41 | 43 | 44 | 48 => plain(kind, record, session),
-        _ => given(kind, record, at(arguments, 0), at(arguments, 1), session),
-    }
-}
-
-fn get(kind: u8, record: &[u8], session: &mut [u8]) -> u8 {
-    match kind {
-        34 => capi_driver::da728x_get_chip_rev(record, session),
-        35 => capi_driver::da728x_get_events(record, session),
-        _ => capi_driver::da728x_get_status(record, session),
-    }
-}
-
-// The other operations that have a record alone.
-fn plain(kind: u8, record: &[u8], session: &mut [u8]) -> u8 {
-    match kind {
-        40 => capi_driver::da728x_enable(record, session),
-        41 => capi_driver::da728x_disable(record, session),
-        43 => capi_driver::da728x_unlock_waveform_memory(record, session),
-        44 => capi_driver::da728x_lock_waveform_memory(record, session),
-        _ => capi_driver::da728x_start_sequence(record, session),
-    }
-}
-
-// Those that have one number or two.
-fn given(kind: u8, record: &[u8], a: u8, b: u8, session: &mut [u8]) -> u8 {
-    match kind {
-        37 => capi_driver::da728x_set_frequency(record, word(a, b), session),
-        38 => capi_driver::da728x_set_override_value(record, signed(a), session),
-        39 => capi_driver::da728x_set_timebase(record, a, session),
-        47 => capi_driver::da728x_select_sequence(record, a, b, session),
-        _ => capi_driver::da728x_play_sequence(record, a, b, session),
-    }
-}
-
-fn custom(record: &[u8], points: &[u8], session: &mut [u8]) -> u8 {
-    let a = at(points, 0);
-    let b = at(points, 1);
-    capi_driver::da728x_set_custom_drive_waveform(record, a, b, at(points, 2), session)
-}
-
-fn read(record: &[u8], lengths: &[u8], session: &mut [u8]) -> u8 {
-    let len = word(at(lengths, 0), at(lengths, 1)) as usize;
-    let room = word(at(lengths, 2), at(lengths, 3)) as usize;
-    capi_driver::da728x_read_waveform_memory(record, len, room, session)
-}
-
-fn word(upper: u8, lower: u8) -> u16 {
-    256 * (upper as u16) + lower as u16
-}
-
-fn signed(byte: u8) -> i8 {
-    if byte < 128 {
-        return byte as i8;
-    }
-    !((255 - byte) as i8)
-}
-
-// After a refusal the session is as it was lent, and nothing more is told.
-fn refused(session: &[u8], exchanges: &[u8], told: &[u8]) -> bool {
-    if 0 < exchanges.len() {
-        return false;
-    }
-    if 0 < told.len() {
-        return false;
-    }
-    untouched(session)
-}
-
-// Where a session stands: the place among the exchanges told, how many were made, whether it is over and agreed.
+// What a case gives and tells: the record, the numbers among the arguments, the settings or the image, the number of the refusal, the
+// exchanges, the word that the last answer is told, the read buffer, the record afterwards, and the word of the result.
 #[derive(Clone, Copy)]
-struct Stand {
-    at: usize,
-    made: u64,
-    over: bool,
-    agrees: bool,
+struct Case<'a> {
+    record: &'a [u8],
+    arguments: &'a [u8],
+    input: &'a [u8],
+    refusal: &'a [u8],
+    exchanges: &'a [u8],
+    told: &'a [u8],
+    buffer: &'a [u8],
+    after: &'a [u8],
+    result: &'a [u8],
 }
 
-// An exchange as it is told: the chip address, from where to before where its bytes are sent, whether a byte is wanted, whether the bus fails, what it
-// answers, and where the next one begins.
-#[derive(Clone, Copy)]
-struct Told {
-    address: u8,
-    from: usize,
-    to: usize,
-    wanted: bool,
-    failed: bool,
-    byte: u8,
-    after: usize,
-}
-
-// Whether the session makes these exchanges, is told this at the last, and leaves this buffer.
-fn runs(
-    record: &mut [u8],
-    session: &mut [u8],
-    exchanges: &[u8],
-    told: &[u8],
-    buffer: &[u8],
-) -> bool {
-    let mut lent = [MARKER; 512];
-    run(record, session, exchanges, told, buffer, &mut lent)
-}
-
-fn run(
-    record: &mut [u8],
-    session: &mut [u8],
-    exchanges: &[u8],
-    told: &[u8],
-    buffer: &[u8],
-    lent: &mut [u8],
-) -> bool {
-    let n = buffer.len();
-    if turns(record, session, exchanges, number(told), front(lent, n)) {
-        return begins(lent, buffer);
-    }
-    false
-}
-
-fn turns(
-    record: &mut [u8],
-    session: &mut [u8],
-    exchanges: &[u8],
-    told: u64,
-    buffer: &mut [u8],
-) -> bool {
-    let mut s = Stand {
-        at: 0,
-        made: 0,
-        over: false,
-        agrees: false,
+/// Whether these fields are a case that drives the chip, and it agrees.
+pub fn agrees(fields: &[Vec<u8>]) -> bool {
+    let [
+        kind,
+        record,
+        arguments,
+        input,
+        refusal,
+        exchanges,
+        told,
+        buffer,
+        after,
+        result,
+    ] = fields
+    else {
+        return false;
     };
-    for _ in 0..128 {
-        s = turn(s, record, session, exchanges, told, buffer);
-    }
-    s.agrees
-}
-
-fn turn(
-    s: Stand,
-    record: &mut [u8],
-    session: &mut [u8],
-    exchanges: &[u8],
-    told: u64,
-    buffer: &mut [u8],
-) -> Stand {
-    if s.over {
-        return s;
-    }
-    let e = exchange(exchanges, s.at);
-    match asked(session, exchanges, e) {
-        Wish::Nothing => stopped(s, s.at == exchanges.len()),
-        Wish::This => {
-            let word = capi_driver::da728x_answer(record, session, kind(e), e.byte, buffer);
-            answered(s, e.after, word as u64, told, exchanges.len())
-        }
-        Wish::Another => stopped(s, false),
-    }
-}
-
-fn exchange(exchanges: &[u8], i: usize) -> Told {
-    let head = at(exchanges, sum(i, 1));
-    let from = sum(i, 2);
-    let to = sum(from, (head % 64) as usize);
-    Told {
-        address: at(exchanges, i),
-        from,
-        to,
-        wanted: 127 < head,
-        failed: 63 < head % 128,
-        byte: at(exchanges, to),
-        after: sum(to, replies(head)),
-    }
-}
-
-// How many bytes the bus answers.
-fn replies(head: u8) -> usize {
-    if 63 < head {
-        return 1;
-    }
-    0
-}
-
-// What the session asks for.
-#[derive(Clone, Copy)]
-enum Wish {
-    Nothing,
-    This,
-    Another,
-}
-
-fn asked(session: &[u8], exchanges: &[u8], e: Told) -> Wish {
-    let mut bytes = [MARKER; 40];
-    let pending = capi_driver::da728x_pending(session, &mut bytes);
-    if pending == 0 {
-        return Wish::Nothing;
-    }
-    let sent = part(exchanges, e.from, e.to);
-    if both(head(pending, e, sent.len()), holds(&bytes, sent)) {
-        return Wish::This;
-    }
-    Wish::Another
-}
-
-// Whether the word of what is pending is that of this exchange, with so many bytes to send.
-fn head(pending: u32, e: Told, len: usize) -> bool {
-    if (pending % 256) as usize != len {
+    let [kind] = *kind.as_slice() else {
         return false;
+    };
+    let case = Case {
+        record,
+        arguments,
+        input,
+        refusal,
+        exchanges,
+        told,
+        buffer,
+        after,
+        result,
+    };
+    match Kind::try_from(kind) {
+        Ok(kind) => case.agrees(kind),
+        Err(_) => false,
     }
-    if pending / 256 % 256 != e.address as u32 {
-        return false;
-    }
-    pending / 65536 == e.wanted as u32
 }
 
-// Whether these bytes were written, and no other.
-fn holds(bytes: &[u8], sent: &[u8]) -> bool {
-    both(
-        begins(bytes, sent),
-        untouched(part(bytes, sent.len(), bytes.len())),
-    )
-}
-
-// How the bus answers.
-fn kind(e: Told) -> u8 {
-    if e.failed {
-        return 2;
-    }
-    e.wanted as u8
-}
-
-// After an answer that was told this word: before the last exchange it is the count alone.
-fn answered(mut s: Stand, after: usize, word: u64, told: u64, len: usize) -> Stand {
-    s.made = vectors_bytes::more(s.made);
-    s.at = after;
-    if after < len {
-        if word != count(s.made) {
-            return stopped(s, false);
+impl Case<'_> {
+    // Whether the session of this kind does what the case tells. The record is lent with the start and with each answer; bytes of the
+    // marker, where the case has none.
+    fn agrees(&self, kind: Kind) -> bool {
+        let mut record = [MARKER; exchange::RECORD_SIZE];
+        laws::copy_into(&mut record, self.record);
+        let before = record;
+        let after = if self.after.is_empty() {
+            before.as_slice()
+        } else {
+            self.after
+        };
+        let mut session = [MARKER; exchange::SESSION_SIZE];
+        let refusal = self.begin(kind, &mut record, &mut session);
+        if u64::from(refusal) != number(self.refusal) {
+            return false;
         }
-        return s;
+        let ended = if refusal == 0 {
+            self.completes(&mut record, &mut session)
+        } else {
+            self.begins_nothing(&session)
+        };
+        ended && record.as_slice() == after
     }
-    if word != told {
-        return stopped(s, false);
-    }
-    s
-}
 
-// The word that is told after so many exchanges when more are to come.
-fn count(made: u64) -> u64 {
-    if made < 256 {
-        return 65536 * made;
+    // Begins the session: 0 or the number of the refusal.
+    fn begin(&self, kind: Kind, record: &mut [u8], session: &mut [u8]) -> u8 {
+        let a = self.argument(0);
+        let b = self.argument(1);
+        let c = self.argument(2);
+        let ab = u16::from_be_bytes([a, b]);
+        match kind {
+            Kind::New => capi_driver::da728x_new(a, b, session),
+            Kind::Configure => capi_driver::da728x_configure(record, self.input, session),
+            Kind::GetChipRev => capi_driver::da728x_get_chip_rev(record, session),
+            Kind::GetEvents => capi_driver::da728x_get_events(record, session),
+            Kind::GetStatus => capi_driver::da728x_get_status(record, session),
+            Kind::SetFrequency => capi_driver::da728x_set_frequency(record, ab, session),
+            Kind::SetOverrideValue => {
+                capi_driver::da728x_set_override_value(record, a.cast_signed(), session)
+            }
+            Kind::SetTimebase => capi_driver::da728x_set_timebase(record, a, session),
+            Kind::Enable => capi_driver::da728x_enable(record, session),
+            Kind::Disable => capi_driver::da728x_disable(record, session),
+            Kind::SetCustomDriveWaveform => {
+                capi_driver::da728x_set_custom_drive_waveform(record, a, b, c, session)
+            }
+            Kind::UnlockWaveformMemory => {
+                capi_driver::da728x_unlock_waveform_memory(record, session)
+            }
+            Kind::LockWaveformMemory => capi_driver::da728x_lock_waveform_memory(record, session),
+            Kind::UploadWaveformMemory => {
+                capi_driver::da728x_upload_waveform_memory(record, self.input, a, session)
+            }
+            Kind::ReadWaveformMemory => {
+                let room = u16::from_be_bytes([c, self.argument(3)]);
+                capi_driver::da728x_read_waveform_memory(
+                    record,
+                    usize::from(ab),
+                    usize::from(room),
+                    session,
+                )
+            }
+            Kind::SelectSequence => capi_driver::da728x_select_sequence(record, a, b, session),
+            Kind::StartSequence => capi_driver::da728x_start_sequence(record, session),
+            Kind::PlaySequence => capi_driver::da728x_play_sequence(record, a, b, session),
+        }
     }
-    0
-}
 
-fn stopped(mut s: Stand, agrees: bool) -> Stand {
-    s.over = true;
-    s.agrees = agrees;
-    s
-}
+    // An argument, 0 where there is none.
+    fn argument(&self, i: usize) -> u8 {
+        self.arguments.get(i).copied().unwrap_or(0)
+    }
 
-// Whether the record lent is now this one; one of no bytes says that it stays as it was.
-fn changed(record: &[u8], before: &[u8], after: &[u8]) -> bool {
-    if 0 < after.len() {
-        return same(record, after);
+    // After a refusal the session is as it was lent, and nothing more is told.
+    fn begins_nothing(&self, session: &[u8]) -> bool {
+        self.exchanges.is_empty() && self.told.is_empty() && session.iter().all(|x| *x == MARKER)
     }
-    if 0 < before.len() {
-        return same(record, before);
+
+    // Whether the session makes the exchanges, and leaves the read buffer and the result.
+    fn completes(&self, record: &mut [u8], session: &mut [u8]) -> bool {
+        let mut lent = [MARKER; 512];
+        let Some(buffer) = lent.get_mut(..self.buffer.len()) else {
+            return false;
+        };
+        self.exchanged(record, session, buffer)
+            && *buffer == *self.buffer
+            && capi_driver::da728x_result(session) == number(self.result)
     }
-    untouched(record)
+
+    // Whether the session makes the exchanges and no other, and each answer is told the count so far; the last, the case's word.
+    fn exchanged(&self, record: &mut [u8], session: &mut [u8], buffer: &mut [u8]) -> bool {
+        let mut rest = self.exchanges;
+        for made in 1..=MOST {
+            let mut sent = [MARKER; 40];
+            let pending = capi_driver::da728x_pending(session, &mut sent);
+            if pending == 0 {
+                return rest.is_empty();
+            }
+            let Some((told, after)) = told::split(rest) else {
+                return false;
+            };
+            if !told.is_pending(pending, &sent) {
+                return false;
+            }
+            let (kind, byte) = match told.reply {
+                Reply::Done => (0, 0),
+                Reply::Byte(byte) => (1, byte),
+                Reply::Failed(code) => (2, code),
+            };
+            let word = capi_driver::da728x_answer(record, session, kind, byte, buffer);
+            let expected = if after.is_empty() {
+                number(self.told)
+            } else {
+                made << 16
+            };
+            if u64::from(word) != expected {
+                return false;
+            }
+            rest = after;
+        }
+        false
+    }
 }

@@ -1,0 +1,64 @@
+// What a case calls, by the number that the sample gives it.
+
+/// The exported functions that drive no chip. `Reads` stands for `read_counts`, `read_point` and `read_frame`.
+#[derive(Clone, Copy, Debug, PartialEq, Eq)]
+pub enum Kind {
+    Point,
+    PointIsRamp,
+    PointTimebases,
+    PointAmplitude,
+    Snippet,
+    Frame,
+    Sequence,
+    CurrentLen,
+    Assemble,
+    Reads,
+    RegisterAddresses,
+    ReadInterrupts,
+    ReadActuator,
+    ReadControl,
+    ReadTrigger,
+    ReplaceInterrupts,
+    ReplaceActuator,
+    ReplaceControl,
+    ReplaceTrigger,
+    Answers,
+    AssembleStrict,
+    ReadLists,
+}
+
+/// A number that no kind has.
+#[derive(Clone, Copy, Debug, PartialEq, Eq)]
+pub struct UnknownKind(pub u8);
+
+impl TryFrom<u8> for Kind {
+    type Error = UnknownKind;
+
+    fn try_from(number: u8) -> Result<Kind, UnknownKind> {
+        match number {
+            1 => Ok(Kind::Point),
+            2 => Ok(Kind::PointIsRamp),
+            3 => Ok(Kind::PointTimebases),
+            4 => Ok(Kind::PointAmplitude),
+            5 => Ok(Kind::Snippet),
+            6 => Ok(Kind::Frame),
+            7 => Ok(Kind::Sequence),
+            8 => Ok(Kind::CurrentLen),
+            9 => Ok(Kind::Assemble),
+            10 => Ok(Kind::Reads),
+            11 => Ok(Kind::RegisterAddresses),
+            12 => Ok(Kind::ReadInterrupts),
+            13 => Ok(Kind::ReadActuator),
+            14 => Ok(Kind::ReadControl),
+            15 => Ok(Kind::ReadTrigger),
+            16 => Ok(Kind::ReplaceInterrupts),
+            17 => Ok(Kind::ReplaceActuator),
+            18 => Ok(Kind::ReplaceControl),
+            19 => Ok(Kind::ReplaceTrigger),
+            20 => Ok(Kind::Answers),
+            21 => Ok(Kind::AssembleStrict),
+            22 => Ok(Kind::ReadLists),
+            _ => Err(UnknownKind(number)),
+        }
+    }
+}
