@@ -21,7 +21,11 @@ pub fn voltage(mV: u16) -> u8
 pub fn imax(mA: u16) -> u8
     ensures { result ≡ imax_code mA }
 {
-    ((1000 * mA as u32).saturating_sub(28600) / 7200 % 256) as u8
+    if mA < 29 {
+        0
+    } else {
+        ((1000 * mA as u32 - 28600) / 7200 % 256) as u8
+    }
 }
 
 // CALIB_V2I_H and CALIB_V2I_L, from milliohms and IMAX.
@@ -79,10 +83,14 @@ pub fn cap_trim(uH: u16) -> u8
 pub fn column(uH: u16) -> usize
     ensures { result ≡ trim.column uH }
 {
-    (uH.saturating_sub(13) / 25).min(9) as usize
+    if uH < 13 {
+        0
+    } else {
+        ((uH as usize - 13) / 25).min(9)
+    }
 }
 
-// LOOP_FILT_RES_TRIM for each column, by whole ohms up to the number in the name; rows by name, since a row by value costs 24 instructions more.
+// LOOP_FILT_RES_TRIM for each column, by whole ohms up to the number in the name; rows by name, as a row by value costs more.
 const TO_5: [u8; 10] = [2, 2, 3, 3, 3, 3, 3, 3, 3, 3];
 
 const TO_7: [u8; 10] = [1, 2, 2, 3, 3, 3, 3, 3, 3, 3];
