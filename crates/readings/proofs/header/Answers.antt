@@ -5,9 +5,10 @@ use Rattle.content.specs.ReadImage.{counts_fit}
 use Rattle.content.proofs.Items.{counts_sound}
 use Rattle.laws.proofs.Lists.{bytes_of}
 use Rattle.reader.specs.Walk.{walk}
+use Rattle.errors.proofs.Passed.{passed}
 use Rattle.reader.proofs.Loops.{part}
 use Rattle.reader.proofs.Scanned.{walk_last}
-use Rattle.reader.proofs.Steps.{walks_ok, walks_err, passed}
+use Rattle.reader.proofs.Steps.{walks_ok, walks_err}
 use Rattle.readings.specs.declared.Snippets.{Snippets}
 use Rattle.readings.specs.declared.Sequences.{Sequences}
 use Rattle.readings.specs.InPlace.{present, snippet_fits, sequence_fits, kept}

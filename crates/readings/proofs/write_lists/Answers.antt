@@ -4,7 +4,7 @@ use Rattle.errors.specs.Number.{told}
 use Rattle.errors.specs.Told.{gives, refuses, on_told}
 use Rattle.laws.specs.Whole.{whole, whole_out}
 use Rattle.content.specs.ReadImage.{read_image}
-use Rattle.reader.proofs.Steps.{passed}
+use Rattle.errors.proofs.Passed.{passed}
 use Rattle.readings.specs.Readings.{counts_answer}
 use Rattle.readings.proofs.Listing.{lists_done, no_room, in_room}
 use Rattle.readings.proofs.write_lists.Goals as goal
