@@ -1,11 +1,11 @@
 -- What the answers of a step and of a walk say, and how they are told.
 -- Assumes nothing.
-use Rattle.std.proofs.Common.{◌≡◌, refl, sym, subst, ◌∙◌, ap, ℕ, Result, Ok, Err}
+use Rattle.std.proofs.Common.{List, get_or, ◌≡◌, refl, sym, subst, ◌∙◌, ap, ℕ, Result, Ok, Err}
 use mathlib.Core.Option.{Option, none, some}
 use native.Mathlib.Omega.{arith}
 use Rattle.errors.specs.declared.Error.{Error}
 use Rattle.errors.specs.declared.Error.TheVariants.{NotAnImage}
-use Rattle.reader.specs.Walk.{Stepped, Walked, Walks}
+use Rattle.reader.specs.Walk.{Stepped, Walked, Walks, Scan, Scans}
 
 abbrev is_ok : {A : Type 0} → Result A Error → ℕ
 is_ok (Ok a) = 1
@@ -45,3 +45,20 @@ walks_ok (some w) {n = n} h e = let k : w.last ≡ n = last (sym h.0 ∙ e) in �
 pub walks_err : {S : Type 0} (m : Option (Walked S)) {r : Result ℕ Error} (s : S) {e : Error} → Walks m r s → r ≡ Err e → (m ≡ none) × (e ≡ NotAnImage)
 walks_err none s h e = (refl, ap error_in (sym e ∙ h))
 walks_err (some w) s h e = differ (sym h.0 ∙ e)
+
+pub scans_none : {S Q : Type 0} (image : List ℕ) (m : Option (Scan S Q)) {r : Result (ℕ × ℕ) Error} (s : S) (q : Q) → m ≡ none → r ≡ Err NotAnImage → Scans image m r s q
+scans_none image m {r} s q h e = subst (λ (n : Option _). Scans image n r s q) (sym h) e
+
+pub scans_some : {S Q : Type 0} (image : List ℕ) (m : Option (Scan S Q)) {r : Result (ℕ × ℕ) Error} {s : S} {q : Q} → m ≡ some (record { snippets = s; sequences = q })
+    → r ≡ Ok (get_or image 0 0, get_or image 1 0) → Scans image m r s q
+scans_some image m {r} {s} {q} h e = subst (λ (n : Option _). Scans image n r s q) (sym h) (e, refl, refl)
+
+pub scans_ok : {S Q : Type 0} (image : List ℕ) (m : Option (Scan S Q)) {r : Result (ℕ × ℕ) Error} {s : S} {q : Q} {n : ℕ × ℕ} → Scans image m r s q → r ≡ Ok n
+    → m ≡ some (record { snippets = s; sequences = q })
+scans_ok image none h e = differ (sym e ∙ h)
+scans_ok image (some w) h e = λ i. some (record { snippets = sym h.1 i; sequences = sym h.2 i })
+
+pub scans_err : {S Q : Type 0} (image : List ℕ) (m : Option (Scan S Q)) {r : Result (ℕ × ℕ) Error} (s : S) (q : Q) {e : Error} → Scans image m r s q → r ≡ Err e
+    → (m ≡ none) × (e ≡ NotAnImage)
+scans_err image none s q h e = (refl, ap error_in (sym e ∙ h))
+scans_err image (some w) s q h e = differ (sym h.0 ∙ e)

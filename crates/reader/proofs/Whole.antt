@@ -1,5 +1,6 @@
 -- What the code reads is what the definition reads, laid end to end.
 -- Assumes nothing.
+use Rattle.std.specs.Prelude.{Ok, Err}
 use mathlib.Core.Path.{◌≡◌, refl, sym, ap, ◌∙◌, subst}
 use mathlib.Core.Bool.{Bool, true, false, cond, ◌&&◌}
 use mathlib.Core.List.{List, [], ◌∷◌, ◌++◌, map}
@@ -11,6 +12,7 @@ use lib.Dec.{leb, eqb}
 use lib.ListN.{length, take, drop, length-take}
 use lib.Seq.{take-add, take_at, drop_at, length-take-le}
 use Rattle.laws.specs.Bytes.{All, Bytes}
+use Rattle.errors.specs.declared.Error.{Error}
 use Rattle.errors.specs.Told.{gives, refuses}
 use Rattle.frame.specs.declared.FrameBuilder.{FrameBuilder}
 use Rattle.frame.specs.Builder.{silent_frame}
@@ -22,13 +24,30 @@ use Rattle.content.proofs.Points.{points_there}
 use Rattle.content.proofs.Items.{counts_sound}
 use Rattle.reader.specs.declared.Points.{Points}
 use Rattle.reader.specs.declared.Frames.{Frames}
-use Rattle.std.specs.Prelude.{Ok}
 use Rattle.reader.specs.Reading.{Reading, no_points, no_frames, reading_of}
-use Rattle.reader.specs.Walk.{push_snippet, push_sequence, walk_sequences, no_reading, sequences_then, after_snippets, snippets_then, after_counts, scanned}
+use Rattle.reader.specs.Walk.{push_snippet, push_sequence, Walked, walk, Scan, sequences_then, after_snippets, snippets_then, after_counts, scan}
 use Rattle.reader.specs.Told.{reading_told}
 use Rattle.reader.proofs.Capacity.{Tracks, flat_points, flat_frames, raw_snippet, raw_same, tracks_snippets, tracks_sequences}
 use Rattle.reader.proofs.Cuts.{last_of, in_turn, after_cut, walk_cut, join_cut, cut_more, cut_append, cond_then, WasCut, was_cut}
 use Rattle.reader.proofs.Flats.{flat_of, shows}
+
+-- the reading of what was scanned
+abbrev pub reading_from : Option (Scan Points Frames) → Reading
+reading_from none = Err Error.NotAnImage
+reading_from (some r) = Ok (record { snippets = r.snippets; sequences = r.sequences })
+
+abbrev pub scanned : List ℕ → Reading
+scanned image = reading_from (scan push_snippet push_sequence image no_points no_frames)
+
+-- the same, after each walk
+abbrev after_snippets_of : List ℕ → ℕ → ℕ → Option (Walked Points) → Option (Scan Points Frames)
+after_snippets_of image s q m = snippets_then push_snippet push_sequence image no_points no_frames s q m
+
+abbrev after_sequences_of : List ℕ → Points → Option (Walked Frames) → Option (Scan Points Frames)
+after_sequences_of image s m = sequences_then push_snippet push_sequence image no_points no_frames s m
+
+abbrev no_reading : Reading
+no_reading = reading_from none
 
 -- a reading is right for what the definition reads
 abbrev Right : Option Content → Reading → Type 0
@@ -62,10 +81,10 @@ every_raw (bs ∷ items) = go (leb 1 (length bs) && leb (length bs) 16) (every r
 abbrev made : Option (List (List ℕ)) → Option (List (List FrameBuilder)) → Option Content
 made x y = and_then (and_then x (λ xs. some (map points_in xs))) (λ s. and_then y (λ q. some (record { snippets = s; sequences = q })))
 
-abbrev reads : Bool → Option Points → Option Frames → Reading
-reads zeros none n = no_reading
-reads zeros (some s) none = no_reading
-reads zeros (some s) (some q) = cond zeros (Ok (record { snippets = s; sequences = q })) no_reading
+abbrev reads : Bool → Option Points → Option Frames → Option (Scan Points Frames)
+reads zeros none n = none
+reads zeros (some s) none = none
+reads zeros (some s) (some q) = cond zeros (some (record { snippets = s; sequences = q })) none
 
 cond_none : (t : Bool) → Right (cond t none none) no_reading
 cond_none true = none_right
@@ -77,7 +96,7 @@ there [] h = refl
 there (x ∷ xs) h = cons_eq (sym (points_there x h.0)) (there xs h.1)
 
 last_step : (t : Bool) (m : Option Points) (x : Option (List (List ℕ))) → Tracks 0 15 flat_points [] m x → ((xs : List (List ℕ)) → x ≡ some xs → All Bytes xs)
-    → (n : Option Frames) (y : Option (List (List FrameBuilder))) → Tracks silent_frame 16 flat_frames [] n y → Right (cond t (made x y) none) (reads t m n)
+    → (n : Option Frames) (y : Option (List (List FrameBuilder))) → Tracks silent_frame 16 flat_frames [] n y → Right (cond t (made x y) none) (reading_from (reads t m n))
 last_step t none none k w n y j = cond_none t
 last_step t none (some xs) k w n y j = absurd k
 last_step t (some s) none k w n y j = absurd k
@@ -99,19 +118,19 @@ last_step true (some s) (some xs) k w (some q) (some ys) j =
 -- ---- after the snippets
 
 module _ (image : List ℕ) (s q last : ℕ) where
-  snippets_none : (m : Option Points) → walk_sequences image last (take q (drop (2 + s) image)) no_frames ≡ none
-      → snippets_then image s q (and_then m (λ o. some (record { state = o; last = last }))) ≡ no_reading
+  snippets_none : (m : Option Points) → walk push_sequence image last (take q (drop (2 + s) image)) no_frames ≡ none
+      → after_snippets_of image s q (and_then m (λ o. some (record { state = o; last = last }))) ≡ none
   unfolding after_snippets
   snippets_none none e = refl
-  snippets_none (some o) e = ap (sequences_then image o) e
+  snippets_none (some o) e = ap (after_sequences_of image o) e
 
   snippets_some : (m : Option Points) (n : Option Frames) (end : ℕ)
-      → walk_sequences image last (take q (drop (2 + s) image)) no_frames ≡ and_then n (λ o. some (record { state = o; last = end }))
-      → snippets_then image s q (and_then m (λ o. some (record { state = o; last = last }))) ≡ reads (all_zero (drop (end + 1) image)) m n
+      → walk push_sequence image last (take q (drop (2 + s) image)) no_frames ≡ and_then n (λ o. some (record { state = o; last = end }))
+      → after_snippets_of image s q (and_then m (λ o. some (record { state = o; last = last }))) ≡ reads (all_zero (drop (end + 1) image)) m n
   unfolding after_snippets
   snippets_some none n end e = refl
-  snippets_some (some o) none end e = ap (sequences_then image o) e
-  snippets_some (some o) (some f) end e = ap (sequences_then image o) e
+  snippets_some (some o) none end e = ap (after_sequences_of image o) e
+  snippets_some (some o) (some f) end e = ap (after_sequences_of image o) e
 
 -- the items that were cut, read
 items_read : (s : ℕ) (c d : Cut) → length c.items ≡ s
@@ -153,9 +172,9 @@ module _ (s q : ℕ) (l : List ℕ) (h : length l ≡ 98) (t : counts_fit s q �
     last = last_of first ends
 
     after_snippets_lem : (n : Option Cut) → cut last more (drop (last + 1) image) ≡ n
-        → Right (and_then (and_then (and_then n (join_cut c)) (items_from s)) content_in) (snippets_then image s q (after_cut push_snippet image last no_points c))
+        → Right (and_then (and_then (and_then n (join_cut c)) (items_from s)) content_in) (reading_from (after_snippets_of image s q (after_cut push_snippet image last no_points c)))
     after_snippets_lem none e =
-        via {o = none} {o' = none} refl (snippets_none image s q last (in_turn push_snippet c.items no_points) (walk_cut push_sequence image more last no_frames ∙ rw e)) none_right
+        via {o = none} {o' = none} refl (ap reading_from (snippets_none image s q last (in_turn push_snippet c.items no_points) (walk_cut push_sequence image more last no_frames ∙ rw e))) none_right
     after_snippets_lem (some d) e =
         let b = counts_sound s q t in
         let v = was_cut more last image d e in
@@ -168,23 +187,23 @@ module _ (s q : ℕ) (l : List ℕ) (h : length l ≡ 98) (t : counts_fit s q �
         let z : all_zero d.left ≡ all_zero (drop (last_of last more + 1) image) = ap all_zero v.left in
         let y : List (List ℕ) → List (List ℕ) → Option Content = λ a b. made (every raw_snippet a) (every read_sequence b) in
         via (items_read s c d (w.count ∙ n1) ∙ ap (λ (x : Bool). cond x (y c.items d.items) none) z)
-        (snippets_some image s q last (in_turn push_snippet c.items no_points) (in_turn push_sequence d.items no_frames) (last_of last more) (walk_cut push_sequence image more last no_frames ∙ rw e))
+        (ap reading_from (snippets_some image s q last (in_turn push_snippet c.items no_points) (in_turn push_sequence d.items no_frames) (last_of last more) (walk_cut push_sequence image more last no_frames ∙ rw e)))
         (last_step (all_zero (drop (last_of last more + 1) image)) (in_turn push_snippet c.items no_points) (every raw_snippet c.items) k (λ xs e. subst (All Bytes) (raw_same c.items xs e) (w.bytes small)) (in_turn push_sequence d.items no_frames) (every read_sequence d.items) j)
 
   after_counts_lem : (m : Option Cut) → cut first ends (drop (first + 1) image) ≡ m
-      → Right (and_then (and_then (and_then m (cut_more (last_of first ends) more)) (items_from s)) content_in) (snippets_then image s q (and_then m (after_cut push_snippet image (last_of first ends) no_points)))
+      → Right (and_then (and_then (and_then m (cut_more (last_of first ends) more)) (items_from s)) content_in) (reading_from (after_snippets_of image s q (and_then m (after_cut push_snippet image (last_of first ends) no_points))))
   after_counts_lem none e = none_right
   after_counts_lem (some c) e =
       let w = was_cut ends first image c e in
-      let r : Reading = snippets_then image s q (after_cut push_snippet image (last_of first ends) no_points c) in
+      let r : Reading = reading_from (after_snippets_of image s q (after_cut push_snippet image (last_of first ends) no_points c)) in
       subst (λ (x : List ℕ). Right (and_then (and_then (and_then (cut (last_of first ends) more x) (join_cut c)) (items_from s)) content_in) r) (sym w.left)
       (after_snippets_lem c w (cut (last_of first ends) more (drop (last_of first ends + 1) image)) refl)
 
-  counts_right : Right (read_image image) (after_counts image s q)
+  counts_right : Right (read_image image) (reading_from (after_counts push_snippet push_sequence image no_points no_frames s q))
   unfolding after_counts
   counts_right =
       let m : Option Cut = cut first ends (drop (first + 1) image) in
-      via image_cut (ap (snippets_then image s q) (walk_cut push_snippet image ends first no_points)) (after_counts_lem m refl)
+      via image_cut (ap (λ (m : Option (Walked Points)). reading_from (after_snippets_of image s q m)) (walk_cut push_snippet image ends first no_points)) (after_counts_lem m refl)
 
 -- what is refused at once
 image_none : (s q : ℕ) (l : List ℕ) (t u : Bool) → eqb (length l) 98 ≡ t → counts_fit s q ≡ u → (t && u) ≡ false → read_image (s ∷ q ∷ l) ≡ none
@@ -197,7 +216,7 @@ whole [] small = none_right
 whole (s ∷ []) small = none_right
 whole (s ∷ q ∷ l) small = go (eqb (length (s ∷ q ∷ l)) 100) (counts_fit s q) refl refl where
   go : (t u : Bool) → eqb (length (s ∷ q ∷ l)) 100 ≡ t → counts_fit s q ≡ u
-      → Right (read_image (s ∷ q ∷ l)) (cond t (cond u (after_counts (s ∷ q ∷ l) s q) no_reading) no_reading)
+      → Right (read_image (s ∷ q ∷ l)) (reading_from (cond t (cond u (after_counts push_snippet push_sequence (s ∷ q ∷ l) no_points no_frames s q) none) none))
   go true true e f = let n = eqb-true (length (s ∷ q ∷ l)) 100 e in counts_right s q l (omega arith) f small
   go true false e f =
       let n = eqb-true (length (s ∷ q ∷ l)) 100 e in

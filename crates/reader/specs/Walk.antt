@@ -1,5 +1,5 @@
--- The reader step by step, as the code goes: what the private functions' contracts cite. proofs/Whole.antt: it is `read_image`, laid out
--- as `reading_of` says.
+-- The reader step by step, as the code goes: what the contracts of the private functions and of `scan` cite. proofs/Whole.antt: with the
+-- lists that are kept it is `read_image`, laid out as `reading_of` says.
 use Rattle.std.specs.Prelude.{ℕ, zero, suc, ◌+◌, ◌-◌, ◌≡◌, Result, Ok, Err, cond, ◌&&◌, List, [], ◌∷◌, ltb, leb, eqb, length, take, drop, get_or}
 use Rattle.std.proofs.Math.Option.{Option, none, some}
 use Rattle.errors.specs.declared.Error.{Error}
@@ -7,7 +7,6 @@ use Rattle.frame.specs.Read.{read_frame}
 use Rattle.content.specs.ReadImage.{and_then, all_zero, counts_fit}
 use Rattle.reader.specs.declared.Points.{Points}
 use Rattle.reader.specs.declared.Frames.{Frames}
-use Rattle.reader.specs.Reading.{Reading, no_points, no_frames, reading_of}
 use Rattle.reader.specs.Flat.{push_points, push_frame, end_snippet, end_sequence}
 
 -- ---- one item
@@ -46,12 +45,6 @@ module _ {S : Type 0} (step : List ℕ → S → Option S) (image : List ℕ) wh
   walk p [] o = some (record { state = o; last = p })
   walk p (e ∷ es) o = cond (ltb p e) (cond (ltb e (length image)) (and_then (step (item image p e) o) (λ o'. walk e es o')) none) none
 
-abbrev pub walk_snippets : List ℕ → ℕ → List ℕ → Points → Option (Walked Points)
-walk_snippets = walk push_snippet
-
-abbrev pub walk_sequences : List ℕ → ℕ → List ℕ → Frames → Option (Walked Frames)
-walk_sequences = walk push_sequence
-
 -- how the code answers: the state and the last index, or 18
 abbrev pub Walks : {S : Type 0} → Option (Walked S) → Result ℕ Error → S → Type 0
 Walks none answer state = answer ≡ Err Error.NotAnImage
@@ -59,31 +52,37 @@ Walks (some w) answer state = (answer ≡ Ok w.last) × (state ≡ w.state)
 
 -- ---- the image
 
-abbrev pub no_reading : Reading
-no_reading = reading_of none
+pub record Scan (S Q : Type 0) : Type 0 where
+  pub snippets : S
+  pub sequences : Q
 
--- all bytes after index last are zero
-abbrev pub finished : List ℕ → Points → Frames → ℕ → Reading
-finished image s q last = cond (all_zero (drop (last + 1) image)) (Ok (record { snippets = s; sequences = q })) no_reading
+-- the snippets, then the sequences, from these states on
+module _ {S Q : Type 0} (one : List ℕ → S → Option S) (many : List ℕ → Q → Option Q) (image : List ℕ) (no_snippets : S) (no_sequences : Q) where
+  -- all bytes after index last are zero
+  abbrev pub finished : S → Q → ℕ → Option (Scan S Q)
+  finished s q last = cond (all_zero (drop (last + 1) image)) (some (record { snippets = s; sequences = q })) none
 
-abbrev pub sequences_then : List ℕ → Points → Option (Walked Frames) → Reading
-sequences_then image s none = no_reading
-sequences_then image s (some w) = finished image s w.state w.last
+  abbrev pub sequences_then : S → Option (Walked Q) → Option (Scan S Q)
+  sequences_then s m = and_then m (λ w. finished s w.state w.last)
 
--- q sequences, whose pointers stand from index at on
-unfoldable pub after_snippets : List ℕ → ℕ → ℕ → Points → ℕ → Reading
-after_snippets image at q s last = sequences_then image s (walk_sequences image last (take q (drop at image)) no_frames)
+  -- q sequences, whose pointers stand from index at on
+  unfoldable pub after_snippets : ℕ → ℕ → Walked S → Option (Scan S Q)
+  after_snippets at q w = sequences_then w.state (walk many image w.last (take q (drop at image)) no_sequences)
 
-abbrev pub snippets_then : List ℕ → ℕ → ℕ → Option (Walked Points) → Reading
-snippets_then image s q none = no_reading
-snippets_then image s q (some w) = after_snippets image (2 + s) q w.state w.last
+  abbrev pub snippets_then : ℕ → ℕ → Option (Walked S) → Option (Scan S Q)
+  snippets_then s q m = and_then m (after_snippets (2 + s) q)
 
--- s snippets, then q sequences
-unfoldable pub after_counts : List ℕ → ℕ → ℕ → Reading
-after_counts image s q = snippets_then image s q (walk_snippets image (1 + s + q) (take s (drop 2 image)) no_points)
+  -- s snippets, then q sequences
+  unfoldable pub after_counts : ℕ → ℕ → Option (Scan S Q)
+  after_counts s q = snippets_then s q (walk one image (1 + s + q) (take s (drop 2 image)) no_snippets)
 
-abbrev pub scanned : List ℕ → Reading
-scanned image =
-    cond (eqb (length image) 100)
-    (cond (counts_fit (get_or image 0 0) (get_or image 1 0)) (after_counts image (get_or image 0 0) (get_or image 1 0)) no_reading)
-    no_reading
+  abbrev pub scan : Option (Scan S Q)
+  scan =
+      cond (eqb (length image) 100)
+      (cond (counts_fit (get_or image 0 0) (get_or image 1 0)) (after_counts (get_or image 0 0) (get_or image 1 0)) none)
+      none
+
+-- how the code answers: the states and the image's counts, or 18
+abbrev pub Scans : {S Q : Type 0} → List ℕ → Option (Scan S Q) → Result (ℕ × ℕ) Error → S → Q → Type 0
+Scans image none answer snippets sequences = answer ≡ Err Error.NotAnImage
+Scans image (some r) answer snippets sequences = (answer ≡ Ok (get_or image 0 0, get_or image 1 0)) × (snippets ≡ r.snippets) × (sequences ≡ r.sequences)

@@ -13,7 +13,7 @@ ghost use Rattle.errors.specs.Number.{answer_number};
 ghost use Rattle.content.specs.ReadImage.{on_option, read_image, counts_fit, all_zero};
 ghost use Rattle.reader.specs.Reading.{reading_of, no_points, no_frames};
 ghost use Rattle.reader.specs.Flat.{push_point, push_frame, push_points, end_snippet, end_sequence};
-ghost use Rattle.reader.specs.Walk.{Stepped, Walks, run_frames, push_snippet, push_sequence, walk, scanned};
+ghost use Rattle.reader.specs.Walk.{Stepped, Walks, run_frames, push_snippet, push_sequence, walk, Scans, scan};
 
 use errors::Error;
 use frame::FrameBuilder;
@@ -192,7 +192,7 @@ impl Gather for Frames {
 
 // Adds the items that end at these indexes of the image, and answers the index of the last one's last byte; the byte before the first
 // stands at `first`.
-pub fn walk<T: Gather>(image: &[u8], ends: &[u8], first: usize, items: &mut T) -> Result<usize, Error>
+fn walk<T: Gather>(image: &[u8], ends: &[u8], first: usize, items: &mut T) -> Result<usize, Error>
     ensures { Walks (walk T.step image.now first ends.now items.old) result items.new }
 {
     let mut last = first;
@@ -231,8 +231,13 @@ pub fn counts_fit(s: usize, q: usize) -> bool
     1 <= s && s <= 15 && 1 <= q && q <= 16
 }
 
-fn scan(image: &[u8]) -> Result<Lists, Error>
-    ensures { result ≡ scanned image.now }
+// Adds an image's snippets and its sequences, and answers how many there are of each.
+pub fn scan<S: Gather, Q: Gather>(
+    image: &[u8],
+    snippets: &mut S,
+    sequences: &mut Q,
+) -> Result<(u8, u8), Error>
+    ensures { Scans image.now (scan S.step Q.step image.now snippets.old sequences.old) result snippets.new sequences.new }
 {
     if image.len() != 100 {
         return Err(Error::NotAnImage);
@@ -242,17 +247,12 @@ fn scan(image: &[u8]) -> Result<Lists, Error>
     if !counts_fit(s, q) {
         return Err(Error::NotAnImage);
     }
-    let mut snippets = Points::new();
-    let last = walk(image, &image[2..2 + s], 1 + s + q, &mut snippets)?;
-    let mut sequences = Frames::new();
-    let last = walk(image, &image[2 + s..2 + s + q], last, &mut sequences)?;
+    let last = walk(image, &image[2..2 + s], 1 + s + q, snippets)?;
+    let last = walk(image, &image[2 + s..2 + s + q], last, sequences)?;
     if !zero_from(image, last + 1) {
         return Err(Error::NotAnImage);
     }
-    Ok(Lists {
-        snippets,
-        sequences,
-    })
+    Ok((image[0], image[1]))
 }
 
 // The lists whose image the bytes are, or NotAnImage. What no list shows, the bytes behind the lists, is as in a new array.
@@ -260,5 +260,11 @@ pub fn read(image: &[u8]) -> Result<Lists, Error>
     ensures answer_value { answer_number result ≡ on_option (read_image image.now) 18 (λ _. 0) }
     ensures value { result ≡ reading_of (read_image image.now) }
 {
-    scan(image)
+    let mut snippets = Points::new();
+    let mut sequences = Frames::new();
+    scan(image, &mut snippets, &mut sequences)?;
+    Ok(Lists {
+        snippets,
+        sequences,
+    })
 }

@@ -1,14 +1,13 @@
 -- What is found to be an image is what the reader reads, and what the loop over the frames asks.
 -- Assumes nothing.
-use Rattle.std.specs.Prelude.{Ok, Err}
+use Rattle.std.specs.Prelude.{Result, Ok, Err}
 use mathlib.Core.Path.{◌≡◌, refl, sym, ap, ◌∙◌}
 use mathlib.Core.Bool.{Bool, true, false, cond, ◌&&◌}
 use mathlib.Core.List.{List, [], ◌∷◌}
 use mathlib.Core.Option.{Option, none, some}
 use Prim.Native.Nat.{ℕ, zero, suc, ◌+◌, ◌-◌, ◌≤◌, ◌<◌}
 use native.Mathlib.Omega.{arith}
-use borrow.Author.Tests.{eq-eqb, ne_eqb}
-use lib.Dec.{ltb, leb}
+use lib.Dec.{ltb, leb, eqb}
 use lib.ListN.{length, take, drop, get_or}
 use Rattle.laws.specs.Bytes.{Bytes}
 use Rattle.errors.specs.Told.{gives, refuses}
@@ -21,9 +20,9 @@ use Rattle.reader.specs.declared.Points.{Points}
 use Rattle.reader.specs.declared.Frames.{Frames}
 use Rattle.reader.specs.Reading.{Reading, no_points, no_frames, reading_of}
 use Rattle.reader.specs.Flat.{push_frame, push_points, end_snippet, end_sequence}
-use Rattle.reader.specs.Walk.{run_frames, push_snippet, push_sequence, Walked, item, walk, walk_snippets, walk_sequences, no_reading, sequences_then, after_snippets, snippets_then, after_counts, scanned}
+use Rattle.reader.specs.Walk.{run_frames, push_snippet, push_sequence, Walked, item, walk, Scan, sequences_then, after_snippets, snippets_then, after_counts, scan, Scans}
 use Rattle.reader.proofs.Running.{took, refused}
-use Rattle.reader.proofs.Whole.{whole}
+use Rattle.reader.proofs.Whole.{reading_from, whole}
 use Rattle.readings.specs.InPlace.{present, snippet_fits, sequence_fits, kept, header_of}
 use Rattle.readings.proofs.Standing.{known}
 
@@ -88,6 +87,58 @@ module _ {S T : Type 0} (f : List ℕ → S → Option S) (g : List ℕ → T �
 
 -- ---- the image
 
+abbrev zeros_after : List ℕ → Option ℕ → Bool
+zeros_after image none = false
+zeros_after image (some last) = all_zero (drop (last + 1) image)
+
+-- q sequences, whose pointers stand from index at on
+abbrev sequences_fit : List ℕ → ℕ → ℕ → Option ℕ → Bool
+sequences_fit image at q none = false
+sequences_fit image at q (some last) = zeros_after image (last_of (walk push_sequence image last (take q (drop at image)) no_frames))
+
+-- s snippets, then q sequences
+abbrev items_fit : List ℕ → ℕ → ℕ → Bool
+items_fit image s q = sequences_fit image (2 + s) q (last_of (walk push_snippet image (1 + s + q) (take s (drop 2 image)) no_points))
+
+abbrev image_fits : List ℕ → Bool
+image_fits image =
+    cond (eqb (length image) 100)
+    (cond (counts_fit (get_or image 0 0) (get_or image 1 0)) (items_fit image (get_or image 0 0) (get_or image 1 0)) false)
+    false
+
+-- any scan that finds the same items finds an image in the same bytes
+module _ {S Q : Type 0} (one : List ℕ → S → Option S) (many : List ℕ → Q → Option Q) (image : List ℕ) (a : S) (b : Q)
+    (so : (bs : List ℕ) (o : S) → present (one bs o) ≡ snippet_fits bs) (sq : (bs : List ℕ) (o : Q) → present (many bs o) ≡ sequence_fits bs) where
+  sequences_found : (x : S) (m : Option (Walked Q)) → present (sequences_then one many image a b x m) ≡ zeros_after image (last_of m)
+  sequences_found x none = refl
+  sequences_found x (some w) = some_found (all_zero (drop (w.last + 1) image)) _
+
+  snippets_found : (s q : ℕ) (m : Option (Walked S)) → present (snippets_then one many image a b s q m) ≡ sequences_fit image (2 + s) q (last_of m)
+  unfolding after_snippets
+  snippets_found s q none = refl
+  snippets_found s q (some w) =
+      let es : List ℕ = take q (drop (2 + s) image) in
+      sequences_found w.state (walk many image w.last es b)
+      ∙ ap (zeros_after image) (walk_same many push_sequence image (λ bs o p. sq bs o ∙ sym (sequence_found bs p)) es w.last b no_frames)
+
+  items_found : (s q : ℕ) → present (after_counts one many image a b s q) ≡ items_fit image s q
+  unfolding after_counts
+  items_found s q =
+      let es : List ℕ = take s (drop 2 image) in
+      snippets_found s q (walk one image (1 + s + q) es a)
+      ∙ ap (sequences_fit image (2 + s) q) (walk_same one push_snippet image (λ bs o p. so bs o ∙ sym (snippet_found bs p)) es (1 + s + q) a no_points)
+
+  scan_found : present (scan one many image a b) ≡ image_fits image
+  scan_found = go (eqb (length image) 100) (counts_fit (get_or image 0 0) (get_or image 1 0)) where
+    go : (t u : Bool)
+        → present (cond t (cond u (after_counts one many image a b (get_or image 0 0) (get_or image 1 0)) none) none)
+        ≡ cond t (cond u (items_fit image (get_or image 0 0) (get_or image 1 0)) false) false
+    go true true = items_found (get_or image 0 0) (get_or image 1 0)
+    go true false = refl
+    go false u = refl
+
+-- ---- how a scan is answered
+
 abbrev done : Reading → Bool
 done (Ok r) = true
 done (Err e) = false
@@ -96,90 +147,31 @@ reading_done : (o : Option Content) → present o ≡ done (reading_of o)
 reading_done none = refl
 reading_done (some c) = refl
 
-abbrev zeros_after : List ℕ → Option ℕ → Bool
-zeros_after image none = false
-zeros_after image (some last) = all_zero (drop (last + 1) image)
-
--- q sequences, whose pointers stand from index at on
-abbrev sequences_fit : List ℕ → ℕ → ℕ → Option ℕ → Bool
-sequences_fit image at q none = false
-sequences_fit image at q (some last) = zeros_after image (last_of (walk_sequences image last (take q (drop at image)) no_frames))
-
-finished_done : (t : Bool) (s : Points) (q : Frames) → done (cond t (Ok (record { snippets = s; sequences = q })) no_reading) ≡ t
-finished_done true s q = refl
-finished_done false s q = refl
-
-sequences_done : (image : List ℕ) (s : Points) (m : Option (Walked Frames)) → done (sequences_then image s m) ≡ zeros_after image (last_of m)
-sequences_done image s none = refl
-sequences_done image s (some w) = finished_done (all_zero (drop (w.last + 1) image)) s w.state
-
-snippets_done : (image : List ℕ) (s q : ℕ) (m : Option (Walked Points)) → done (snippets_then image s q m) ≡ sequences_fit image (2 + s) q (last_of m)
-unfolding after_snippets
-snippets_done image s q none = refl
-snippets_done image s q (some w) = sequences_done image w.state (walk_sequences image w.last (take q (drop (2 + s) image)) no_frames)
-
--- how a header is answered
-no_header : (o : Option Content) → present o ≡ false → Err Error.NotAnImage ≡ header_of o
-no_header none e = refl
-no_header (some c) e = false_true (sym e)
+scan_done : (m : Option (Scan Points Frames)) → done (reading_from m) ≡ present m
+scan_done none = refl
+scan_done (some r) = refl
 
 module _ (image : List ℕ) (small : Bytes image) where
-  image_done : (r : Reading) → scanned image ≡ r → present (read_image image) ≡ done r
-  image_done r e = reading_done (read_image image) ∙ ap done (sym (whole image small).1 ∙ e)
+  image_found : present (read_image image) ≡ image_fits image
+  image_found =
+      reading_done (read_image image) ∙ ap done (sym (whole image small).1) ∙ scan_done (scan push_snippet push_sequence image no_points no_frames)
+      ∙ scan_found push_snippet push_sequence image no_points no_frames snippet_found sequence_found
 
-  pub not_hundred : (length image ≡ 100 → ⊥) → Err Error.NotAnImage ≡ header_of (read_image image)
-  not_hundred d = no_header (read_image image) (image_done no_reading (simp (ne_eqb (length image) 100 d)))
+  header_by : {S Q : Type 0} (m : Option (Scan S Q)) (r : Result (ℕ × ℕ) Error) (x : S) (y : Q) → Scans image m r x y → present m ≡ present (read_image image)
+      → r ≡ header_of (read_image image)
+  header_by m r x y h e = go m (read_image image) refl h e where
+    go : (m : Option (Scan _ _)) (o : Option Content) → read_image image ≡ o → Scans image m r x y → present m ≡ present o → r ≡ header_of o
+    go none none n h e = h
+    go none (some c) n h e = false_true e
+    go (some w) none n h e = false_true (sym e)
+    go (some w) (some c) n h e = let k = known image c n in h.0 ∙ (λ i. Ok (sym k.snippets i, sym k.sequences i))
 
-  module _ (h : length image ≡ 100) (s q : ℕ) (e : s ≡ get_or image 0 0) (f : q ≡ get_or image 1 0) where
-    counts_are : (t : Bool) → counts_fit s q ≡ t → counts_fit (get_or image 0 0) (get_or image 1 0) ≡ t
-    counts_are t k = (λ i. counts_fit (sym e i) (sym f i)) ∙ k
-
-    pub not_counts : counts_fit s q ≡ false → Err Error.NotAnImage ≡ header_of (read_image image)
-    not_counts k = no_header (read_image image) (image_done no_reading (simp (eq-eqb (length image) 100 h, counts_are false k)))
-
-    module _ (k : counts_fit s q ≡ true) where
-      abbrev snippets_end : Option ℕ
-      snippets_end = last_of (walk_snippets image (1 + s + q) (take s (drop 2 image)) no_points)
-
-      found : present (read_image image) ≡ sequences_fit image (2 + s) q snippets_end
-      unfolding after_counts
-      found =
-          image_done (after_counts image s q)
-          (simp (eq-eqb (length image) 100 h, counts_are true k) (λ i. after_counts image (sym e i) (sym f i)))
-          ∙ snippets_done image s q (walk_snippets image (1 + s + q) (take s (drop 2 image)) no_points)
-
-      -- any walk that finds the same snippets
-      module _ {S : Type 0} (g : List ℕ → S → Option S) (sg : (bs : List ℕ) (o : S) → present (g bs o) ≡ snippet_fits bs) (o : S) where
-        snippets_by : (m : Option (Walked S)) → walk g image (1 + s + q) (take s (drop 2 image)) o ≡ m → snippets_end ≡ last_of m
-        snippets_by m w =
-            walk_same push_snippet g image (λ bs a b. snippet_found bs a ∙ sym (sg bs b)) (take s (drop 2 image)) (1 + s + q) no_points o ∙ ap last_of w
-
-        pub not_snippets : walk g image (1 + s + q) (take s (drop 2 image)) o ≡ none → Err Error.NotAnImage ≡ header_of (read_image image)
-        not_snippets w = no_header (read_image image) (found ∙ ap (sequences_fit image (2 + s) q) (snippets_by none w))
-
-        module _ (a : Walked S) (w : walk g image (1 + s + q) (take s (drop 2 image)) o ≡ some a) {T : Type 0} (d : List ℕ → T → Option T)
-            (sd : (bs : List ℕ) (o : T) → present (d bs o) ≡ sequence_fits bs) (p : T) where
-          found_on : (m : Option (Walked T)) → walk d image a.last (take q (drop (2 + s) image)) p ≡ m → present (read_image image) ≡ zeros_after image (last_of m)
-          found_on m v =
-              found ∙ ap (sequences_fit image (2 + s) q) (snippets_by (some a) w)
-              ∙ ap (zeros_after image)
-              (walk_same push_sequence d image (λ bs a b. sequence_found bs a ∙ sym (sd bs b)) (take q (drop (2 + s) image)) a.last no_frames p ∙ ap last_of v)
-
-          pub not_sequences : walk d image a.last (take q (drop (2 + s) image)) p ≡ none → Err Error.NotAnImage ≡ header_of (read_image image)
-          not_sequences v = no_header (read_image image) (found_on none v)
-
-          module _ (b : Walked T) (v : walk d image a.last (take q (drop (2 + s) image)) p ≡ some b) (z : Bool) (y : z ≡ all_zero (drop (b.last + 1) image)) where
-            pub not_zeros : z ≡ false → Err Error.NotAnImage ≡ header_of (read_image image)
-            not_zeros x = no_header (read_image image) (found_on (some b) v ∙ sym y ∙ x)
-
-            pub a_header : z ≡ true → Ok (s, q) ≡ header_of (read_image image)
-            a_header x = go (read_image image) refl (found_on (some b) v ∙ sym y ∙ x) where
-              go : (o : Option Content) → read_image image ≡ o → present o ≡ true → Ok (s, q) ≡ header_of o
-              go none n t = false_true t
-              go (some c) n t = let w = known image c n in λ i. Ok ((e ∙ sym w.snippets) i, (f ∙ sym w.sequences) i)
-
-pub kept_found : {S : Type 0} (t : Bool) (o : S) → present (kept t o) ≡ t
-kept_found t o = some_found t o
+  -- snippets and sequences that are not kept
+  pub a_header : {S Q : Type 0} (a : S) (b : Q) (r : Result (ℕ × ℕ) Error) (x : S) (y : Q)
+      → Scans image (scan (λ bs o. kept (snippet_fits bs) o) (λ bs o. kept (sequence_fits bs) o) image a b) r x y → r ≡ header_of (read_image image)
+  a_header a b r x y h =
+      header_by _ r x y h
+      (scan_found _ _ image a b (λ bs o. some_found (snippet_fits bs) o) (λ bs o. some_found (sequence_fits bs) o) ∙ sym image_found)
 
 -- ---- the loop over the frames
 

@@ -151,20 +151,7 @@ fn low_bytes(w: u64) -> [u8; 6]
 fn header(image: &[u8]) -> Result<(u8, u8), Error>
     ensures { result ≡ header_of (read_image image.now) }
 {
-    if image.len() != 100 {
-        return Err(Error::NotAnImage);
-    }
-    let s = laws::wide(image[0]);
-    let q = laws::wide(image[1]);
-    if !reader::counts_fit(s, q) {
-        return Err(Error::NotAnImage);
-    }
-    let last = reader::walk(image, &image[2..2 + s], 1 + s + q, &mut Snippets)?;
-    let last = reader::walk(image, &image[2 + s..2 + s + q], last, &mut Sequences)?;
-    if !reader::zero_from(image, last + 1) {
-        return Err(Error::NotAnImage);
-    }
-    Ok((image[0], image[1]))
+    reader::scan(image, &mut Snippets, &mut Sequences)
 }
 
 // Snippets that are read and not kept.
