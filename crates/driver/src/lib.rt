@@ -49,7 +49,7 @@ pub fn new(address: u8, variant: Variant, session: &mut [u8]) -> Result<(), Erro
         settings: None,
         sequences: 0,
     };
-    sessions::begin_with(session, Purpose::New, next);
+    sessions::begin_with(session, Purpose::New.into(), next);
     exchange::push(
         session,
         Step::Match(Register::CHIP_REV.address(), revision(variant)),
@@ -83,7 +83,7 @@ pub fn configure(
         settings: Some((a, d)),
         sequences: 0,
     };
-    sessions::begin_with(session, Purpose::Settings, next);
+    sessions::begin_with(session, Purpose::Settings.into(), next);
     plans::configure(session, a, d);
     Ok(())
 }
@@ -97,7 +97,7 @@ pub fn get_chip_rev(driver: &DA728x, session: &mut [u8]) -> Result<(), Error>
     sessions::run(
         session,
         driver.address,
-        Purpose::Byte,
+        Purpose::Byte.into(),
         Step::Read(Register::CHIP_REV.address()),
     );
     Ok(())
@@ -111,7 +111,7 @@ pub fn get_events(driver: &DA728x, session: &mut [u8]) -> Result<(), Error>
     sessions::run(
         session,
         driver.address,
-        Purpose::ThreeBytes,
+        Purpose::ThreeBytes.into(),
         Step::Read(Register::IRQ_EVENT1.address()),
     );
     exchange::push(
@@ -130,7 +130,7 @@ pub fn get_status(driver: &DA728x, session: &mut [u8]) -> Result<(), Error>
     sessions::run(
         session,
         driver.address,
-        Purpose::Byte,
+        Purpose::Byte.into(),
         Step::Read(Register::IRQ_STATUS1.address()),
     );
     Ok(())
@@ -146,7 +146,7 @@ pub fn set_frequency(driver: &DA728x, frequency_hz: u16, session: &mut [u8]) -> 
     if checks::outside_band(d.driving_mode, frequency_hz) {
         return Err(Error::InvalidDriveFrequency);
     }
-    sessions::begin(session, driver.address, Purpose::Command);
+    sessions::begin(session, driver.address, Purpose::Command.into());
     plans::frequency(session, frequency_hz);
     Ok(())
 }
@@ -165,7 +165,7 @@ pub fn set_override_value(driver: &DA728x, value: i8, session: &mut [u8]) -> Res
     sessions::run(
         session,
         driver.address,
-        Purpose::Command,
+        Purpose::Command.into(),
         Step::Write(Register::TOP_CTL2.address(), convert::override_byte(value)),
     );
     Ok(())
@@ -180,7 +180,7 @@ pub fn enable(driver: &DA728x, session: &mut [u8]) -> Result<(), Error>
     sessions::run(
         session,
         driver.address,
-        Purpose::Command,
+        Purpose::Command.into(),
         Step::Write(
             Register::TOP_CTL1.address(),
             sessions::enabled(d.operation_mode),
@@ -233,7 +233,7 @@ fn drive_points(session: &mut [u8], address: u8, p1: u8, p2: u8, p3: u8)
     sessions::run(
         session,
         address,
-        Purpose::Command,
+        Purpose::Command.into(),
         Step::Write(Register::SWG_C1.address(), swg_c1.into()),
     );
     exchange::push(
@@ -274,7 +274,7 @@ pub fn unlock_waveform_memory(driver: &DA728x, session: &mut [u8]) -> Result<(),
     sessions::run(
         session,
         driver.address,
-        Purpose::Command,
+        Purpose::Command.into(),
         Step::Write(Register::MEM_CTL2.address(), sessions::mem_ctl2(true)),
     );
     Ok(())
@@ -287,7 +287,7 @@ pub fn lock_waveform_memory(driver: &DA728x, session: &mut [u8]) -> Result<(), E
     sessions::run(
         session,
         driver.address,
-        Purpose::Command,
+        Purpose::Command.into(),
         Step::Write(Register::MEM_CTL2.address(), sessions::mem_ctl2(false)),
     );
     Ok(())
@@ -366,7 +366,7 @@ pub fn select_sequence(
     sessions::run(
         session,
         driver.address,
-        Purpose::Command,
+        Purpose::Command.into(),
         Step::Write(
             Register::SEQ_CTL2.address(),
             sessions::seq_ctl2(sequence_id, loops),
@@ -427,7 +427,7 @@ fn play(session: &mut [u8], address: u8, value: u8)
     sessions::run(
         session,
         address,
-        Purpose::Command,
+        Purpose::Command.into(),
         Step::Write(Register::SEQ_CTL2.address(), value),
     );
     exchange::push(session, Step::Read(Register::TOP_CTL1.address()));

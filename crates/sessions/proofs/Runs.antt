@@ -23,6 +23,13 @@ onto xs e h = e ∙ ap (λ (l : List ℕ). pushed_all l xs) h
 
 -- ---- those of a session
 
+-- the purpose's number, where it is known
+pub for_the : (st : List ℕ) {s : List ℕ} {p q : ℕ} (address : ℕ) (xs : List Step) → s ≡ begun_in st (blank p address) xs → p ≡ q → s ≡ begun_in st (blank q address) xs
+for_the st address xs e h = e ∙ ap (λ (n : ℕ). begun_in st (blank n address) xs) h
+
+pub for_a : (st : List ℕ) {s : List ℕ} {p q : ℕ} (next : DA728x) → s ≡ begun_in st (carrying p next) [] → p ≡ q → s ≡ begun_in st (carrying q next) []
+for_a st next e h = e ∙ ap (λ (n : ℕ). begun_in st (carrying n next) []) h
+
 pub ran : (st : List ℕ) {s u : List ℕ} (purpose address : ℕ) (xs ys : List Step) → length (xs ++ ys) ≤ 25 → s ≡ begun_in st (blank purpose address) xs → u ≡ pushed_all s ys →
     u ≡ begun_in st (blank purpose address) (xs ++ ys)
 unfolding no_image blank_record

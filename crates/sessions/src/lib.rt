@@ -5,7 +5,6 @@
 ghost use Rattle.std.specs.Prelude.{◌≡◌, [], ◌∷◌, min};
 ghost use Rattle.exchange.specs.declared.Step.TheVariants.{Read, Update};
 ghost use Rattle.exchange.specs.State.{begun_in, pushed_all};
-ghost use Rattle.outcome.specs.Outcome.{purpose_code};
 ghost use Rattle.sessions.specs.Sessions as spec;
 
 use config::OperationMode;
@@ -18,8 +17,8 @@ use registers_trigger::{MEM_CTL2, SEQ_CTL2};
 
 // Begins a session on the chip's registers alone.
 #[tactic(auto, unfolding(crate::specs::Sessions::no_image, crate::specs::Sessions::blank_record))]
-pub fn begin(session: &mut [u8], address: u8, purpose: Purpose)
-    ensures { session.new ≡ begun_in session.old (spec.blank (purpose_code purpose) address) [] }
+pub fn begin(session: &mut [u8], address: u8, purpose: u8)
+    ensures { session.new ≡ begun_in session.old (spec.blank purpose address) [] }
 {
     exchange::begin(
         session,
@@ -27,7 +26,7 @@ pub fn begin(session: &mut [u8], address: u8, purpose: Purpose)
             address,
             reads: 0,
             room: 0,
-            purpose: purpose.into(),
+            purpose,
             image: &[0; 100],
             record: &[0; exchange::RECORD_SIZE],
         },
@@ -36,8 +35,8 @@ pub fn begin(session: &mut [u8], address: u8, purpose: Purpose)
 
 // Begins a session for a record.
 #[tactic(auto, unfolding(crate::specs::Sessions::no_image))]
-pub fn begin_with(session: &mut [u8], purpose: Purpose, next: DA728x)
-    ensures { session.new ≡ begun_in session.old (spec.carrying (purpose_code purpose) next) [] }
+pub fn begin_with(session: &mut [u8], purpose: u8, next: DA728x)
+    ensures { session.new ≡ begun_in session.old (spec.carrying purpose next) [] }
 {
     exchange::begin(
         session,
@@ -45,15 +44,15 @@ pub fn begin_with(session: &mut [u8], purpose: Purpose, next: DA728x)
             address: next.address,
             reads: 0,
             room: 0,
-            purpose: purpose.into(),
+            purpose,
             image: &[0; 100],
             record: &next.to_bytes(),
         },
     );
 }
 
-pub fn run(session: &mut [u8], address: u8, purpose: Purpose, step: Step)
-    ensures { session.new ≡ begun_in session.old (spec.blank (purpose_code purpose) address) (step ∷ []) }
+pub fn run(session: &mut [u8], address: u8, purpose: u8, step: Step)
+    ensures { session.new ≡ begun_in session.old (spec.blank purpose address) (step ∷ []) }
 {
     begin(session, address, purpose);
     exchange::push(session, step);
@@ -63,7 +62,7 @@ pub fn run(session: &mut [u8], address: u8, purpose: Purpose, step: Step)
 pub fn update(session: &mut [u8], address: u8, register: u8, shift: u8, width: u8, value: u8)
     ensures { session.new ≡ begun_in session.old (spec.blank 0 address) (Read register ∷ Update register shift width value ∷ []) }
 {
-    begin(session, address, Purpose::Command);
+    begin(session, address, Purpose::Command.into());
     exchange::push(session, Step::Read(register));
     exchange::push(session, Step::Update(register, shift, width, value));
 }

@@ -4,7 +4,7 @@ use Rattle.field.specs.Layout.{with_at}
 use Rattle.registers.specs.Table.{address_of, parts_of}
 use Rattle.exchange.specs.declared.Step.TheVariants.{Write}
 use Rattle.plans.specs.Fields.{put, written_with}
-use Rattle.sessions.proofs.Runs.{runs_one, ran, on}
+use Rattle.sessions.proofs.Runs.{runs_one, ran, on, for_the}
 use Rattle.driver.proofs.drive_points.Goals as goal
 
 -- a register of which one field is given
@@ -15,7 +15,7 @@ gives register field p a v n = λ i. Write (a i) ((v ∙ ap (λ (b : ℕ). with_
 pub returns : goal.returns
 returns c =
     let a = c.args in
-    let first = gives "SWG_C1" "CUSTOM_WAVE_GEN_COEFF1" a.p1 c.address.ensures (c.into.ensures ∙ c.with_CUSTOM_WAVE_GEN_COEFF1-swg_c1.ensures) c.new.ensures in
-    let second = gives "SWG_C2" "CUSTOM_WAVE_GEN_COEFF2" a.p2 c.address-2.ensures (c.into-2.ensures ∙ c.with_CUSTOM_WAVE_GEN_COEFF2-swg_c2.ensures) c.new-2.ensures in
-    let third = gives "SWG_C3" "CUSTOM_WAVE_GEN_COEFF3" a.p3 c.address-3.ensures (c.into-3.ensures ∙ c.with_CUSTOM_WAVE_GEN_COEFF3-swg_c3.ensures) c.new-3.ensures in
-    ran _ _ _ (_ ∷ []) (_ ∷ _ ∷ []) (omega arith) (runs_one _ _ c.run.ensures first) (on c.push-2.ensures (on c.push.ensures refl second) third)
+    let first = gives "SWG_C1" "CUSTOM_WAVE_GEN_COEFF1" a.p1 c.address.ensures (c.into-2.ensures ∙ c.with_CUSTOM_WAVE_GEN_COEFF1-swg_c1.ensures) c.new.ensures in
+    let second = gives "SWG_C2" "CUSTOM_WAVE_GEN_COEFF2" a.p2 c.address-2.ensures (c.into-3.ensures ∙ c.with_CUSTOM_WAVE_GEN_COEFF2-swg_c2.ensures) c.new-2.ensures in
+    let third = gives "SWG_C3" "CUSTOM_WAVE_GEN_COEFF3" a.p3 c.address-3.ensures (c.into-4.ensures ∙ c.with_CUSTOM_WAVE_GEN_COEFF3-swg_c3.ensures) c.new-3.ensures in
+    ran _ _ _ (_ ∷ []) (_ ∷ _ ∷ []) (omega arith) (runs_one _ _ (for_the _ _ _ c.run.ensures c.into.ensures) first) (on c.push-2.ensures (on c.push.ensures refl second) third)
