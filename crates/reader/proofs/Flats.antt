@@ -6,31 +6,16 @@ use mathlib.Core.List.{List, [], ◌∷◌, ◌++◌, append_assoc, append-nil}
 use Prim.Native.Nat.{ℕ, suc, ◌+◌, ◌-◌, ◌≤◌, ◌<◌}
 use native.Mathlib.Omega.{arith}
 use borrow.Author.Tests.{lt-ltb}
-use lib.Dec.{ltb}
 use lib.ListN.{length, take, drop, set, replicate, length-append}
 use lib.Seq.{take_at, drop_at, set-append_seam, append_snoc}
 use Rattle.laws.specs.Lists.{joined}
 use Rattle.memory.specs.Image.{end_pointers}
 use Rattle.content.proofs.Items.{length_pointers}
-use Rattle.reader.specs.Reading.{parts, padded}
-
-pub record Flat (A : Type 0) : Type 0 where
-  pub items : List A
-  pub len : ℕ
-  pub ends : List ℕ
-  pub count : ℕ
+use Rattle.reader.specs.declared.Runs.{Runs}
+use Rattle.reader.specs.Reading.{parts, runs_in, padded, laid}
+use Rattle.reader.specs.Flat.{push_item, push_items, end_run}
 
 module _ {A : Type 0} where
-  abbrev pub push : Flat A → A → Flat A
-  push o b = cond (ltb o.len 96) (record { items = set o.items o.len b; len = o.len + 1; ends = o.ends; count = o.count }) o
-
-  abbrev pub push_all : Flat A → List A → Flat A
-  push_all o [] = o
-  push_all o (b ∷ bs) = push_all (push o b) bs
-
-  abbrev pub close : ℕ → Flat A → Flat A
-  close most o = cond (ltb o.count most) (record { items = o.items; len = o.len; ends = set o.ends o.count o.len; count = o.count + 1 }) o
-
   pub joined_snoc : (xs : List (List A)) (x : List A) → joined (xs ++ x ∷ []) ≡ joined xs ++ x
   joined_snoc [] x = append-nil x
   joined_snoc (y ∷ xs) x = ap (λ (l : List A). y ++ l) (joined_snoc xs x) ∙ sym (append_assoc y (joined xs) x)
@@ -60,28 +45,27 @@ module _ {A : Type 0} where
       ∙ set-append_seam l blank (replicate (n - length (l ++ b ∷ [])) blank) b
       ∙ sym (append_snoc l b (replicate (n - length (l ++ b ∷ [])) blank))
 
-module _ {A : Type 0} (blank : A) where
+module _ {A : Type 0} (most : ℕ) (blank : A) where
   -- the elements l behind each other, of which n lists end at es
-  abbrev under : List A → List ℕ → ℕ → Flat A
+  abbrev under : List A → List ℕ → ℕ → Runs A most
   under l es n = record { items = padded 96 blank l; len = length l; ends = es; count = n }
 
-  abbrev pub flat_of : ℕ → List (List A) → Flat A
-  flat_of most xs = under (joined xs) (padded most 0 (end_pointers 0 xs)) (length xs)
-
-  pushed : (x l : List A) (es : List ℕ) (n : ℕ) → length l + length x ≤ 96 → push_all (under l es n) x ≡ under (l ++ x) es n
+  pushed : (x l : List A) (es : List ℕ) (n : ℕ) → length l + length x ≤ 96 → push_items (under l es n) x ≡ under (l ++ x) es n
+  unfolding push_item
   pushed [] l es n h = ap (λ (z : List A). under z es n) (sym (append-nil l))
   pushed (b ∷ x) l es n h =
-      let o : Flat A = record { items = set (padded 96 blank l) (length l) b; len = length l + 1; ends = es; count = n } in
-      let t : push (under l es n) b ≡ o = ap (λ (t : Bool). cond t o (under l es n)) (lt-ltb (length l) 96 (omega arith)) in
+      let o : Runs A most = record { items = set (padded 96 blank l) (length l) b; len = length l + 1; ends = es; count = n } in
+      let t : push_item (under l es n) b ≡ o = ap (λ (t : Bool). cond t o (under l es n)) (lt-ltb (length l) 96 (omega arith)) in
       let s = set_padded 96 blank b l (omega arith) in
       let k = sym (length-append l (b ∷ [])) in
-      ap (λ (z : Flat A). push_all z x) (t ∙ λ i. record { items = s i; len = k i; ends = es; count = n })
+      ap (λ (z : Runs A most). push_items z x) (t ∙ λ i. record { items = s i; len = k i; ends = es; count = n })
       ∙ pushed x (l ++ b ∷ []) es n (omega (arith, length-append l (b ∷ [])))
       ∙ ap (λ (z : List A). under z es n) (append_snoc l b x)
 
-  closed : (most : ℕ) (xs : List (List A)) (x : List A) → length xs < most
-      → close most (under (joined xs ++ x) (padded most 0 (end_pointers 0 xs)) (length xs)) ≡ flat_of most (xs ++ x ∷ [])
-  closed most xs x g =
+  ended : (xs : List (List A)) (x : List A) → length xs < most
+      → end_run (under (joined xs ++ x) (padded most 0 (end_pointers 0 xs)) (length xs)) ≡ laid most blank (xs ++ x ∷ [])
+  unfolding end_run
+  ended xs x g =
       let l : List A = joined xs ++ x in
       let n : length (end_pointers 0 xs) ≡ length xs = length_pointers 0 xs in
       let v : length l ≡ 0 + length l = omega arith in
@@ -91,18 +75,18 @@ module _ {A : Type 0} (blank : A) where
       ∙ ap (padded most 0) (sym (ends_snoc xs 0 x)) in
       let j = sym (joined_snoc xs x) in
       let c = sym (length-append xs (x ∷ [])) in
-      let o : Flat A = record { items = padded 96 blank l; len = length l; ends = set (padded most 0 (end_pointers 0 xs)) (length xs) (length l); count = length xs + 1 } in
+      let o : Runs A most = record { items = padded 96 blank l; len = length l; ends = set (padded most 0 (end_pointers 0 xs)) (length xs) (length l); count = length xs + 1 } in
       ap (λ (t : Bool). cond t o (under l (padded most 0 (end_pointers 0 xs)) (length xs))) (lt-ltb (length xs) most g)
       ∙ λ i. under (j i) (s i) (c i)
 
   -- one more list
-  pub add_list : (most : ℕ) (xs : List (List A)) (x : List A) → length (joined xs) + length x ≤ 96 → length xs < most
-      → close most (push_all (flat_of most xs) x) ≡ flat_of most (xs ++ x ∷ [])
-  add_list most xs x f g = ap (close most) (pushed x (joined xs) (padded most 0 (end_pointers 0 xs)) (length xs) f) ∙ closed most xs x g
+  pub add_list : (xs : List (List A)) (x : List A) → length (joined xs) + length x ≤ 96 → length xs < most
+      → end_run (push_items (laid most blank xs) x) ≡ laid most blank (xs ++ x ∷ [])
+  add_list xs x f g = ap end_run (pushed x (joined xs) (padded most 0 (end_pointers 0 xs)) (length xs) f) ∙ ended xs x g
 
   -- its parts are the lists
-  pub shows : (most : ℕ) (o : Flat A) (xs : List (List A)) → o ≡ flat_of most xs → parts 0 (take o.count o.ends) o.items ≡ xs
-  shows most o xs e =
-      ap (λ (z : Flat A). parts 0 (take z.count z.ends) z.items) e
+  pub shows : (o : Runs A most) (xs : List (List A)) → o ≡ laid most blank xs → runs_in o ≡ xs
+  shows o xs e =
+      ap (λ (z : Runs A most). runs_in z) e
       ∙ ap (λ (es : List ℕ). parts 0 es (padded 96 blank (joined xs))) (take_at (end_pointers 0 xs) (replicate (most - length (end_pointers 0 xs)) 0) (length xs) (length_pointers 0 xs))
       ∙ parts_joined xs [] 0 (replicate (96 - length (joined xs)) blank) refl

@@ -14,8 +14,8 @@ use Rattle.frame.specs.declared.FrameBuilder.{FrameBuilder}
 use Rattle.frame.specs.Read.{two_bytes, Parsed, parsed, read_third, read_second, read_after, read_frame, one_byte, Taken, taken_from}
 use Rattle.content.specs.ReadImage.{and_then}
 use Rattle.content.proofs.Codec.{none_some, some_inj, cond_some}
-use Rattle.reader.specs.declared.Frames.{Frames}
-use Rattle.reader.specs.Flat.{push_frame}
+use Rattle.reader.specs.Reading.{Frames}
+use Rattle.reader.specs.Flat.{push_item}
 use Rattle.reader.specs.Walk.{run_frames}
 use Rattle.reader.proofs.Loops.{drop_one}
 
@@ -83,18 +83,18 @@ run_end k s at o h = ap (λ (l : List ℕ). run_frames k l o) (drop_of_length-le
 
 module _ (s : List ℕ) (at k : ℕ) (o : Frames) (h : at < length s) where
   run_one : k < 32 → (m : Option Parsed) → read_frame (drop at s) ≡ m
-      → run_frames (32 - k) (drop at s) o ≡ and_then m (λ p. run_frames (32 - (k + 1)) p.rest (push_frame o p.frame))
+      → run_frames (32 - k) (drop at s) o ≡ and_then m (λ p. run_frames (32 - (k + 1)) p.rest (push_item o p.frame))
   run_one g m e =
       let n : 32 - k ≡ suc (32 - (k + 1)) = omega arith in
       let d = drop_one s at h in
       ap (λ (j : ℕ). run_frames j (drop at s) o) n
       ∙ ap (λ (l : List ℕ). run_frames (suc (32 - (k + 1))) l o) d
-      ∙ ap (λ (x : Option Parsed). and_then x (λ p. run_frames (32 - (k + 1)) p.rest (push_frame o p.frame))) (ap read_frame (sym d) ∙ e)
+      ∙ ap (λ (x : Option Parsed). and_then x (λ p. run_frames (32 - (k + 1)) p.rest (push_item o p.frame))) (ap read_frame (sym d) ∙ e)
 
   pub run_step : (f : FrameBuilder) (m : ℕ) → k < 32 → gives (record { frame = f; len = m }) ≡ taken_from (length (drop at s)) (read_frame (drop at s))
-      → run_frames (32 - k) (drop at s) o ≡ run_frames (32 - (k + 1)) (drop (at + m) s) (push_frame o f)
+      → run_frames (32 - k) (drop at s) o ≡ run_frames (32 - (k + 1)) (drop (at + m) s) (push_item o f)
   run_step f m g e =
-      run_one g _ (took (drop at s) f m e) ∙ ap (λ (l : List ℕ). run_frames (32 - (k + 1)) l (push_frame o f)) (drop-drop m at s)
+      run_one g _ (took (drop at s) f m e) ∙ ap (λ (l : List ℕ). run_frames (32 - (k + 1)) l (push_item o f)) (drop-drop m at s)
 
   pub run_stop : (n : ℕ) → k < 32 → refuses n ≡ taken_from (length (drop at s)) (read_frame (drop at s)) → run_frames (32 - k) (drop at s) o ≡ none
   run_stop n g e = run_one g _ (refused (drop at s) n e)

@@ -22,14 +22,18 @@ use Rattle.content.specs.ReadImage.{on_option, and_then, every, read_snippet, re
 use Rattle.content.proofs.Codec.{cons_eq}
 use Rattle.content.proofs.Points.{points_there}
 use Rattle.content.proofs.Items.{counts_sound}
-use Rattle.reader.specs.declared.Points.{Points}
-use Rattle.reader.specs.declared.Frames.{Frames}
-use Rattle.reader.specs.Reading.{Reading, no_points, no_frames, reading_of}
+use Rattle.reader.specs.Reading.{Reading, Points, Frames, no_runs, laid, reading_of}
 use Rattle.reader.specs.Walk.{push_snippet, push_sequence, Walked, walk, Scan, sequences_then, after_snippets, snippets_then, after_counts, scan}
 use Rattle.reader.specs.Told.{reading_told}
-use Rattle.reader.proofs.Capacity.{Tracks, flat_points, flat_frames, raw_snippet, raw_same, tracks_snippets, tracks_sequences}
+use Rattle.reader.proofs.Capacity.{Tracks, raw_snippet, raw_same, tracks_snippets, tracks_sequences}
 use Rattle.reader.proofs.Cuts.{last_of, in_turn, after_cut, walk_cut, join_cut, cut_more, cut_append, cond_then, WasCut, was_cut}
-use Rattle.reader.proofs.Flats.{flat_of, shows}
+use Rattle.reader.proofs.Flats.{shows}
+
+abbrev pub no_points : Points
+no_points = no_runs 15 0
+
+abbrev pub no_frames : Frames
+no_frames = no_runs 16 silent_frame
 
 -- the reading of what was scanned
 abbrev pub reading_from : Option (Scan Points Frames) → Reading
@@ -95,8 +99,8 @@ there : (xs : List (List ℕ)) → All Bytes xs → xs ≡ map point_bytes (map 
 there [] h = refl
 there (x ∷ xs) h = cons_eq (sym (points_there x h.0)) (there xs h.1)
 
-last_step : (t : Bool) (m : Option Points) (x : Option (List (List ℕ))) → Tracks 0 15 flat_points [] m x → ((xs : List (List ℕ)) → x ≡ some xs → All Bytes xs)
-    → (n : Option Frames) (y : Option (List (List FrameBuilder))) → Tracks silent_frame 16 flat_frames [] n y → Right (cond t (made x y) none) (reading_from (reads t m n))
+last_step : (t : Bool) (m : Option Points) (x : Option (List (List ℕ))) → Tracks 15 0 [] m x → ((xs : List (List ℕ)) → x ≡ some xs → All Bytes xs)
+    → (n : Option Frames) (y : Option (List (List FrameBuilder))) → Tracks 16 silent_frame [] n y → Right (cond t (made x y) none) (reading_from (reads t m n))
 last_step t none none k w n y j = cond_none t
 last_step t none (some xs) k w n y j = absurd k
 last_step t (some s) none k w n y j = absurd k
@@ -105,14 +109,11 @@ last_step t (some s) (some xs) k w none (some ys) j = absurd j
 last_step t (some s) (some xs) k w (some q) none j = absurd j
 last_step false (some s) (some xs) k w (some q) (some ys) j = none_right
 last_step true (some s) (some xs) k w (some q) (some ys) j =
-    let a = shows 0 15 (flat_points s) xs k in
-    let b = shows silent_frame 16 (flat_frames q) ys j in
-    let p = k ∙ ap (flat_of 0 15) (there xs (w xs refl)) in (
+    let a = shows 15 0 s xs k in
+    let b = shows 16 silent_frame q ys j in
+    let p = k ∙ ap (laid 15 0) (there xs (w xs refl)) in (
       λ i. gives (record { snippets = map points_in (a i); sequences = b i }),
-      λ i. Ok (record {
-        snippets = record { items = (p i).items; len = (p i).len; ends = (p i).ends; count = (p i).count };
-        sequences = record { items = (j i).items; len = (j i).len; ends = (j i).ends; count = (j i).count };
-      }),
+      λ i. Ok (record { snippets = p i; sequences = j i }),
     )
 
 -- ---- after the snippets

@@ -5,11 +5,11 @@ use Rattle.errors.specs.Told.{Told, gives, refuses}
 use Rattle.content.specs.Content.{Content}
 use Rattle.content.specs.ReadImage.{point_in}
 use Rattle.reader.specs.declared.Lists.{Lists}
-use Rattle.reader.specs.Reading.{Reading, snippets_in, sequences_in}
+use Rattle.reader.specs.Reading.{Reading, runs_in}
 
 -- the content that the arrays hold
 abbrev pub read_content : Lists → Content
-read_content r = record { snippets = map (map point_in) (snippets_in r.snippets); sequences = sequences_in r.sequences }
+read_content r = record { snippets = map (map point_in) (runs_in r.snippets); sequences = runs_in r.sequences }
 
 -- the content, if nothing was refused
 abbrev pub reading_told : Reading → Told Content

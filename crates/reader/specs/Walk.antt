@@ -5,9 +5,8 @@ use Rattle.std.proofs.Math.Option.{Option, none, some}
 use Rattle.errors.specs.declared.Error.{Error}
 use Rattle.frame.specs.Read.{read_frame}
 use Rattle.content.specs.ReadImage.{and_then, all_zero, counts_fit}
-use Rattle.reader.specs.declared.Points.{Points}
-use Rattle.reader.specs.declared.Frames.{Frames}
-use Rattle.reader.specs.Flat.{push_points, push_frame, end_snippet, end_sequence}
+use Rattle.reader.specs.Reading.{Points, Frames}
+use Rattle.reader.specs.Flat.{push_item, push_items, end_run}
 
 -- ---- one item
 
@@ -16,13 +15,13 @@ abbrev pub run_frames : ℕ → List ℕ → Frames → Option Frames
 run_frames zero [] o = some o
 run_frames zero (b ∷ bs) o = none
 run_frames (suc k) [] o = some o
-run_frames (suc k) (b ∷ bs) o = and_then (read_frame (b ∷ bs)) (λ p. run_frames k p.rest (push_frame o p.frame))
+run_frames (suc k) (b ∷ bs) o = and_then (read_frame (b ∷ bs)) (λ p. run_frames k p.rest (push_item o p.frame))
 
 unfoldable pub push_snippet : List ℕ → Points → Option Points
-push_snippet bs o = cond (leb 1 (length bs) && leb (length bs) 16) (some (end_snippet (push_points o bs))) none
+push_snippet bs o = cond (leb 1 (length bs) && leb (length bs) 16) (some (end_run (push_items o bs))) none
 
 unfoldable pub push_sequence : List ℕ → Frames → Option Frames
-push_sequence bs o = cond (leb 1 (length bs)) (and_then (run_frames 32 bs o) (λ f. some (end_sequence f))) none
+push_sequence bs o = cond (leb 1 (length bs)) (and_then (run_frames 32 bs o) (λ f. some (end_run f))) none
 
 -- how the code answers: what a step made of the lists, or 18
 abbrev pub Stepped : {S : Type 0} → Option S → Result Unit Error → S → Type 0

@@ -3,7 +3,7 @@
 // speaks of (specs/Items.antt), for any indexes.
 ghost use Rattle.std.specs.Prelude.{◌≡◌, ◌<◌, take, length};
 ghost use Rattle.reader.specs.Items.{element, point_at_told, frame_at_told};
-ghost use Rattle.reader.specs.Reading.{snippets_in, sequences_in};
+ghost use Rattle.reader.specs.Reading.{runs_in};
 ghost use Rattle.reader.specs.Places.{start_in, place_in, place_told};
 
 use crate::{Frames, Points};
@@ -12,7 +12,7 @@ use snippet::PwlPoint;
 
 // The j-th point of the i-th snippet, both counted from 0, if there is one.
 pub fn point_at(points: &Points, i: usize, j: usize) -> Option<PwlPoint>
-    ensures { point_at_told result ≡ element (snippets_in points.now) i j }
+    ensures { point_at_told result ≡ element (runs_in points.now) i j }
 {
     match find(&points.ends, points.count as usize, i, j) {
         Some(k) if k < 96 => Some(PwlPoint::from_byte(points.items[k])),
@@ -22,7 +22,7 @@ pub fn point_at(points: &Points, i: usize, j: usize) -> Option<PwlPoint>
 
 // The j-th frame of the i-th sequence, both counted from 0, if there is one.
 pub fn frame_at(frames: &Frames, i: usize, j: usize) -> Option<FrameBuilder>
-    ensures { frame_at_told result ≡ element (sequences_in frames.now) i j }
+    ensures { frame_at_told result ≡ element (runs_in frames.now) i j }
 {
     match find(&frames.ends, frames.count as usize, i, j) {
         Some(k) if k < 96 => Some(frames.items[k]),

@@ -11,30 +11,27 @@ ghost use Rattle.std.specs.Prelude.{◌≡◌, ◌+◌, ◌≤◌, ◌<◌, List
 ghost use Rattle.std.proofs.Math.Option.{Option};
 ghost use Rattle.errors.specs.Number.{answer_number};
 ghost use Rattle.content.specs.ReadImage.{on_option, read_image, counts_fit, all_zero};
-ghost use Rattle.reader.specs.Reading.{reading_of, no_points, no_frames};
-ghost use Rattle.reader.specs.Flat.{push_point, push_frame, push_points, end_snippet, end_sequence};
+ghost use Rattle.reader.specs.Reading.{reading_of, no_runs};
+ghost use Rattle.reader.specs.Flat.{push_item, push_items, end_run};
 ghost use Rattle.reader.specs.Walk.{Stepped, Walks, run_frames, push_snippet, push_sequence, walk, Scans, scan};
 
 use errors::Error;
 use frame::FrameBuilder;
 
-// The points of the snippets, as bytes: a snippet's end before the index in `ends`, and the first `count` are in use.
+// Lists end to end, 96 elements and MOST lists at most: a list's end before the index in `ends`, and the first `count` are in use.
 #[derive(Debug, Clone, Copy)]
-pub struct Points {
-    pub items: [u8; 96],
+pub struct Runs<T: Copy, const MOST: usize> {
+    pub items: [T; 96],
     pub len: u8,
-    pub ends: [u8; 15],
+    pub ends: [u8; MOST],
     pub count: u8,
 }
 
-// The frames of the sequences, in the same way.
-#[derive(Debug, Clone, Copy)]
-pub struct Frames {
-    pub items: [FrameBuilder; 96],
-    pub len: u8,
-    pub ends: [u8; 16],
-    pub count: u8,
-}
+// The points of the snippets, as bytes.
+pub type Points = Runs<u8, 15>;
+
+// The frames of the sequences.
+pub type Frames = Runs<FrameBuilder, 16>;
 
 // The lists of an image.
 #[derive(Debug, Clone, Copy)]
@@ -45,75 +42,63 @@ pub struct Lists {
 
 // ---- the lists
 
-impl Points {
-    fn new() -> Points
-        ensures { result ≡ no_points }
+impl<T: Copy, const MOST: usize> Runs<T, MOST> {
+    fn new(blank: T) -> Self
+        ensures { result ≡ no_runs MOST blank }
     {
-        Points {
-            items: [0; 96],
+        Runs {
+            items: [blank; 96],
             len: 0,
-            ends: [0; 15],
+            ends: [0; MOST],
             count: 0,
         }
     }
 
-    // One point more, where there is room.
-    #[tactic(auto, unfolding(crate::specs::Flat::push_point))]
-    fn push(&mut self, byte: u8)
-        ensures { self.new ≡ push_point self.old byte }
+    // One element more, where there is room.
+    #[tactic(auto, unfolding(crate::specs::Flat::push_item))]
+    fn push(&mut self, item: T)
+        ensures { self.new ≡ push_item self.old item }
     {
         if self.len < 96 {
-            self.items[self.len as usize] = byte;
+            self.items[self.len as usize] = item;
             self.len += 1;
         }
     }
 
-    // The points of one snippet more.
-    fn push_all(&mut self, bytes: &[u8])
-        ensures { self.new ≡ push_points self.old bytes.now }
+    // The elements of one list more.
+    fn push_all(&mut self, list: &[T])
+        ensures { self.new ≡ push_items self.old list.now }
     {
-        for byte in bytes {
-            self.push(*byte);
+        for item in list {
+            self.push(*item);
         }
     }
 
-    #[tactic(auto, unfolding(crate::specs::Flat::end_snippet))]
+    // The list ends here.
+    #[tactic(auto, unfolding(crate::specs::Flat::end_run))]
     fn end(&mut self)
-        ensures { self.new ≡ end_snippet self.old }
+        requires { MOST < 256 }
+        ensures { self.new ≡ end_run self.old }
     {
-        if self.count < 15 {
+        if (self.count as usize) < MOST {
             self.ends[self.count as usize] = self.len;
             self.count += 1;
         }
     }
+
+    // The elements in use, end to end.
+    pub fn as_slice(&self) -> &[T]
+        ensures value { result.now ≡ take self.now.len self.now.items }
+        ensures upper_bound { length result.now ≤ 96 }
+    {
+        let n = laws::wide(self.len).min(96);
+        &self.items[..n]
+    }
 }
 
 impl Frames {
-    fn new() -> Frames
-        ensures { result ≡ no_frames }
-    {
-        let items = [FrameBuilder::silence(); 96];
-        Frames {
-            items,
-            len: 0,
-            ends: [0; 16],
-            count: 0,
-        }
-    }
-
-    // One frame more, where there is room.
-    #[tactic(auto, unfolding(crate::specs::Flat::push_frame))]
-    fn push(&mut self, frame: FrameBuilder)
-        ensures { self.new ≡ push_frame self.old frame }
-    {
-        if self.len < 96 {
-            self.items[self.len as usize] = frame;
-            self.len += 1;
-        }
-    }
-
     // The frames that the bytes are, 32 at most.
-    fn push_all(&mut self, bytes: &[u8]) -> Result<(), Error>
+    fn push_frames(&mut self, bytes: &[u8]) -> Result<(), Error>
         ensures { Stepped (run_frames 32 bytes.now self.old) result self.new }
     {
         let mut at = 0usize;
@@ -129,25 +114,6 @@ impl Frames {
             return Err(Error::NotAnImage);
         }
         Ok(())
-    }
-
-    // The frames in use, end to end.
-    pub fn as_slice(&self) -> &[FrameBuilder]
-        ensures value { result.now ≡ take self.now.len self.now.items }
-        ensures upper_bound { length result.now ≤ 96 }
-    {
-        let n = laws::wide(self.len).min(96);
-        &self.items[..n]
-    }
-
-    #[tactic(auto, unfolding(crate::specs::Flat::end_sequence))]
-    fn end(&mut self)
-        ensures { self.new ≡ end_sequence self.old }
-    {
-        if self.count < 16 {
-            self.ends[self.count as usize] = self.len;
-            self.count += 1;
-        }
     }
 }
 
@@ -184,7 +150,7 @@ impl Gather for Frames {
         if item.len() < 1 {
             return Err(Error::NotAnImage);
         }
-        self.push_all(item)?;
+        self.push_frames(item)?;
         self.end();
         Ok(())
     }
@@ -260,8 +226,8 @@ pub fn read(image: &[u8]) -> Result<Lists, Error>
     ensures answer_value { answer_number result ≡ on_option (read_image image.now) 18 (λ _. 0) }
     ensures value { result ≡ reading_of (read_image image.now) }
 {
-    let mut snippets = Points::new();
-    let mut sequences = Frames::new();
+    let mut snippets = Points::new(0);
+    let mut sequences = Frames::new(FrameBuilder::silence());
     scan(image, &mut snippets, &mut sequences)?;
     Ok(Lists {
         snippets,

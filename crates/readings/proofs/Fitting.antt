@@ -16,13 +16,11 @@ use Rattle.frame.specs.declared.FrameBuilder.{FrameBuilder}
 use Rattle.frame.specs.Read.{Parsed, read_frame, first_frame}
 use Rattle.content.specs.Content.{Content}
 use Rattle.content.specs.ReadImage.{and_then, read_frames, all_zero, counts_fit, read_image}
-use Rattle.reader.specs.declared.Points.{Points}
-use Rattle.reader.specs.declared.Frames.{Frames}
-use Rattle.reader.specs.Reading.{Reading, no_points, no_frames, reading_of}
-use Rattle.reader.specs.Flat.{push_frame, push_points, end_snippet, end_sequence}
+use Rattle.reader.specs.Reading.{Reading, Points, Frames, reading_of}
+use Rattle.reader.specs.Flat.{push_item, push_items, end_run}
 use Rattle.reader.specs.Walk.{run_frames, push_snippet, push_sequence, Walked, item, walk, Scan, sequences_then, after_snippets, snippets_then, after_counts, scan, Scans}
 use Rattle.reader.proofs.Running.{took, refused}
-use Rattle.reader.proofs.Whole.{reading_from, whole}
+use Rattle.reader.proofs.Whole.{no_points, no_frames, reading_from, whole}
 use Rattle.readings.specs.InPlace.{present, snippet_fits, sequence_fits, kept, header_of}
 use Rattle.readings.proofs.Standing.{known}
 
@@ -45,19 +43,19 @@ frames_found zero (b ∷ bs) o = refl
 frames_found (suc k) [] o = refl
 frames_found (suc k) (b ∷ bs) o = go (λ r o'. frames_found k r o') (read_frame (b ∷ bs)) where
   go : ((r : List ℕ) (o' : Frames) → present (run_frames k r o') ≡ present (read_frames k r)) → (m : Option Parsed)
-      → present (and_then m (λ p. run_frames k p.rest (push_frame o p.frame)))
+      → present (and_then m (λ p. run_frames k p.rest (push_item o p.frame)))
       ≡ present (and_then m (λ p. and_then (read_frames k p.rest) (λ fs. some (p.frame ∷ fs))))
   go ih none = refl
-  go ih (some p) = ih p.rest (push_frame o p.frame) ∙ more_found p.frame (read_frames k p.rest)
+  go ih (some p) = ih p.rest (push_item o p.frame) ∙ more_found p.frame (read_frames k p.rest)
 
 snippet_found : (bs : List ℕ) (o : Points) → present (push_snippet bs o) ≡ snippet_fits bs
 unfolding push_snippet
-snippet_found bs o = some_found (leb 1 (length bs) && leb (length bs) 16) (end_snippet (push_points o bs))
+snippet_found bs o = some_found (leb 1 (length bs) && leb (length bs) 16) (end_run (push_items o bs))
 
 sequence_found : (bs : List ℕ) (o : Frames) → present (push_sequence bs o) ≡ sequence_fits bs
 unfolding push_sequence
 sequence_found bs o = go (leb 1 (length bs)) (run_frames 32 bs o) (present (read_frames 32 bs)) (frames_found 32 bs o) where
-  go : (t : Bool) (m : Option Frames) (n : Bool) → present m ≡ n → present (cond t (and_then m (λ f. some (end_sequence f))) none) ≡ (t && n)
+  go : (t : Bool) (m : Option Frames) (n : Bool) → present m ≡ n → present (cond t (and_then m (λ f. some (end_run f))) none) ≡ (t && n)
   go false m n h = refl
   go true none n h = h
   go true (some f) n h = h

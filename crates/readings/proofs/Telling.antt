@@ -30,10 +30,10 @@ use Rattle.content.proofs.Codec.{none_some, some_inj, cons_eq}
 use Rattle.content.proofs.Points.{snippet_codec}
 use Rattle.content.proofs.Items.{length_pointers}
 use Rattle.content.proofs.Images.{image_codec}
-use Rattle.reader.specs.Reading.{parts, padded}
+use Rattle.reader.specs.Reading.{parts, padded, laid}
 use Rattle.reader.specs.Items.{element}
 use Rattle.reader.proofs.Cuts.{last_of}
-use Rattle.reader.proofs.Flats.{flat_of, shows}
+use Rattle.reader.proofs.Flats.{shows}
 use Rattle.readings.specs.Readings.{counts_answer, point_answer, frame_answer}
 use Rattle.readings.proofs.Codes.{point_code, byte_code, frame_code}
 use Rattle.readings.specs.Lists.{words_bytes, lists_of, lists_item, lists_answer}
@@ -209,12 +209,12 @@ padded_told : {A : Type 0} (n : ℕ) (blank : A) (l m : List A) → length l ≡
 padded_told n blank l m h e = (same_parts l m _ _ (length m) h refl e).0
 
 -- lists laid end to end, by their number, their elements and their ends
-laid_told : {A : Type 0} (blank : A) (most : ℕ) (xs ys : List (List A)) → length xs ≡ length ys → padded 96 blank (joined xs) ≡ padded 96 blank (joined ys)
+laid_told : {A : Type 0} (most : ℕ) (blank : A) (xs ys : List (List A)) → length xs ≡ length ys → padded 96 blank (joined xs) ≡ padded 96 blank (joined ys)
     → padded most 0 (end_pointers 0 xs) ≡ padded most 0 (end_pointers 0 ys) → xs ≡ ys
-laid_told blank most xs ys n p e =
-    sym (shows blank most (flat_of blank most xs) xs refl)
+laid_told most blank xs ys n p e =
+    sym (shows most blank (laid most blank xs) xs refl)
     ∙ (λ i. parts 0 (take (n i) (e i)) (p i))
-    ∙ shows blank most (flat_of blank most ys) ys refl
+    ∙ shows most blank (laid most blank ys) ys refl
 
 -- the last end is where all end
 last_end : {A : Type 0} (xs : List (List A)) (p : ℕ) → last_of p (end_pointers p xs) ≡ p + length (joined xs)
@@ -285,8 +285,8 @@ lists_told l k c d a b n e =
     padded_told 576 0 _ _ (omega (arith, words_length (joined c.sequences), words_length (joined d.sequences))) q.1 in
     let same = words_told (joined c.sequences) (joined d.sequences) (all_joined FrameAdmitted c.sequences a.frames) (all_joined FrameAdmitted d.sequences b.frames) many words in
     one_image l k c d a b
-    (laid_told 0 15 xs ys (length-map c.snippets point_bytes ∙ m.0 ∙ sym (length-map d.snippets point_bytes)) r.0 r.1)
-    (laid_told silent_frame 16 c.sequences d.sequences m.1 (ap (padded 96 silent_frame) same) p.1)
+    (laid_told 15 0 xs ys (length-map c.snippets point_bytes ∙ m.0 ∙ sym (length-map d.snippets point_bytes)) r.0 r.1)
+    (laid_told 16 silent_frame c.sequences d.sequences m.1 (ap (padded 96 silent_frame) same) p.1)
 
 lists_length : (l : List ℕ) (c : Content) → Held l c → length (lists_of c) ≡ 703
 unfolding lists_of

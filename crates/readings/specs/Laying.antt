@@ -1,8 +1,6 @@
 -- The bytes of all lists, laid part by part as the code does it; only private contracts cite this.
 use Rattle.std.specs.Prelude.{ℕ, List, ◌++◌, take}
-use Rattle.reader.specs.declared.Points.{Points}
-use Rattle.reader.specs.declared.Frames.{Frames}
-use Rattle.reader.specs.Reading.{padded}
+use Rattle.reader.specs.Reading.{Points, Frames, padded}
 use Rattle.readings.specs.Lists.{words_bytes}
 
 -- the arrays of a reading

@@ -6,9 +6,8 @@ use Rattle.content.specs.Content.{Content}
 use Rattle.content.specs.ReadImage.{on_option, read_image}
 use Rattle.laws.specs.Bytes.{Bytes}
 use Rattle.laws.proofs.Lists.{bytes_of}
-use Rattle.reader.specs.declared.Points.{Points}
-use Rattle.reader.specs.declared.Frames.{Frames}
-use Rattle.reader.specs.Reading.{Reading, no_points, no_frames, reading_of}
+use Rattle.frame.specs.Builder.{silent_frame}
+use Rattle.reader.specs.Reading.{Reading, Points, Frames, no_runs, reading_of}
 use Rattle.reader.specs.Walk.{push_snippet, push_sequence, Scan, scan}
 use Rattle.errors.proofs.Passed.{passed}
 use Rattle.reader.proofs.Steps.{scans_ok, scans_err}
@@ -19,7 +18,7 @@ numbered : (o : Option Content) → answer_number (reading_of o) ≡ on_option o
 numbered none = refl
 numbered (some c) = refl
 
-scanned_as : (image : List ℕ) → Bytes image → (a : Points) (b : Frames) → a ≡ no_points → b ≡ no_frames → (m : Option (Scan Points Frames))
+scanned_as : (image : List ℕ) → Bytes image → (a : Points) (b : Frames) → a ≡ no_runs 15 0 → b ≡ no_runs 16 silent_frame → (m : Option (Scan Points Frames))
     → scan push_snippet push_sequence image a b ≡ m → reading_from m ≡ reading_of (read_image image)
 scanned_as image small a b ea eb m e =
     ap reading_from (sym e ∙ (λ i. scan push_snippet push_sequence image (ea i) (eb i))) ∙ (whole image small).1
@@ -29,7 +28,7 @@ returns-in_err-scan-clause-value c =
     let image = c.args.image.now in
     let n = scans_err image _ _ _ c.scan.ensures c.in_err-scan.was in
     passed _ c.from_residual.ensures.1 ∙ ap Err n.1
-    ∙ scanned_as image (bytes_of image (λ i. (c.type_inv.image i).fits)) _ _ c.new-snippets.ensures c.new-sequences.ensures none n.0
+    ∙ scanned_as image (bytes_of image (λ i. (c.type_inv.image i).fits)) _ _ c.new-snippets.ensures (c.new-sequences.ensures ∙ ap (no_runs 16) c.silence.ensures) none n.0
 
 pub returns-in_err-scan-clause-answer_value : goal.returns-in_err-scan-clause-answer_value
 returns-in_err-scan-clause-answer_value c =
@@ -38,7 +37,7 @@ returns-in_err-scan-clause-answer_value c =
 pub returns-clause-value : goal.returns-clause-value
 returns-clause-value c =
     let image = c.args.image.now in
-    scanned_as image (bytes_of image (λ i. (c.type_inv.image i).fits)) _ _ c.new-snippets.ensures c.new-sequences.ensures _
+    scanned_as image (bytes_of image (λ i. (c.type_inv.image i).fits)) _ _ c.new-snippets.ensures (c.new-sequences.ensures ∙ ap (no_runs 16) c.silence.ensures) _
     (scans_ok image _ c.scan.ensures c.in_ok-scan.was)
 
 pub returns-clause-answer_value : goal.returns-clause-answer_value

@@ -7,14 +7,14 @@ use Rattle.errors.proofs.Passed.{passed}
 use Rattle.reader.proofs.Steps.{stepped_ok, stepped_err, stepped_none, stepped_some}
 use Rattle.reader.proofs.FramesGather.add.Goals as goal
 
-pub returns-in_err-push_all : goal.returns-in_err-push_all
-returns-in_err-push_all c =
+pub returns-in_err-push_frames : goal.returns-in_err-push_frames
+returns-in_err-push_frames c =
     let a = c.args in
-    let n = stepped_err (run_frames 32 a.item.now a.self.now) _ c.push_all.ensures c.in_err-push_all.was in
+    let n = stepped_err (run_frames 32 a.item.now a.self.now) _ c.push_frames.ensures c.in_err-push_frames.was in
     stepped_none _ _ (sequence_run a.item.now (omega arith) a.self.now _ n.0) (passed _ c.from_residual.ensures.1 ∙ ap Err n.1)
 
 pub returns : goal.returns
 returns c =
     let a = c.args in
-    let m = stepped_ok (run_frames 32 a.item.now a.self.now) c.push_all.ensures c.in_ok-push_all.was in
+    let m = stepped_ok (run_frames 32 a.item.now a.self.now) c.push_frames.ensures c.in_ok-push_frames.was in
     stepped_some _ (sequence_run a.item.now (omega arith) a.self.now _ m ∙ ap some (sym c.end.ensures)) refl

@@ -6,7 +6,7 @@ use Rattle.reader.specs.Walk.{run_frames}
 use Rattle.reader.proofs.Running.{run_step, run_stop, run_full, run_end}
 use Rattle.errors.proofs.Passed.{passed}
 use Rattle.reader.proofs.Steps.{stepped_none, stepped_some}
-use Rattle.reader.proofs.Frames.push_all.Goals as goal
+use Rattle.reader.proofs.Frames.push_frames.Goals as goal
 
 pub returns-then-bytes-at : goal.returns-then-bytes-at
 returns-then-bytes-at c = let l = c.loop in stepped_some _ (sym l.invariant ∙ run_end _ c.args.bytes.now l.at l.self c.if-bytes-at.true) refl
