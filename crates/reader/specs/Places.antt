@@ -1,6 +1,5 @@
 -- Where an element of a list of lists stands in the flat list; only private contracts cite this.
-use Rattle.std.specs.declared.option.Option as rust
-use Rattle.std.specs.Prelude.{ℕ, Some, None, zero, suc, ◌+◌, ◌-◌, cond, List, [], ◌∷◌, ltb, get_or}
+use Rattle.std.specs.Prelude.{ℕ, zero, suc, ◌+◌, ◌-◌, cond, List, [], ◌∷◌, ltb, get_or}
 use Rattle.std.proofs.Math.Option.{Option, none, some}
 
 -- where the i-th list starts
@@ -12,7 +11,3 @@ abbrev pub place_in : ℕ → List ℕ → ℕ → ℕ → Option ℕ
 place_in from [] i j = none
 place_in from (e ∷ es) zero j = cond (ltb j (e - from)) (some (from + j)) none
 place_in from (e ∷ es) (suc i) j = place_in e es i j
-
-abbrev pub place_told : rust.Option ℕ → Option ℕ
-place_told (Some k) = some k
-place_told None = none

@@ -18,7 +18,7 @@ use Rattle.content.specs.Content.{Point, Content}
 use Rattle.content.proofs.Admits.{points_in}
 use Rattle.content.specs.ReadImage.{and_then, read_snippet, read_frames, read_sequence, read_image}
 use Rattle.content.proofs.Codec.{none_some, some_inj, cond_some}
-use Rattle.reader.specs.Items.{element, frame_at_told}
+use Rattle.reader.specs.Items.{element, at_told}
 use Rattle.reader.proofs.Placed.{elem_some, elem_none}
 use Rattle.readings.specs.InPlace.{header_of, item_at, Stands, NthFrame}
 use Rattle.readings.specs.Readings.{counts_answer, point_answer, frame_answer}
@@ -105,9 +105,9 @@ module _ (image : List ℕ) (s q : ℕ) (t : Ok (s, q) ≡ header_of (read_image
         (λ c k e f. ap frame_code (no_element c.sequences i j (omega arith)))
 
     pub frame_there : i < q → (r : rust.Option FrameBuilder) → NthFrame (item_at image (s + i)) j r
-        → frame_code (frame_at_told r) ≡ packed 56 (frame_answer (read_image image) i j)
+        → frame_code (at_told r) ≡ packed 56 (frame_answer (read_image image) i j)
     frame_there h r w =
-        of_content (λ (o : Option Content). frame_code (frame_at_told r) ≡ packed 56 (frame_answer o i j))
+        of_content (λ (o : Option Content). frame_code (at_told r) ≡ packed 56 (frame_answer o i j))
         (λ c k e f.
         let g : i < length c.sequences = omega arith in
         let n : get_or image 0 0 + i ≡ s + i = omega (arith, k.snippets) in

@@ -9,7 +9,7 @@ use Rattle.frame.specs.declared.FrameBuilder.{FrameBuilder}
 use Rattle.content.specs.Content.{Content}
 use Rattle.content.specs.ReadImage.{read_frames}
 use Rattle.reader.specs.Walk.{item}
-use Rattle.reader.specs.Items.{frame_at_told}
+use Rattle.reader.specs.Items.{at_told}
 
 -- whether there is one
 abbrev pub present : {A : Type 0} → Option A → Bool
@@ -57,4 +57,4 @@ pub record Stands (image : List ℕ) (k : ℕ) : Type 0 where
 
 -- the j-th frame, where the bytes are frames
 abbrev pub NthFrame : List ℕ → ℕ → rust.Option FrameBuilder → Type 0
-NthFrame bs j r = (fs : List FrameBuilder) → read_frames 32 bs ≡ some fs → frame_at_told r ≡ get_elem? fs j
+NthFrame bs j r = (fs : List FrameBuilder) → read_frames 32 bs ≡ some fs → at_told r ≡ get_elem? fs j
