@@ -21,17 +21,19 @@ pub fn read(alloc: Global, line: &[u8]) -> Result<Vec<Vec<u8>>, ReadError> {
         .try_collect(alloc)
 }
 
-/// The bytes of a field: two digits each, or a lone `-` for none.
+/// The bytes of a field, two digits each; a `-` is passed over, so that `-` alone is a field of none.
 fn field(alloc: Global, text: &[u8]) -> Result<Vec<u8>, ReadError> {
-    match text {
-        b"-" => Ok(Vec::new(alloc)),
-        _ => text.chunks(2).map(byte).try_collect(alloc),
-    }
+    let digits: Vec<u8> = text
+        .iter()
+        .filter(|c| **c != b'-')
+        .map(|c| -> Result<u8, ReadError> { digit(*c) })
+        .try_collect(alloc)?;
+    digits.chunks(2).map(byte).try_collect(alloc)
 }
 
 fn byte(digits: &[u8]) -> Result<u8, ReadError> {
     match digits {
-        [upper, lower] => Ok((digit(*upper)? << 4) | digit(*lower)?),
+        [upper, lower] => Ok((upper << 4) | lower),
         _ => Err(ReadError::NotHexadecimal),
     }
 }
