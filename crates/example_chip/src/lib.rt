@@ -43,6 +43,7 @@ impl Bench {
         if let Err(e) = begun {
             return println!(rt; "  refused with {}", Refusal(e));
         }
+        // Not `while`: an answer that does not fit leaves the session as it was, and nothing here shows that the chip's fit.
         for _ in 0..MOST {
             if exchange::is_over(&self.session) {
                 break;

@@ -18,13 +18,18 @@ impl fmt::Display for PointText {
     }
 }
 
-// A loop count of 255 and a frequency of 65535 in a frame's number of 48 bits say that there is none.
+// What `FrameBuilder::word`, by which alone the fields can be read, has for no loop count and for no frequency.
+const NO_LOOP_COUNT: u8 = 255;
+
+const NO_FREQUENCY: u16 = 65535;
+
 impl fmt::Display for FrameText {
     fn fmt<W: fmt::Write>(&self, f: &mut fmt::Formatter<W>) -> fmt::Result {
         let [_, _, upper, lower, loop_count, timebase, gain, snippet_id] = self
             .0
             .word()
             .to_be_bytes();
+        let frequency = u16::from_be_bytes([upper, lower]);
         match snippet_id {
             0 => write!(f, "silence")?,
             id => write!(f, "snippet {id}")?,
@@ -32,12 +37,12 @@ impl fmt::Display for FrameText {
         let gain = show::gain(Gain::from(gain));
         let timebase = show::timebase(Timebase::from(timebase));
         write!(f, ", gain {gain}, {timebase}")?;
-        if loop_count != 255 {
+        if loop_count != NO_LOOP_COUNT {
             write!(f, ", loop count {loop_count}")?;
         }
-        match u16::from_be_bytes([upper, lower]) {
-            65535 => Ok(()),
-            frequency => write!(f, ", {frequency} Hz"),
+        if frequency != NO_FREQUENCY {
+            write!(f, ", {frequency} Hz")?;
         }
+        Ok(())
     }
 }

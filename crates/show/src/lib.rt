@@ -26,6 +26,8 @@ impl fmt::Display for Refusal {
     }
 }
 
+// A gain and a timebase have a fixed text each, so these are functions; the types above put theirs together as they are printed.
+
 /// What of the full amplitude a gain leaves.
 pub fn gain(gain: Gain) -> &'static str {
     match gain {

@@ -1,4 +1,4 @@
-// What the replay of the stored sample stands on: lines of hexadecimal fields, numbers in bytes, and how lent bytes are filled.
+// What the replay of the stored sample stands on: lines of hexadecimal fields, numbers and kinds in bytes, and how lent bytes are filled.
 // Proved: every function is safe and returns.
 #![tactic(auto)]
 
@@ -12,4 +12,21 @@ pub const MARKER: u8 = 0xA5;
 /// The number with these bytes, the most significant first.
 pub fn number(bytes: &[u8]) -> u64 {
     bytes.iter().fold(0, |n, x| (n << 8) | u64::from(*x))
+}
+
+/// The byte at an index, 0 past the end.
+pub fn byte_at(bytes: &[u8], i: usize) -> u8 {
+    bytes.get(i).copied().unwrap_or(0)
+}
+
+/// A number that no kind has.
+#[derive(Clone, Copy, Debug, PartialEq, Eq)]
+pub struct UnknownKind(pub u8);
+
+/// The kind that a case's first field tells in one byte, if there is such a kind.
+pub fn kind<K: TryFrom<u8, Error = UnknownKind>>(field: &[u8]) -> Option<K> {
+    match field {
+        [number] => K::try_from(*number).ok(),
+        _ => None,
+    }
 }

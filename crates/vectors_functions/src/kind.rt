@@ -1,4 +1,5 @@
 // What a case calls, by the number that the sample gives it.
+use vectors_bytes::UnknownKind;
 
 /// The exported functions that drive no chip. `Reads` stands for `read_counts`, `read_point` and `read_frame`.
 #[derive(Clone, Copy, Debug, PartialEq, Eq)]
@@ -26,10 +27,6 @@ pub enum Kind {
     AssembleStrict,
     ReadLists,
 }
-
-/// A number that no kind has.
-#[derive(Clone, Copy, Debug, PartialEq, Eq)]
-pub struct UnknownKind(pub u8);
 
 impl TryFrom<u8> for Kind {
     type Error = UnknownKind;

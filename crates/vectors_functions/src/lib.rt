@@ -8,7 +8,7 @@ mod kind;
 mod walk;
 
 use kind::Kind;
-use vectors_bytes::{MARKER, number};
+use vectors_bytes::{MARKER, byte_at, number};
 
 // What a case gives and tells: the arguments, the list of calls or the image, the word answered, and what is left in the slice lent.
 // A case of an image read has the image in the place of the arguments, and then its counts, its points and its frames.
@@ -25,28 +25,22 @@ pub fn agrees(fields: &[Vec<u8>]) -> bool {
     let [kind, arguments, input, word, out] = fields else {
         return false;
     };
-    let [kind] = *kind.as_slice() else {
-        return false;
-    };
     let case = Case {
         arguments,
         input,
         word,
         out,
     };
-    match Kind::try_from(kind) {
-        Ok(kind) => case.agrees(kind),
-        Err(_) => false,
-    }
+    vectors_bytes::kind(kind).is_some_and(|kind| case.agrees(kind))
 }
 
 impl Case<'_> {
     // Whether the function of this kind, and the same by value if there is one, does what the case tells.
     fn agrees(&self, kind: Kind) -> bool {
         let calls = self.input;
-        let a = self.argument(0);
-        let b = self.argument(1);
-        let c = self.argument(2);
+        let a = byte_at(self.arguments, 0);
+        let b = byte_at(self.arguments, 1);
+        let c = byte_at(self.arguments, 2);
         match kind {
             Kind::Point => self.told(|_| capi::da728x_point(a, b, c) as u64),
             Kind::PointIsRamp => self.told(|_| capi::da728x_point_is_ramp(a) as u64),
@@ -84,11 +78,6 @@ impl Case<'_> {
             Kind::ReplaceControl => self.told(|out| capi::da728x_replace_control(a, b, out) as u64),
             Kind::ReplaceTrigger => self.told(|out| capi::da728x_replace_trigger(a, b, out) as u64),
         }
-    }
-
-    // An argument, 0 where there is none.
-    fn argument(&self, i: usize) -> u8 {
-        self.arguments.get(i).copied().unwrap_or(0)
     }
 
     // Whether a call answers the word, and leaves these bytes in the slice lent, which it finds filled with the marker.

@@ -1,14 +1,11 @@
 // An image read item by item.
 use vectors_bytes::number;
+use vectors_values::{NO_FRAME, NO_POINT};
 
-// How many bytes the words of a point and of a frame have, and the words of none.
+// How many bytes the words of a point and of a frame have.
 const POINT_SIZE: usize = 3;
 
 const FRAME_SIZE: usize = 8;
-
-const NO_POINT: u64 = 1 << 8;
-
-const NO_FRAME: u64 = 1 << 48;
 
 /// Whether the points of all snippets are as told.
 pub fn points<F: Fn(usize, usize) -> u64>(told: &[u8], point: F) -> bool

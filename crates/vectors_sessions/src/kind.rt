@@ -1,4 +1,5 @@
 // What a case begins, by the number that the sample gives it.
+use vectors_bytes::UnknownKind;
 
 /// The exported functions that begin a session.
 #[derive(Clone, Copy, Debug, PartialEq, Eq)]
@@ -22,10 +23,6 @@ pub enum Kind {
     StartSequence,
     PlaySequence,
 }
-
-/// A number that no kind has.
-#[derive(Clone, Copy, Debug, PartialEq, Eq)]
-pub struct UnknownKind(pub u8);
 
 impl TryFrom<u8> for Kind {
     type Error = UnknownKind;

@@ -8,7 +8,7 @@ mod told;
 
 use exchange::Reply;
 use kind::Kind;
-use vectors_bytes::{MARKER, number};
+use vectors_bytes::{MARKER, byte_at, number};
 
 // More exchanges than a session makes.
 const MOST: u64 = 128;
@@ -45,9 +45,6 @@ pub fn agrees(fields: &[Vec<u8>]) -> bool {
     else {
         return false;
     };
-    let [kind] = *kind.as_slice() else {
-        return false;
-    };
     let case = Case {
         record,
         arguments,
@@ -59,10 +56,7 @@ pub fn agrees(fields: &[Vec<u8>]) -> bool {
         after,
         result,
     };
-    match Kind::try_from(kind) {
-        Ok(kind) => case.agrees(kind),
-        Err(_) => false,
-    }
+    vectors_bytes::kind(kind).is_some_and(|kind| case.agrees(kind))
 }
 
 impl Case<'_> {
@@ -92,9 +86,9 @@ impl Case<'_> {
 
     // Begins the session: 0 or the number of the refusal.
     fn begin(&self, kind: Kind, record: &mut [u8], session: &mut [u8]) -> u8 {
-        let a = self.argument(0);
-        let b = self.argument(1);
-        let c = self.argument(2);
+        let a = byte_at(self.arguments, 0);
+        let b = byte_at(self.arguments, 1);
+        let c = byte_at(self.arguments, 2);
         let ab = u16::from_be_bytes([a, b]);
         match kind {
             Kind::New => capi_driver::da728x_new(a, b, session),
@@ -120,7 +114,7 @@ impl Case<'_> {
                 capi_driver::da728x_upload_waveform_memory(record, self.input, a, session)
             }
             Kind::ReadWaveformMemory => {
-                let room = u16::from_be_bytes([c, self.argument(3)]);
+                let room = u16::from_be_bytes([c, byte_at(self.arguments, 3)]);
                 capi_driver::da728x_read_waveform_memory(
                     record,
                     usize::from(ab),
@@ -132,11 +126,6 @@ impl Case<'_> {
             Kind::StartSequence => capi_driver::da728x_start_sequence(record, session),
             Kind::PlaySequence => capi_driver::da728x_play_sequence(record, a, b, session),
         }
-    }
-
-    // An argument, 0 where there is none.
-    fn argument(&self, i: usize) -> u8 {
-        self.arguments.get(i).copied().unwrap_or(0)
     }
 
     // After a refusal the session is as it was lent, and nothing more is told.

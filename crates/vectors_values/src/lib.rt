@@ -14,10 +14,11 @@ use snippet::SnippetBuilder;
 // How many bytes the record of a call has.
 const RECORD: usize = 4;
 
-// The words of no point and of no frame.
-const NO_POINT: u64 = 1 << 8;
+/// The word of no point.
+pub const NO_POINT: u64 = 1 << 8;
 
-const NO_FRAME: u64 = 1 << 48;
+/// The word of no frame.
+pub const NO_FRAME: u64 = 1 << 48;
 
 // ---- a list of calls
 
