@@ -121,18 +121,16 @@ fn run(calls: &[u8], answers: &mut [u8], snippets: &mut [u8], sequences: &mut [u
 {
     let mut b = Builders::new();
     let mut first = None;
-    let mut i = 0usize;
-    let mut rest = calls;
-    while 0 < rest.len() {
-        let answer = step(&mut b, Record::read(rest), snippets, sequences);
+    let records = calls.chunks(4);
+    let count = records.len();
+    for (i, record) in records.enumerate() {
+        let answer = step(&mut b, Record::read(record), snippets, sequences);
         put(answers, i, errors::number(answer));
         first = earlier(first, answer, i);
-        i += 1;
-        rest = &rest[4.min(rest.len())..];
     }
     Ran {
         builders: b,
-        count: i,
+        count,
         first,
     }
 }
