@@ -23,6 +23,14 @@ use Rattle.calls.specs.Calls.{started, calls_by_code, first_record, call_of, cal
 use Rattle.calls.proofs.Turns.{calls_none, chosen_either}
 use Rattle.memory.specs.declared.WaveformMemoryBuilder.{WaveformMemoryBuilder}
 use Rattle.assemble.specs.Lists.{with_place, first_refused}
+use Rattle.assemble.specs.Refusal.{refusal_number, first_number}
+use Rattle.assemble.specs.declared.Refusal.{Refusal}
+use Rattle.errors.specs.declared.Error.{Error}
+use Rattle.errors.specs.Number.{error_number, answer_number}
+use Rattle.errors.proofs.Numbers.{has_number}
+use Rattle.std.specs.Prelude.{Option, Some, None, Result, Ok, Err}
+use Rattle.std.specs.Option.{option_or, option_map}
+use Rattle.std.specs.Result.{result_err}
 use Rattle.assemble.specs.Flat.{State, state, flat_called}
 use Rattle.assemble.proofs.Flat.{nothing_yet, flat_after, flat_answers}
 use Rattle.assemble.specs.Holding.{KeepsMemory, StepsMemory, shown_by}
@@ -115,6 +123,9 @@ begun bytes answers e f g =
     rw (e, f, g)
     (record { memory = nothing_yet.memory; holds = keeps_none; rest = refl; stored = refl; tells = refl })
 
+abbrev pub refused_at : Error → ℕ → Refusal
+refused_at e place = record { error = e; place = place }
+
 -- the first refusal, with one answer more
 first_more : (told n i : ℕ) (ns : List ℕ) (told' : ℕ) → told' ≡ cond (ltb 0 told) told (cond (ltb 0 n) (with_place n i) 0)
     → cond (ltb 0 told) told (first_refused i (n ∷ ns)) ≡ cond (ltb 0 told') told' (first_refused (suc i) ns)
@@ -125,6 +136,18 @@ first_more told n i ns told' e = go (ltb 0 told) (ltb 0 n) refl refl ∙ ap (λ 
   go true u f g = simp f
   go false true f g = let h = ltb-true 0 n g in simp (lt-ltb 0 (with_place n i) (omega arith))
   go false false f g = refl
+
+-- a refusal, if the call was refused, behind one that was told before
+pub first_or : (first : Option Refusal) (answer : Result Unit Error) (i : ℕ) (refused : Option Error) (other result : Option Refusal)
+    → result ≡ option_or first other → other ≡ option_map (λ (e : Error). refused_at e (i + 1)) refused → refused ≡ result_err answer
+    → first_number result ≡ cond (ltb 0 (first_number first)) (first_number first) (cond (ltb 0 (answer_number answer)) (with_place (answer_number answer) i) 0)
+first_or first answer i refused other result e f g = rw (e, f, g) (go first answer) where
+  go : (first : Option Refusal) (answer : Result Unit Error)
+      → first_number (option_or first (option_map (λ (e : Error). refused_at e (i + 1)) (result_err answer)))
+      ≡ cond (ltb 0 (first_number first)) (first_number first) (cond (ltb 0 (answer_number answer)) (with_place (answer_number answer) i) 0)
+  go None (Ok u) = refl
+  go None (Err e) = let h = has_number e in simp (lt-ltb 0 (error_number e) (omega (arith, h)))
+  go (Some r) answer = let h = has_number r.error in simp (lt-ltb 0 (refusal_number r) (omega (arith, h)))
 
 -- a refusal told stays, and 0 is none
 first_last : (told : ℕ) → cond (ltb 0 told) told 0 ≡ told

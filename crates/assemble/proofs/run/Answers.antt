@@ -1,9 +1,11 @@
-use Rattle.std.proofs.Common.{◌≡◌, ◌∙◌, ℕ, refl, ap, arith, rules, length, min, set}
+use Rattle.std.proofs.Common.{◌≡◌, ◌+◌, ◌∙◌, ℕ, refl, ap, arith, rules, length, min, set}
+use Rattle.std.specs.Option.{option_map}
+use Rattle.errors.specs.declared.Error.{Error}
 use Rattle.laws.specs.Copied.{copied}
 use Rattle.calls.specs.Calls.{call_of}
 use Rattle.assemble.specs.Lists.{first_refused}
 use Rattle.assemble.proofs.Assembly.{answers_from, builders_from, memory_from_lem}
-use Rattle.assemble.proofs.Running.{begun, turn, calls_count, left_builders, left_memory, left_answers, left_told}
+use Rattle.assemble.proofs.Running.{begun, turn, refused_at, first_or, calls_count, left_builders, left_memory, left_answers, left_told}
 use Rattle.assemble.proofs.run.Goals as goal
 
 pub loop-i-init : goal.loop-i-init
@@ -22,13 +24,15 @@ loop-i-preserved c =
     let next = c.in-Some.ensures.steps in
     let rest = l.i-iterator.iter.rest.now in
     let four : length c.in-Some.record.now ≡ min 4 (length rest) = next.0.1.1 ∙ ap (λ (n : ℕ). min n (length rest)) l.invariant.four in
+    let made : c.map.result ≡ option_map (λ (e : Error). refused_at e (c.in-Some.i + 1)) c.err.result = search rules in
+    let told = first_or l.first c.step-answer.result c.in-Some.i _ _ _ c.or-first.ensures made c.err.ensures.value in
     record {
       four = search rules;
       snippets = search rules;
       sequences = search rules;
       runs =
           turn l.invariant.runs _ _ _ _ _ _ _ _ _ _ _ _ next.0.1.2 next.0.1.0 four next.1 next.2 (ap call_of c.read.ensures) c.step-answer.ensures refl refl
-          (c.put.ensures ∙ ap (set l.answers c.in-Some.i) c.number.ensures) c.earlier-first.ensures;
+          (c.put.ensures ∙ ap (set l.answers c.in-Some.i) c.number.ensures) told;
     }
 
 pub returns-clause-builders : goal.returns-clause-builders
