@@ -3,12 +3,12 @@
 use mathlib.Core.Path.{◌≡◌, refl, sym, ap, ap₂, ◌∙◌, subst}
 use mathlib.Core.Bool.{Bool, true, false, cond}
 use mathlib.Core.List.{List, [], ◌∷◌, ◌++◌}
-use Prim.Native.Nat.{ℕ, zero, suc, ◌+◌, ◌≤◌, ◌<◌}
+use Prim.Native.Nat.{ℕ, zero, suc, ◌+◌, ◌*◌, ◌≤◌, ◌<◌, min}
 use native.Mathlib.Decide.{ℕ_discrete, dec_le}
 use native.Mathlib.Omega.{arith}
 use borrow.Author.Tests.{lt-ltb, ltb-true, ltb-false}
 use lib.Dec.{ltb}
-use lib.ListN.{length, take, drop, get_or, set, get_or-eq_default, replicate}
+use lib.ListN.{length, take, get_or, set, get_or-eq_default, replicate}
 use lib.Seq.{sets}
 use Rattle.laws.specs.Bytes.{All}
 use Rattle.laws.specs.Copied.{copied}
@@ -20,9 +20,17 @@ use Rattle.pattern.specs.Calls.{gain, timebase}
 use Rattle.calls.specs.declared.Record.{Record}
 use Rattle.calls.specs.declared.Builders.{Builders}
 use Rattle.calls.specs.Calls.{started, calls_by_code, first_record, call_of, calls_in, called_by}
-use Rattle.calls.proofs.Turns.{calls_next, calls_none, chosen_either}
+use Rattle.calls.proofs.Turns.{calls_none, chosen_either}
 use Rattle.memory.specs.declared.WaveformMemoryBuilder.{WaveformMemoryBuilder}
 use Rattle.assemble.specs.Lists.{with_place, first_refused}
+use Rattle.assemble.specs.Refusal.{refusal_number, first_number}
+use Rattle.assemble.specs.declared.Refusal.{Refusal}
+use Rattle.errors.specs.declared.Error.{Error}
+use Rattle.errors.specs.Number.{error_number, answer_number}
+use Rattle.errors.proofs.Numbers.{has_number}
+use Rattle.std.specs.Prelude.{Option, Some, None, Result, Ok, Err}
+use Rattle.std.specs.Option.{option_or, option_map}
+use Rattle.std.specs.Result.{result_err}
 use Rattle.assemble.specs.Flat.{State, state, flat_called}
 use Rattle.assemble.proofs.Flat.{nothing_yet, flat_after, flat_answers}
 use Rattle.assemble.specs.Holding.{KeepsMemory, StepsMemory, shown_by}
@@ -75,6 +83,30 @@ module _ (b : Builders) (call : Call) (l k : List ℕ) (t : Handed Builders) whe
     kept Call.add_sequence h = absurd h
     kept Call.unknown h = w
 
+-- ---- the bytes in chunks of four
+
+-- the first chunk says the first call, and what is behind it the others
+calls_chunk : (x y : List ℕ) → 0 < length (x ++ y) → length x ≡ min 4 (length (x ++ y)) → calls_in (x ++ y) ≡ call_of (first_record x) ∷ calls_in y
+unfolding calls_in
+calls_chunk [] y h e = absurd (omega (arith, h, e))
+calls_chunk (k ∷ []) [] h e = refl
+calls_chunk (k ∷ []) (z ∷ y) h e = absurd (omega (arith, e))
+calls_chunk (k ∷ a ∷ []) [] h e = refl
+calls_chunk (k ∷ a ∷ []) (z ∷ y) h e = absurd (omega (arith, e))
+calls_chunk (k ∷ a ∷ b ∷ []) [] h e = refl
+calls_chunk (k ∷ a ∷ b ∷ []) (z ∷ y) h e = absurd (omega (arith, e))
+calls_chunk (k ∷ a ∷ b ∷ c ∷ []) y h e = refl
+calls_chunk (k ∷ a ∷ b ∷ c ∷ d ∷ x) y h e = absurd (omega (arith, e))
+
+-- as many chunks as calls, the last of which may be short
+pub calls_count : (l : List ℕ) → (length l ≤ 4 * length (calls_in l)) × (4 * length (calls_in l) < length l + 4)
+unfolding calls_in
+calls_count [] = (omega arith, omega arith)
+calls_count (k ∷ []) = (omega arith, omega arith)
+calls_count (k ∷ a ∷ []) = (omega arith, omega arith)
+calls_count (k ∷ a ∷ b ∷ []) = (omega arith, omega arith)
+calls_count (k ∷ a ∷ b ∷ c ∷ r) = let h = calls_count r in (omega (arith, h.0), omega (arith, h.1))
+
 -- ---- where a run stands
 
 pub record Running (bytes answers₀ answers snippets sequences : List ℕ) (b : Builders) (ahead : List ℕ) (i told : ℕ) : Type 0 where
@@ -83,14 +115,16 @@ pub record Running (bytes answers₀ answers snippets sequences : List ℕ) (b :
   pub rest : flat_after nothing_yet (calls_in bytes) ≡ flat_after (state b memory) (calls_in ahead)
   pub stored : sets answers₀ 0 (flat_answers nothing_yet (calls_in bytes)) ≡ sets answers i (flat_answers (state b memory) (calls_in ahead))
   pub tells : first_refused 0 (flat_answers nothing_yet (calls_in bytes)) ≡ cond (ltb 0 told) told (first_refused i (flat_answers (state b memory) (calls_in ahead)))
-  pub counts : length (calls_in bytes) ≡ i + length (calls_in ahead)
 
 -- before the first call
 pub begun : (bytes answers : List ℕ) {b : Builders} {ls qs : List ℕ} → b ≡ started → ls ≡ replicate 116 0 → qs ≡ replicate 117 0
     → Running bytes answers answers ls qs b bytes 0 0
 begun bytes answers e f g =
     rw (e, f, g)
-    (record { memory = nothing_yet.memory; holds = keeps_none; rest = refl; stored = refl; tells = refl; counts = omega arith })
+    (record { memory = nothing_yet.memory; holds = keeps_none; rest = refl; stored = refl; tells = refl })
+
+abbrev pub refused_at : Error → ℕ → Refusal
+refused_at e place = record { error = e; place = place }
 
 -- the first refusal, with one answer more
 first_more : (told n i : ℕ) (ns : List ℕ) (told' : ℕ) → told' ≡ cond (ltb 0 told) told (cond (ltb 0 n) (with_place n i) 0)
@@ -103,6 +137,18 @@ first_more told n i ns told' e = go (ltb 0 told) (ltb 0 n) refl refl ∙ ap (λ 
   go false true f g = let h = ltb-true 0 n g in simp (lt-ltb 0 (with_place n i) (omega arith))
   go false false f g = refl
 
+-- a refusal, if the call was refused, behind one that was told before
+pub first_or : (first : Option Refusal) (answer : Result Unit Error) (i : ℕ) (refused : Option Error) (other result : Option Refusal)
+    → result ≡ option_or first other → other ≡ option_map (λ (e : Error). refused_at e (i + 1)) refused → refused ≡ result_err answer
+    → first_number result ≡ cond (ltb 0 (first_number first)) (first_number first) (cond (ltb 0 (answer_number answer)) (with_place (answer_number answer) i) 0)
+first_or first answer i refused other result e f g = rw (e, f, g) (go first answer) where
+  go : (first : Option Refusal) (answer : Result Unit Error)
+      → first_number (option_or first (option_map (λ (e : Error). refused_at e (i + 1)) (result_err answer)))
+      ≡ cond (ltb 0 (first_number first)) (first_number first) (cond (ltb 0 (answer_number answer)) (with_place (answer_number answer) i) 0)
+  go None (Ok u) = refl
+  go None (Err e) = let h = has_number e in simp (lt-ltb 0 (error_number e) (omega (arith, h)))
+  go (Some r) answer = let h = has_number r.error in simp (lt-ltb 0 (refusal_number r) (omega (arith, h)))
+
 -- a refusal told stays, and 0 is none
 first_last : (told : ℕ) → cond (ltb 0 told) told 0 ≡ told
 first_last told = go (ltb 0 told) refl where
@@ -112,19 +158,19 @@ first_last told = go (ltb 0 told) refl where
 
 module _ {bytes k₀ k ls qs : List ℕ} {b : Builders} {ahead : List ℕ} {i told : ℕ} (r : Running bytes k₀ k ls qs b ahead i told) where
   -- one turn
-  pub turn : (call : Call) (t : Handed Builders) (ls' qs' k' : List ℕ) (b' : Builders) (n : ℕ) (ahead' : List ℕ) (told' : ℕ) → 0 < length ahead → ahead' ≡ drop 4 ahead
-      → call ≡ call_of (first_record ahead) → StepsMemory b call ls qs t ls' qs' → n ≡ t.number → b' ≡ t.builder → k' ≡ set k i n
-      → told' ≡ cond (ltb 0 told) told (cond (ltb 0 n) (with_place n i) 0) → Running bytes k₀ k' ls' qs' b' ahead' (i + 1) told'
+  pub turn : (call : Call) (t : Handed Builders) (ls' qs' k' : List ℕ) (b' : Builders) (n : ℕ) (chunk ahead' : List ℕ) (at i' told' : ℕ) → 0 < length ahead → ahead ≡ chunk ++ ahead'
+      → length chunk ≡ min 4 (length ahead) → at ≡ i → i' ≡ i + 1 → call ≡ call_of (first_record chunk) → StepsMemory b call ls qs t ls' qs' → n ≡ t.number → b' ≡ t.builder → k' ≡ set k at n
+      → told' ≡ cond (ltb 0 told) told (cond (ltb 0 n) (with_place n at) 0) → Running bytes k₀ k' ls' qs' b' ahead' i' told'
   unfolding flat_after flat_answers
-  turn call t ls' qs' k' b' n ahead' told' h e ec steps en eb ek et =
+  turn call t ls' qs' k' b' n chunk ahead' at i' told' h e four ea ei ec steps en eb ek et =
       let m = r.memory in
       let w = steps m r.holds in
       let f = flat_called (state b m) call in
       let ks = calls_in ahead' in
-      let next : calls_in ahead ≡ call ∷ ks = calls_next ahead h ∙ ap (λ (l : List ℕ). call_of (first_record ahead) ∷ calls_in l) (sym e) ∙ ap (λ (c : Call). c ∷ ks) (sym ec) in
+      let next : calls_in ahead ≡ call ∷ ks = ap calls_in e ∙ calls_chunk chunk ahead' (omega (arith, h, ap length e)) (four ∙ ap (λ (l : List ℕ). min 4 (length l)) e) ∙ ap (λ (c : Call). c ∷ ks) (sym ec) in
       let number : f.number ≡ n = sym (en ∙ ap (λ (x : Handed Builders). x.number) w.0) in
       let left : f.builder ≡ state b' f.builder.memory = ap (λ (x : Builders). state x f.builder.memory) (sym (eb ∙ ap (λ (x : Handed Builders). x.builder) w.0)) in
-      let one : i + 1 ≡ suc i = omega arith in
+      let one : i' ≡ suc i = omega (arith, ei) in
       record {
         memory = f.builder.memory;
         holds = w.1;
@@ -133,14 +179,13 @@ module _ {bytes k₀ k ls qs : List ℕ} {b : Builders} {ahead : List ℕ} {i to
             r.stored
             ∙ ap (λ (js : List Call). sets k i (flat_answers (state b m) js)) next
             ∙ ap₂ (λ (x : ℕ) (s : State). sets (set k i x) (suc i) (flat_answers s ks)) number left
-            ∙ ap₂ (λ (x : List ℕ) (j : ℕ). sets x j (flat_answers (state b' f.builder.memory) ks)) (sym ek) (sym one);
+            ∙ ap₂ (λ (x : List ℕ) (j : ℕ). sets x j (flat_answers (state b' f.builder.memory) ks)) (sym (ek ∙ ap (λ (j : ℕ). set k j n) ea)) (sym one);
         tells =
             r.tells
             ∙ ap (λ (js : List Call). cond (ltb 0 told) told (first_refused i (flat_answers (state b m) js))) next
             ∙ ap₂ (λ (x : ℕ) (s : State). cond (ltb 0 told) told (first_refused i (x ∷ flat_answers s ks))) number left
-            ∙ first_more told n i (flat_answers (state b' f.builder.memory) ks) told' et
+            ∙ first_more told n i (flat_answers (state b' f.builder.memory) ks) told' (et ∙ ap (λ (j : ℕ). cond (ltb 0 told) told (cond (ltb 0 n) (with_place n j) 0)) ea)
             ∙ ap (λ (j : ℕ). cond (ltb 0 told') told' (first_refused j (flat_answers (state b' f.builder.memory) ks))) (sym one);
-        counts = r.counts ∙ ap (λ (js : List Call). i + length js) next ∙ (let c : i + suc (length ks) ≡ i + 1 + length ks = omega arith in c);
       }
 
   -- nothing is left
@@ -163,6 +208,3 @@ module _ {bytes k₀ k ls qs : List ℕ} {b : Builders} {ahead : List ℕ} {i to
     pub left_told : told ≡ first_refused 0 (flat_answers nothing_yet (calls_in bytes))
     unfolding flat_answers
     left_told = sym (r.tells ∙ ap (λ (js : List Call). cond (ltb 0 told) told (first_refused i (flat_answers (state b r.memory) js))) none ∙ first_last told)
-
-    pub left_count : i ≡ length (calls_in bytes)
-    left_count = sym (r.counts ∙ ap (λ (js : List Call). i + length js) none ∙ (let c : i + 0 ≡ i = omega arith in c))

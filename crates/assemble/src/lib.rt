@@ -9,7 +9,7 @@
 
 mod pool;
 
-ghost use Rattle.std.specs.Prelude.{◌≡◌, false, cond, ◌+◌, ◌^◌, ◌<◌, ltb, length, replicate, set};
+ghost use Rattle.std.specs.Prelude.{◌≡◌, false, length, replicate, set};
 ghost use Rattle.laws.specs.Copied.{copied};
 ghost use Rattle.laws.specs.Whole.{whole_out};
 ghost use Rattle.errors.specs.Number.{answer_number};
@@ -19,7 +19,7 @@ ghost use Rattle.sequence.specs.Sequence.{built_sequence};
 ghost use Rattle.memory.specs.Memory.{with_snippet, with_sequence};
 ghost use Rattle.calls.specs.Calls.{calls_in, call_of};
 ghost use Rattle.pattern.specs.Calls.{memory_from, with_built};
-ghost use Rattle.assemble.specs.Lists.{groups_of, answers_of, builders_of, with_place, first_refused};
+ghost use Rattle.assemble.specs.Lists.{groups_of, answers_of, builders_of, first_refused};
 ghost use Rattle.assemble.specs.Items.{image_item, strict_item, leniently, strictly};
 ghost use Rattle.assemble.specs.Kept.{room_for};
 ghost use Rattle.assemble.specs.Holding.{KeepsMemory, StepsSnippets, StepsSequences, StepsMemory};
@@ -121,18 +121,17 @@ fn run(calls: &[u8], answers: &mut [u8], snippets: &mut [u8], sequences: &mut [u
 {
     let mut b = Builders::new();
     let mut first = None;
-    let mut i = 0usize;
-    let mut rest = calls;
-    while 0 < rest.len() {
-        let answer = step(&mut b, Record::read(rest), snippets, sequences);
+    let records = calls.chunks(4);
+    let count = records.len();
+    for (i, record) in records.enumerate() {
+        let answer = step(&mut b, Record::read(record), snippets, sequences);
         put(answers, i, errors::number(answer));
-        first = earlier(first, answer, i);
-        i += 1;
-        rest = &rest[4.min(rest.len())..];
+        let place = i + 1;
+        first = first.or(answer.err().map(|error| Refusal { error, place }));
     }
     Ran {
         builders: b,
-        count: i,
+        count,
         first,
     }
 }
@@ -186,29 +185,11 @@ fn add_sequence(list: &mut [u8], b: SequenceBuilder) -> Result<(), Error>
     pool::push(list, 16, Error::TooManySequences, sequence.as_bytes())
 }
 
-// Stores at an index, if there is such a byte.
+// Stores at an index, if there is such a byte. `if let Some(b) = answers.get_mut(i)` was tried: what `answers` is after the store stays open.
 fn put(answers: &mut [u8], i: usize, x: u8)
     ensures { answers.new ≡ set answers.old i x }
 {
     if i < answers.len() {
         answers[i] = x;
-    }
-}
-
-// The first refusal: the one told before, else that of the i-th call, counted from 0.
-fn earlier(first: Option<Refusal>, answer: Result<(), Error>, i: usize) -> Option<Refusal>
-    requires { i + 1 < 2 ^ 64 }
-    ensures { first_number result
-        ≡ cond (ltb 0 (first_number first)) (first_number first) (cond (ltb 0 (answer_number answer)) (with_place (answer_number answer) i) 0) }
-{
-    match first {
-        Some(refusal) => Some(refusal),
-        None => match answer {
-            Ok(()) => None,
-            Err(error) => Some(Refusal {
-                error,
-                place: i + 1,
-            }),
-        },
     }
 }

@@ -1,17 +1,14 @@
-use Rattle.std.proofs.Common.{◌≡◌, ◌+◌, ◌≤◌, length}
+use Rattle.std.proofs.Common.{◌≡◌, length}
 use Rattle.assemble.specs.Kept.{room_for}
 use Rattle.assemble.specs.Refusal.{first_number}
 use Rattle.assemble.proofs.Running.{Running}
 use Rattle.assemble.proofs.run.Given as goal
 
 -- running what is left gives the builders and the answers of the whole, with the memory's builder kept in the bytes
-abbrev pub invariant-loop-rest : goal.invariant-loop-rest
-invariant-loop-rest l = record {
-  counts : l.i + length l.rest ≤ length l.calls;
+abbrev pub invariant-loop-i : goal.invariant-loop-i
+invariant-loop-i l = record {
+  four : l.i-iterator.iter.size ≡ 4;
   snippets : length l.snippets ≡ room_for 15;
   sequences : length l.sequences ≡ room_for 16;
-  runs : Running l.calls l.fn.answers l.answers l.snippets l.sequences l.b l.rest l.i (first_number l.first);
+  runs : Running l.calls l.fn.answers l.answers l.snippets l.sequences l.b l.i-iterator.iter.rest.now l.i-iterator.count (first_number l.first);
 }
-
-abbrev pub decreases-loop-rest : goal.decreases-loop-rest
-decreases-loop-rest l = length l.rest
