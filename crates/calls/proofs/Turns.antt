@@ -1,25 +1,15 @@
--- The next call of a list of bytes. Assumes nothing.
+-- A choice of four, and the calls of no bytes. Assumes nothing.
 use mathlib.Core.Path.{◌≡◌, refl}
 use mathlib.Core.Bool.{Bool, true, false, cond}
 use mathlib.Core.List.{List, [], ◌∷◌}
 use lib.Dec.{ltb}
-use Prim.Native.Nat.{ℕ, ◌≤◌, ◌<◌}
+use Prim.Native.Nat.{ℕ, ◌≤◌}
 use native.Mathlib.Omega.{arith}
-use lib.ListN.{length, drop}
-use borrow.Author.Tests.{le-ltb}
+use lib.ListN.{length}
 use Rattle.pattern.specs.Calls.{FrameCall}
 use Rattle.calls.specs.Said.{Call}
 use Rattle.calls.specs.Said as Call
-use Rattle.calls.specs.Calls.{chosen, first_record, call_of, calls_in}
-
--- the first call and the calls behind it
-pub calls_next : (l : List ℕ) → 0 < length l → calls_in l ≡ call_of (first_record l) ∷ calls_in (drop 4 l)
-unfolding calls_in
-calls_next [] h = absurd (omega arith)
-calls_next (k ∷ []) h = refl
-calls_next (k ∷ a ∷ []) h = refl
-calls_next (k ∷ a ∷ b ∷ []) h = refl
-calls_next (k ∷ a ∷ b ∷ c ∷ r) h = simp (le-ltb (length (k ∷ a ∷ b ∷ c ∷ r)) 4 (omega arith))
+use Rattle.calls.specs.Calls.{chosen, calls_in}
 
 -- a choice of four says a call or none
 pub chosen_either : (P : Call → Type 0) (k : FrameCall) (code : ℕ) → P Call.unknown → P (Call.builder (Call.on_frame k)) → P (chosen k code)
