@@ -1,11 +1,12 @@
 // The refusals (errors.rs), each with document 01's number ('Who can cause which answer') or document 02's.
 // The Rust's names; `Gpio` is left out, since no ported operation drives a pin; `NotAnImage`, `OutOfTurn` and those above 19 are added.
-// `I2c` carries the bus's own failure code. Proved: `number` is the papers' list, `bus_code` that code (specs/Number.antt). Left out:
-// the texts for printing.
+// `I2c` carries the bus's own failure code. Proved: `number` is the papers' list, `bus_code` that code (specs/Number.antt); `word` puts a value and a
+// refusal into one number (specs/Packed.antt). Left out: the texts for printing.
 #![tactic(auto)]
 
 ghost use Rattle.std.specs.Prelude.{◌≡◌};
-ghost use Rattle.errors.specs.Number.{number_and_code, error_number, answer_number, bus_code};
+ghost use Rattle.errors.specs.Number.{number_and_code, error_number, answer_number, bus_code, told};
+ghost use Rattle.errors.specs.Packed.{packed};
 
 #[derive(Debug, Clone, Copy, PartialEq, Eq)]
 pub enum Error {
@@ -95,5 +96,15 @@ pub fn bus_code<T: Copy>(answer: Result<T, Error>) -> u8
     match answer {
         Ok(_) => 0,
         Err(e) => e.bus_code(),
+    }
+}
+
+// What a call answers as one number, as the functions exported for C give it: the value, or the number of the refusal above 16 bits.
+pub fn word(answer: Result<u32, Error>) -> u32
+    ensures { result ≡ packed 16 (told answer) }
+{
+    match answer {
+        Ok(value) => value,
+        Err(e) => u32::from(e.number()) << 16,
     }
 }

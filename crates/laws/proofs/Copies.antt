@@ -10,7 +10,7 @@ use lib.ListN.{length, take, drop, length-append, length-take, length-drop, drop
 use lib.Seq.{paste, take_all, take_at, drop_at, drop-drop}
 use borrow.Rule.Slice.PartMut.{mid_of, post_of, put_mid}
 use borrow.Author.Rules.{part_to_end}
-use Rattle.laws.specs.Copied.{copied, over, placed}
+use Rattle.laws.specs.Copied.{copied, over}
 
 -- the first k of xs laid over the front of d, k being as many as there are of both
 pub paste_copied : (d xs : List ℕ) (k : ℕ) → k ≡ min (length xs) (length d) → paste d 0 xs k ≡ copied d xs
@@ -64,12 +64,3 @@ over_behind front l xs n e =
 -- and what stands behind as many others
 pub over_at : (front z rest xs : List ℕ) (n : ℕ) → length front ≡ n → length z ≡ length xs → over (front ++ (z ++ rest)) n xs ≡ front ++ xs ++ rest
 over_at front z rest xs n e f = over_behind front (z ++ rest) xs n e ∙ ap (λ (l : List ℕ). front ++ xs ++ l) (drop_at z rest (length xs) f)
-
--- bytes copied from an index on
-pub placed_in : (l last bytes : List ℕ) (at : ℕ) → last ≡ copied (mid_of at (length l - at) l) bytes
-    → put_mid at (length l - at) l last ≡ placed l at bytes
-placed_in l last bytes at e =
-    let p : post_of at (length l - at) l ≡ [] = drop_of_length-le (drop at l) {i = length l - at} (simp length-drop (omega arith)) in
-    ap (λ (m : List ℕ). take at l ++ (last ++ m)) p
-    ∙ ap (λ (m : List ℕ). take at l ++ m) (append-nil last ∙ e)
-    ∙ ap (λ (m : List ℕ). take at l ++ copied m bytes) (part_to_end l at)

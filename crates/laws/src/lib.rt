@@ -1,13 +1,14 @@
 // Copying bytes into a lent buffer: `copy_whole` for items (every `encode_into` of waveform/*.rs), images and their lists, `copy_into` where
-// as much is copied as fits; and (in proofs/) the laws that several crates cite: tests computed over all small numbers, lists that show a
-// part of an array. Document 02, CR 5: "copy the whole item and answer its length, or copy nothing".
-// Proved: they leave and answer what specs/Whole.antt and specs/Copied.antt say, for any buffer and any bytes; `WholeOrNothing`.
+// as much is copied as fits, `lay` where bytes fit at a place; single bytes by index; what an array with a count shows. And (in proofs/) the laws
+// that several crates cite: tests computed over all small numbers, lists that show a part of an array. Document 02, CR 5: "copy the whole item and answer its length, or copy nothing".
+// Proved: they leave and answer what specs/Whole.antt, Copied.antt and Lists.antt say, for any buffer and any bytes; `WholeOrNothing`.
 #![tactic(auto)]
 
-ghost use Rattle.std.specs.Prelude.{◌≡◌, ◌+◌, ◌≤◌, min, ◌<◌, length};
+ghost use Rattle.std.specs.Prelude.{◌≡◌, ◌+◌, ◌≤◌, min, length, set, take};
 ghost use Rattle.errors.specs.Told.{gives};
 ghost use Rattle.errors.specs.Number.{told};
-ghost use Rattle.laws.specs.Copied.{copied, over, placed};
+ghost use Rattle.laws.specs.Copied.{copied, over};
+ghost use Rattle.laws.specs.Lists.{at};
 ghost use Rattle.laws.specs.Whole.{whole, whole_out, length_of};
 
 use errors::Error;
@@ -33,16 +34,7 @@ pub fn copy_whole(buffer: &mut [u8], bytes: &[u8]) -> Result<usize, Error>
     Ok(copy_into(buffer, bytes))
 }
 
-// Copies as much of the bytes as fits from an index on.
-pub fn copy_at(buffer: &mut [u8], at: usize, bytes: &[u8])
-    ensures { buffer.new ≡ placed buffer.old at bytes.now }
-{
-    if at < buffer.len() {
-        copy_into(&mut buffer[at..], bytes);
-    }
-}
-
-// Lays bytes over the buffer's from an index on, where they fit.
+// Lays bytes over the buffer's from an index on. That they fit is a premise, since no answer is left for bytes that do not; its callers prove it.
 pub fn lay(buffer: &mut [u8], at: usize, bytes: &[u8])
     requires { at + length bytes.now ≤ length buffer.old }
     ensures { buffer.new ≡ over buffer.old at bytes.now }
@@ -50,10 +42,26 @@ pub fn lay(buffer: &mut [u8], at: usize, bytes: &[u8])
     buffer[at..at + bytes.len()].copy_from_slice(bytes);
 }
 
-// A byte as a length or an index.
-pub fn wide(x: u8) -> usize
-    ensures value { result ≡ x }
-    ensures upper_bound { result < 256 }
+// Stores a byte at an index, if the buffer has one.
+pub fn store(buffer: &mut [u8], i: usize, x: u8)
+    ensures { buffer.new ≡ set buffer.old i x }
 {
-    x as usize
+    if i < buffer.len() {
+        buffer[i] = x;
+    }
+}
+
+// The byte at an index, 0 past the end.
+pub fn byte_at(bytes: &[u8], i: usize) -> u8
+    ensures { result ≡ at bytes.now i }
+{
+    bytes.get(i).copied().unwrap_or(0)
+}
+
+// What an array shows whose first `len` elements are in use: all of it for a length that is greater.
+pub fn shown<T: Copy>(items: &[T], len: u8) -> &[T]
+    ensures value { result.now ≡ take len items.now }
+    ensures len { length result.now ≡ min len (length items.now) }
+{
+    &items[..usize::from(len).min(items.len())]
 }
