@@ -1,7 +1,11 @@
--- A frame's fields as one number of 48 bits, the form in which they cross to C.
+-- A frame's fields by name, and as one number of 48 bits, the form in which they cross to C.
 use Rattle.std.specs.Prelude.{ℕ, ◌+◌, ◌*◌, ◌^◌}
 use Rattle.frame.specs.declared.FrameBuilder.{FrameBuilder}
+use Rattle.frame.specs.declared.FrameFields.{FrameFields}
 use Rattle.frame.specs.Frame.{gain_code, timebase_code, on_given}
+
+abbrev pub fields_of : FrameBuilder → FrameFields
+fields_of f = record { snippet_id = f.snippet_id; gain = f.gain; timebase = f.timebase; loop_count = f.loop_count; frequency_hz = f.frequency }
 
 -- eight bits for each field and sixteen for the frequency; all of them set where a loop count or a frequency is absent
 abbrev pub frame_word : FrameBuilder → ℕ

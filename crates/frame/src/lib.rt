@@ -1,8 +1,8 @@
 // Frames and their builder (waveform/frame.rs; document 01, 'Points, frames, sequences').
 // Proved: each function answers what specs/ says of its arguments, whatever the builder's fields hold; a builder that a call refuses is as it
 // was. proofs/Frames.antt: frames agree, in the words of demand 3, exactly when their bytes are the same.
-// proofs/Written.antt and Reading.antt: `read` (added) undoes `build`, and reads nothing else. `word` (added) gives the fields as one
-// number. src/bits.rt packs and unpacks the bytes.
+// proofs/Written.antt and Reading.antt: `read` (added) undoes `build`, and reads nothing else. `FrameFields` and `word` (added) give the fields by
+// name and as one number. src/bits.rt packs and unpacks the bytes.
 // `build` gives the frame itself, since it cannot refuse; `encode_into` copies all bytes or none (document 02, CR 5); no function here takes a
 // closure. Left out: printing.
 #![tactic(auto)]
@@ -17,28 +17,31 @@ ghost use Rattle.frame.specs.Builder.{plain_frame, silent_frame, new_frame};
 ghost use Rattle.frame.specs.Builder.{with_gain, with_timebase, with_loop_count, with_frequency};
 ghost use Rattle.frame.specs.Read.{gain_at, timebase_at, fields_in, one_byte, two_bytes, three_bytes, second_at, first_frame, read_told};
 ghost use Rattle.frame.specs.Frame.{gain_code, timebase_code, frame_bytes, built_frame};
-ghost use Rattle.frame.specs.Word.{frame_word};
+ghost use Rattle.frame.specs.Word.{fields_of, frame_word};
 
 use errors::Error;
 
 const MAX_FRAME_BYTES: usize = 3;
 
-#[derive(Debug, Clone, Copy, PartialEq, Eq)]
+#[derive(Debug, Clone, Copy, PartialEq, Eq, Default)]
 pub enum Gain {
+    #[default]
     Full,
     Half,
     Quarter,
     Eighth,
 }
 
-#[derive(Debug, Clone, Copy, PartialEq, Eq)]
+#[derive(Debug, Clone, Copy, PartialEq, Eq, Default)]
 pub enum Timebase {
+    #[default]
     Ms5_44,
     Ms21_76,
     Ms43_52,
     Ms87_04,
 }
 
+// The first `len` bytes are the frame's: an array with its length, as in the Rust (fixed memory, no heap).
 #[derive(Debug, Clone, Copy)]
 pub struct Frame {
     bytes: [u8; MAX_FRAME_BYTES],
@@ -105,14 +108,14 @@ impl Frame {
     pub fn byte_len(&self) -> usize
         ensures { result ≡ length (frame_bytes self.now) }
     {
-        (self.len as usize).min(MAX_FRAME_BYTES)
+        self.as_bytes().len()
     }
 
     // The frame's bytes.
     pub fn as_bytes(&self) -> &[u8]
         ensures { result.now ≡ frame_bytes self.now }
     {
-        &self.bytes[..self.byte_len()]
+        laws::shown(&self.bytes, self.len)
     }
 
     // Copies all bytes and answers how many, or copies none and answers BufferTooShort.
@@ -222,19 +225,43 @@ impl FrameBuilder {
     {
         FrameBuilder {
             snippet_id,
-            gain: Gain::Full,
-            timebase: Timebase::Ms5_44,
+            gain: Gain::default(),
+            timebase: Timebase::default(),
             loop_count: None,
             frequency: None,
         }
     }
 }
 
-// ---- a frame's fields as one number (added)
+// ---- a frame's fields, by name and as one number (added)
+
+// What a builder holds; its own methods of these names set them.
+#[derive(Debug, Clone, Copy, PartialEq, Eq)]
+pub struct FrameFields {
+    pub snippet_id: u8,
+    pub gain: Gain,
+    pub timebase: Timebase,
+    pub loop_count: Option<u8>,
+    pub frequency_hz: Option<u16>,
+}
+
+impl From<FrameBuilder> for FrameFields {
+    ghost from_gives = { λ builder fields. fields ≡ fields_of builder };
+
+    fn from(builder: FrameBuilder) -> FrameFields {
+        FrameFields {
+            snippet_id: builder.snippet_id,
+            gain: builder.gain,
+            timebase: builder.timebase,
+            loop_count: builder.loop_count,
+            frequency_hz: builder.frequency,
+        }
+    }
+}
 
 impl FrameBuilder {
     // One number of 48 bits: the snippet's number in bits 7..0, the gain's code in 15..8, the timebase's in 23..16, the
-    // loop count in 31..24 (255 if absent), the frequency in 47..32 (65535 if absent).
+    // loop count in 31..24 (255 if absent), the frequency in 47..32 (65535 if absent). Not `From`, since a builder is no number: this is what C gets.
     pub fn word(self) -> u64
         ensures value { result ≡ frame_word self }
         ensures upper_bound { result < 2 ^ 48 }

@@ -4,10 +4,10 @@
 // appends only, so that the count says which there are. No function here takes a closure. Left out: printing.
 #![tactic(auto)]
 
-ghost use Rattle.std.specs.Prelude.{◌≡◌, ℕ, List, map, ◌+◌, ◌*◌, ◌≤◌, ltb, length, take};
+ghost use Rattle.std.specs.Prelude.{◌≡◌, ℕ, List, map, ◌+◌, ◌*◌, ◌≤◌, ◌<◌, cond, ltb, leb, length, set, take};
 ghost use Rattle.laws.specs.Copied.{over};
 ghost use Rattle.laws.specs.Lists.{joined};
-ghost use Rattle.errors.specs.Number.{handed_by, built_by};
+ghost use Rattle.errors.specs.Number.{error_number, answer_number, handed_by, built_by};
 ghost use Rattle.snippet.specs.Snippet.{snippet_bytes};
 ghost use Rattle.sequence.specs.Sequence.{sequence_bytes};
 ghost use Rattle.memory.specs.Image.{image_bytes};
@@ -25,6 +25,8 @@ pub const MAX_SNIPPETS: usize = 15;
 
 pub const MAX_SEQUENCES: usize = 16;
 
+// The first `len` bytes are the memory's. As in the Rust: fixed memory, no heap; the counts stand beside the bytes, since `from_bytes` stores any
+// four values, also counts that the bytes do not say.
 #[derive(Debug, Clone, Copy)]
 pub struct WaveformMemory {
     data: [u8; MAX_MEMORY_SIZE],
@@ -40,6 +42,7 @@ pub enum WaveformMemoryTimebase {
     TIMEBASE_136_544_2176_4352,
 }
 
+// Arrays with their counts, as document 01 asks of `[Option<Snippet>; 15]`: fixed memory, no heap.
 #[derive(Debug, Clone, Copy)]
 pub struct WaveformMemoryBuilder {
     snippets: [Snippet; MAX_SNIPPETS],
@@ -96,7 +99,7 @@ impl WaveformMemory {
     pub fn as_bytes(&self) -> &[u8]
         ensures { result.now ≡ take self.now.len self.now.«data» }
     {
-        &self.data[..self.len().min(MAX_MEMORY_SIZE)]
+        laws::shown(&self.data, self.len)
     }
 
     // How many snippets it holds.
@@ -153,13 +156,13 @@ impl WaveformMemoryBuilder {
     pub fn add_snippet(self, snippet: Snippet) -> Result<WaveformMemoryBuilder, Error>
         ensures { handed_by self result ≡ with_snippet self snippet }
     {
-        let n = self.num_snippets as usize;
-        if MAX_SNIPPETS <= n {
-            return Err(Error::TooManySnippets);
-        }
         let mut next = self;
-        next.snippets[n] = snippet;
-        next.num_snippets += 1;
+        append(
+            &mut next.snippets,
+            &mut next.num_snippets,
+            snippet,
+            Error::TooManySnippets,
+        )?;
         Ok(next)
     }
 
@@ -174,13 +177,13 @@ impl WaveformMemoryBuilder {
     pub fn add_sequence(self, sequence: Sequence) -> Result<WaveformMemoryBuilder, Error>
         ensures { handed_by self result ≡ with_sequence self sequence }
     {
-        let n = self.num_sequences as usize;
-        if MAX_SEQUENCES <= n {
-            return Err(Error::TooManySequences);
-        }
         let mut next = self;
-        next.sequences[n] = sequence;
-        next.num_sequences += 1;
+        append(
+            &mut next.sequences,
+            &mut next.num_sequences,
+            sequence,
+            Error::TooManySequences,
+        )?;
         Ok(next)
     }
 
@@ -222,7 +225,7 @@ impl WaveformMemoryBuilder {
         ensures value { result.now ≡ take self.now.num_snippets self.now.snippets }
         ensures upper_bound { length result.now ≤ 15 }
     {
-        &self.snippets[..(self.num_snippets as usize).min(MAX_SNIPPETS)]
+        laws::shown(&self.snippets, self.num_snippets)
     }
 
     // Sixteen sequences at most.
@@ -230,8 +233,24 @@ impl WaveformMemoryBuilder {
         ensures value { result.now ≡ take self.now.num_sequences self.now.sequences }
         ensures upper_bound { length result.now ≤ 16 }
     {
-        &self.sequences[..(self.num_sequences as usize).min(MAX_SEQUENCES)]
+        laws::shown(&self.sequences, self.num_sequences)
     }
+}
+
+// One item more behind the others of an array, or `full`.
+fn append<T: Copy>(items: &mut [T], count: &mut u8, item: T, full: Error) -> Result<(), Error>
+    requires { length items.old < 256 }
+    ensures answer { answer_number result ≡ cond (leb (length items.old) count.old) (error_number full) 0 }
+    ensures items_after { items.new ≡ set items.old count.old item }
+    ensures count_after { count.new ≡ cond (leb (length items.old) count.old) count.old (count.old + 1) }
+{
+    let n = usize::from(*count);
+    if items.len() <= n {
+        return Err(full);
+    }
+    items[n] = item;
+    *count += 1;
+    Ok(())
 }
 
 // ---- the image of snippets and sequences
@@ -310,6 +329,7 @@ fn put<T: Item>(image: &mut [u8], items: &[T], pointer: usize, at: usize) -> usi
     ensures image_after { image.new ≡ laid image.old pointer at (map T.bytes_of items.now) }
 {
     let mut next = at;
+    // by index, since an iterator over the pointers would hold the array that the items go into
     for (i, item) in items.iter().enumerate() {
         let behind = next + item.size();
         image[pointer + i] = (behind - 1) as u8;

@@ -1,7 +1,7 @@
 // Sequences and their builder (waveform/sequence.rs; document 01, 'Points, frames, sequences').
 // The sequence under construction carries its 96 bytes with a length and a frame count.
 // Proved: each function answers what specs/ says of its arguments, whatever the builder's fields hold; a builder that a call refuses is as it
-// was. `encode_into` copies all bytes or none (document 02, CR 5); no function here takes a closure. Left out: `Default` and printing.
+// was. `encode_into` copies all bytes or none (document 02, CR 5); no function here takes a closure. Left out: printing.
 #![tactic(auto)]
 
 ghost use Rattle.std.specs.Prelude.{◌≡◌, ◌≤◌, length};
@@ -17,6 +17,8 @@ pub const MAX_FRAMES_PER_SEQUENCE: u8 = 32;
 
 pub const MAX_SEQUENCE_BYTES: usize = 96;
 
+// The first `len` bytes are the sequence's. An array with its length, as in the Rust: fixed memory, no heap; so is the builder, as document 01
+// asks ("carries its 96 bytes with a length and a frame count").
 #[derive(Debug, Clone, Copy)]
 pub struct Sequence {
     data: [u8; MAX_SEQUENCE_BYTES],
@@ -41,14 +43,14 @@ impl Sequence {
         ensures value { result ≡ length (sequence_bytes self.now) }
         ensures upper_bound { result ≤ 96 }
     {
-        (self.len as usize).min(MAX_SEQUENCE_BYTES)
+        self.as_bytes().len()
     }
 
     // The sequence's bytes.
     pub fn as_bytes(&self) -> &[u8]
         ensures { result.now ≡ sequence_bytes self.now }
     {
-        &self.data[..self.byte_len()]
+        laws::shown(&self.data, self.len)
     }
 
     // Copies all bytes and answers how many, or copies none and answers BufferTooShort.
@@ -60,15 +62,23 @@ impl Sequence {
     }
 }
 
-impl SequenceBuilder {
-    pub fn new() -> SequenceBuilder
-        ensures { result ≡ new_sequence }
-    {
+impl Default for SequenceBuilder {
+    ghost is_default = { λ builder. builder ≡ new_sequence };
+
+    fn default() -> SequenceBuilder {
         SequenceBuilder {
             data: [0; MAX_SEQUENCE_BYTES],
             len: 0,
             frame_count: 0,
         }
+    }
+}
+
+impl SequenceBuilder {
+    pub fn new() -> SequenceBuilder
+        ensures { result ≡ new_sequence }
+    {
+        SequenceBuilder::default()
     }
 
     // The 96 bytes are tested before the 32 frames.
@@ -102,10 +112,7 @@ impl SequenceBuilder {
         if self.len < 1 {
             return Err(Error::EmptySequence);
         }
-        let data = self.data;
-        Ok(Sequence {
-            data,
-            len: self.len,
-        })
+        let SequenceBuilder { data, len, .. } = self;
+        Ok(Sequence { data, len })
     }
 }

@@ -2,7 +2,7 @@
 // Proved: each function answers what specs/ says of its arguments, whatever the builder's fields hold; a builder that a call refuses is as it
 // was. proofs/Points.antt: same kind, length and amplitude exactly when same byte.
 // `bytes` (added) gives the bytes of all sixteen points, of which the first `byte_len` are the snippet's; `encode_into` copies all bytes or none
-// (document 02, CR 5); no function here takes a closure. Left out: `Default` and printing.
+// (document 02, CR 5); no function here takes a closure. Left out: printing.
 #![tactic(auto)]
 
 ghost use Rattle.std.specs.Prelude.{◌≡◌, true, false, map, ◌≤◌, length, take};
@@ -21,6 +21,7 @@ pub struct PwlPoint {
     byte: u8,
 }
 
+// The first `len` points are the snippet's. An array with its count, as in the Rust: fixed memory, no heap; so is the builder.
 #[derive(Debug, Clone, Copy)]
 pub struct Snippet {
     points: [PwlPoint; MAX_POINTS_PER_SNIPPET],
@@ -53,6 +54,7 @@ impl PwlPoint {
         PwlPoint::new(false, timebases, amplitude)
     }
 
+    // Whether it is a ramp is the point's own bit, as `is_ramp` gives it back; the Rust's `new` takes it so too.
     fn new(ramp: bool, timebases: u8, amplitude: u8) -> Result<PwlPoint, Error>
         ensures { point_told result ≡ point ramp timebases amplitude }
     {
@@ -103,14 +105,14 @@ impl Snippet {
     pub fn points(&self) -> &[PwlPoint]
         ensures { result.now ≡ take self.now.len self.now.points }
     {
-        &self.points[..self.byte_len()]
+        laws::shown(&self.points, self.len)
     }
 
     pub fn byte_len(&self) -> usize
         ensures value { result ≡ length (snippet_bytes self.now) }
         ensures upper_bound { result ≤ 16 }
     {
-        (self.len as usize).min(MAX_POINTS_PER_SNIPPET)
+        self.points().len()
     }
 
     // The bytes of all sixteen points.
@@ -125,7 +127,16 @@ impl Snippet {
         ensures result_value { told result ≡ length_of (whole buffer.old (gives (snippet_bytes self.now))) }
         ensures buffer_after { buffer.new ≡ whole_out buffer.old (gives (snippet_bytes self.now)) }
     {
-        laws::copy_whole(buffer, &self.bytes()[..self.byte_len()])
+        laws::copy_whole(buffer, laws::shown(&self.bytes(), self.len))
+    }
+}
+
+impl Default for SnippetBuilder {
+    ghost is_default = { λ builder. builder ≡ new_snippet };
+
+    fn default() -> SnippetBuilder {
+        let Snippet { points, len } = Snippet::EMPTY;
+        SnippetBuilder { points, len }
     }
 }
 
@@ -133,10 +144,7 @@ impl SnippetBuilder {
     pub fn new() -> SnippetBuilder
         ensures { result ≡ new_snippet }
     {
-        SnippetBuilder {
-            points: [PwlPoint { byte: 0 }; MAX_POINTS_PER_SNIPPET],
-            len: 0,
-        }
+        SnippetBuilder::default()
     }
 
     pub fn ramp(self, timebases: u8, amplitude: u8) -> Result<SnippetBuilder, Error>
@@ -171,10 +179,7 @@ impl SnippetBuilder {
         if self.len < 1 {
             return Err(Error::EmptySnippet);
         }
-        let points = self.points;
-        Ok(Snippet {
-            points,
-            len: self.len,
-        })
+        let SnippetBuilder { points, len } = self;
+        Ok(Snippet { points, len })
     }
 }
