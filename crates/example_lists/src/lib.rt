@@ -17,17 +17,12 @@ const FRAMES: usize = 32;
 pub fn layout(rt: &impl Print, image: &[u8], snippets: u8, sequences: u8) -> io::Result<()> {
     let sequence_ends = 2 + usize::from(snippets);
     let data = sequence_ends + usize::from(sequences);
-    let last_point = at(image, sequence_ends - 1);
-    let last_frame = at(image, data - 1);
+    let last_point = laws::byte_at(image, sequence_ends - 1);
+    let last_frame = laws::byte_at(image, data - 1);
     print!(rt; " counts 00 to 01, end pointers 02 to {:02X}", data - 1)?;
     print!(rt; ", snippets {data:02X} to {last_point:02X}")?;
     let first_frame = last_point.saturating_add(1);
     print!(rt; ", sequences {first_frame:02X} to {last_frame:02X}, then zeros")
-}
-
-// The byte at an index, 0 past the end.
-fn at(bytes: &[u8], i: usize) -> u8 {
-    bytes.get(i).copied().unwrap_or(0)
 }
 
 /// The lists whose image the bytes are, or the refusal.

@@ -1,5 +1,5 @@
 // A point and a frame in words.
-use frame::{FrameBuilder, Gain, Timebase};
+use frame::{FrameBuilder, FrameFields};
 use snippet::PwlPoint;
 use std::fmt;
 
@@ -18,29 +18,20 @@ impl fmt::Display for PointText {
     }
 }
 
-// What `FrameBuilder::word`, by which alone the fields can be read, has for no loop count and for no frequency.
-const NO_LOOP_COUNT: u8 = 255;
-
-const NO_FREQUENCY: u16 = 65535;
-
 impl fmt::Display for FrameText {
     fn fmt<W: fmt::Write>(&self, f: &mut fmt::Formatter<W>) -> fmt::Result {
-        let [_, _, upper, lower, loop_count, timebase, gain, snippet_id] = self
-            .0
-            .word()
-            .to_be_bytes();
-        let frequency = u16::from_be_bytes([upper, lower]);
-        match snippet_id {
+        let fields = FrameFields::from(self.0);
+        match fields.snippet_id {
             0 => write!(f, "silence")?,
             id => write!(f, "snippet {id}")?,
         }
-        let gain = show::gain(Gain::from(gain));
-        let timebase = show::timebase(Timebase::from(timebase));
+        let gain = show::gain(fields.gain);
+        let timebase = show::timebase(fields.timebase);
         write!(f, ", gain {gain}, {timebase}")?;
-        if loop_count != NO_LOOP_COUNT {
+        if let Some(loop_count) = fields.loop_count {
             write!(f, ", loop count {loop_count}")?;
         }
-        if frequency != NO_FREQUENCY {
+        if let Some(frequency) = fields.frequency_hz {
             write!(f, ", {frequency} Hz")?;
         }
         Ok(())

@@ -14,11 +14,6 @@ pub fn number(bytes: &[u8]) -> u64 {
     bytes.iter().fold(0, |n, x| (n << 8) | u64::from(*x))
 }
 
-/// The byte at an index, 0 past the end.
-pub fn byte_at(bytes: &[u8], i: usize) -> u8 {
-    bytes.get(i).copied().unwrap_or(0)
-}
-
 /// A number that no kind has.
 #[derive(Clone, Copy, Debug, PartialEq, Eq)]
 pub struct UnknownKind(pub u8);

@@ -8,7 +8,8 @@ mod kind;
 mod walk;
 
 use kind::Kind;
-use vectors_bytes::{MARKER, byte_at, number};
+use laws::byte_at;
+use vectors_bytes::{MARKER, number};
 
 // What a case gives and tells: the arguments, the list of calls or the image, the word answered, and what is left in the slice lent.
 // A case of an image read has the image in the place of the arguments, and then its counts, its points and its frames.

@@ -8,7 +8,8 @@ mod told;
 
 use exchange::Reply;
 use kind::Kind;
-use vectors_bytes::{MARKER, byte_at, number};
+use laws::byte_at;
+use vectors_bytes::{MARKER, number};
 
 // More exchanges than a session makes.
 const MOST: u64 = 128;
