@@ -3,22 +3,12 @@
 #![tactic(auto)]
 
 use errors::Error;
-use frame::{Frame, FrameBuilder, Gain, Timebase};
+use frame::{Frame, FrameBuilder, FrameFields, Timebase};
 use memory::{WaveformMemory, WaveformMemoryBuilder};
 use sequence::SequenceBuilder;
 use show::Refusal;
 use snippet::SnippetBuilder;
 use std::io;
-
-/// All fields of a frame.
-#[derive(Clone, Copy, Debug)]
-pub struct FrameFields {
-    pub snippet_id: u8,
-    pub gain: Gain,
-    pub timebase: Timebase,
-    pub loop_count: u8,
-    pub frequency_hz: u16,
-}
 
 // ---- snippets
 
@@ -93,15 +83,16 @@ fn played(rt: &impl Print, f: FrameBuilder, frame: FrameFields) -> io::Result<Fr
     let gain = show::gain(frame.gain);
     let timebase = show::timebase(frame.timebase);
     print!(rt; " gain({gain}) timebase({timebase})")?;
-    let f = f.gain(frame.gain).timebase(frame.timebase);
-
-    let loop_count = frame.loop_count;
-    print!(rt; " loop_count({loop_count})")?;
-    let f = or_as_before(rt, f, f.loop_count(loop_count))?;
-
-    let frequency_hz = frame.frequency_hz;
-    print!(rt; " frequency_hz({frequency_hz})")?;
-    Ok(or_as_before(rt, f, f.frequency_hz(frequency_hz))?.build())
+    let mut f = f.gain(frame.gain).timebase(frame.timebase);
+    if let Some(loop_count) = frame.loop_count {
+        print!(rt; " loop_count({loop_count})")?;
+        f = or_as_before(rt, f, f.loop_count(loop_count))?;
+    }
+    if let Some(frequency_hz) = frame.frequency_hz {
+        print!(rt; " frequency_hz({frequency_hz})")?;
+        f = or_as_before(rt, f, f.frequency_hz(frequency_hz))?;
+    }
+    Ok(f.build())
 }
 
 /// The built-in silence, which lasts two timebases.

@@ -2,10 +2,9 @@
 #![tactic(auto)]
 
 use example_builders::{
-    FrameFields, add_sequence, add_snippet, build, new_sequence, new_snippet, pause, play, ramp,
-    step,
+    add_sequence, add_snippet, build, new_sequence, new_snippet, pause, play, ramp, step,
 };
-use frame::{Gain, Timebase};
+use frame::{FrameFields, Gain, Timebase};
 use memory::{WaveformMemory, WaveformMemoryBuilder};
 use sequence::SequenceBuilder;
 use snippet::SnippetBuilder;
@@ -20,12 +19,12 @@ pub fn shallow_ahead(rt: &impl Print) -> io::Result<WaveformMemory> {
         snippet_id: 1,
         gain: Gain::Half,
         timebase: Timebase::Ms43_52,
-        loop_count: 0,
-        frequency_hz: 120,
+        loop_count: Some(0),
+        frequency_hz: Some(120),
     };
     let stronger = FrameFields {
         gain: Gain::Full,
-        loop_count: 1,
+        loop_count: Some(1),
         ..weaker
     };
     let q = new_sequence(rt, b)?;
@@ -76,8 +75,8 @@ fn knock_thrice(rt: &impl Print, q: SequenceBuilder) -> io::Result<SequenceBuild
             snippet_id: 1,
             gain,
             timebase: Timebase::Ms21_76,
-            loop_count: 0,
-            frequency_hz: 200,
+            loop_count: Some(0),
+            frequency_hz: Some(200),
         };
         q = play(rt, q, knock)?;
     }
@@ -89,8 +88,8 @@ const THUD: FrameFields = FrameFields {
     snippet_id: 2,
     gain: Gain::Full,
     timebase: Timebase::Ms21_76,
-    loop_count: 2,
-    frequency_hz: 300,
+    loop_count: Some(2),
+    frequency_hz: Some(300),
 };
 
 fn end_in_thud(rt: &impl Print, q: SequenceBuilder) -> io::Result<SequenceBuilder> {
