@@ -17,10 +17,10 @@ use Rattle.frame.specs.Frame.{gain_code, timebase_code, first_byte, second_byte,
 use Rattle.frame.specs.Read.{gain_at, timebase_at, fields_in, one_byte, two_bytes, three_bytes, Parsed, parsed, read_third, read_second, read_after, read_frame}
 
 gain_there : (n : ℕ) → n < 4 → gain_code (gain_at n) ≡ n
-gain_there = same (λ n. gain_code (gain_at n)) (λ n. n) 4 tt
+gain_there = same (λ n. gain_code (gain_at n)) (λ n. n) 4 refl
 
 timebase_there : (n : ℕ) → n < 4 → timebase_code (timebase_at n) ≡ n
-timebase_there = same (λ n. timebase_code (timebase_at n)) (λ n. n) 4 tt
+timebase_there = same (λ n. timebase_code (timebase_at n)) (λ n. n) 4 refl
 
 -- the first byte is its fields
 first_there : (a n : ℕ) (k : rust.Option ℕ) (q : rust.Option ℕ) → a < 128 → n % 8 ≡ a % 8 → first_byte (fields_in a n k q) ≡ a
@@ -28,7 +28,7 @@ first_there a n k q h e = omega (arith, gain_there (a / 32 % 4) (omega arith), t
 
 -- a byte is its bits
 bits : (b : ℕ) → b < 256 → b / 128 * 128 + b / 8 % 16 * 8 + b / 4 % 2 * 4 + b / 2 % 2 * 2 + b % 2 ≡ b
-bits = same (λ b. b / 128 * 128 + b / 8 % 16 * 8 + b / 4 % 2 * 4 + b / 2 % 2 * 2 + b % 2) (λ b. b) 256 tt
+bits = same (λ b. b / 128 * 128 + b / 8 % 16 * 8 + b / 4 % 2 * 4 + b / 2 % 2 * 2 + b % 2) (λ b. b) 256 refl
 
 high : (a b : ℕ) → (b % 2 * 8 + a % 8) / 8 % 2 ≡ b % 2
 high a b = omega arith

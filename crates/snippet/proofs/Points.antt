@@ -1,6 +1,6 @@
 -- Points and bytes, both ways: two points have the same kind, length and amplitude exactly when they have the same byte.
 -- Assumes nothing.
-use mathlib.Core.Path.{◌≡◌, ap, sym, ◌∙◌}
+use mathlib.Core.Path.{◌≡◌, refl, ap, sym, ◌∙◌}
 use mathlib.Core.Bool.{Bool, true, false}
 use Prim.Native.Nat.{ℕ, ◌/◌, ◌%◌, ◌<◌}
 use native.Mathlib.Omega.{arith}
@@ -23,7 +23,7 @@ module _ (t a : ℕ) (h : PointAdmitted t a) where
 
 -- every byte is a point, made of its own fields
 pub byte_back : (b : ℕ) → b < 256 → point_byte (ramp_in b) (timebases_in b) (amplitude_in b) ≡ b
-byte_back = same (λ b. point_byte (ramp_in b) (timebases_in b) (amplitude_in b)) (λ b. b) 256 tt
+byte_back = same (λ b. point_byte (ramp_in b) (timebases_in b) (amplitude_in b)) (λ b. b) 256 refl
 
 pub byte_admitted : (b : ℕ) → PointAdmitted (timebases_in b) (amplitude_in b)
 byte_admitted b = record { shortest = omega arith; longest = omega arith; strongest = omega arith }
