@@ -193,6 +193,28 @@ fn constants_are_the_published_addresses() {
     compared("constants of Register", constants.len(), 42);
 }
 
+/// Each register type is the `Byte` of the address that the published text gives its name.
+#[test]
+fn types_are_of_the_published_addresses() {
+    let mut types = Vec::new();
+    for path in METHODS {
+        for line in text(path).lines() {
+            if let Some((name, address)) =
+                line.strip_prefix("pub type ").and_then(|rest| rest.split_once(" = Byte<0x"))
+            {
+                let address = u8::from_str_radix(address.strip_suffix(">;").unwrap(), 16).unwrap();
+                types.push((name.to_string(), address));
+            }
+        }
+    }
+    let published = published_types();
+    let of_a_type = |name: &String| published.iter().any(|(of, _)| of == name);
+    let wanted: Vec<_> =
+        published_addresses().into_iter().filter(|(name, _)| of_a_type(name)).collect();
+    assert_eq!(types, wanted);
+    compared("addresses of register types", types.len(), 39);
+}
+
 /// Each method of a register type is named after the field, and stands in the type, that its contract speaks of.
 #[test]
 fn methods_cite_their_own_fields() {
