@@ -198,8 +198,7 @@ pub fn disable(driver: &DA728x, session: &mut [u8]) -> Result<(), Error>
         session,
         driver.address,
         Register::TOP_CTL1.address(),
-        TOP_CTL1::OPERATION_MODE_SHIFT,
-        TOP_CTL1::OPERATION_MODE_WIDTH,
+        TOP_CTL1::OPERATION_MODE_PLACE,
         0,
     );
     Ok(())
@@ -260,8 +259,7 @@ pub fn set_timebase(
         session,
         driver.address,
         Register::SEQ_CTL1.address(),
-        SEQ_CTL1::FREQ_WAVEFORM_TIMEBASE_SHIFT,
-        SEQ_CTL1::FREQ_WAVEFORM_TIMEBASE_WIDTH,
+        SEQ_CTL1::FREQ_WAVEFORM_TIMEBASE_PLACE,
         timebase.into(),
     );
     Ok(())
@@ -396,8 +394,7 @@ pub fn start_sequence(driver: &DA728x, session: &mut [u8]) -> Result<(), Error>
         session,
         driver.address,
         Register::TOP_CTL1.address(),
-        TOP_CTL1::SEQ_START_SHIFT,
-        TOP_CTL1::SEQ_START_WIDTH,
+        TOP_CTL1::SEQ_START_PLACE,
         1,
     );
     Ok(())
@@ -435,8 +432,8 @@ fn play(session: &mut [u8], address: u8, value: u8)
         session,
         Step::Update(
             Register::TOP_CTL1.address(),
-            TOP_CTL1::SEQ_START_SHIFT,
-            TOP_CTL1::SEQ_START_WIDTH,
+            TOP_CTL1::SEQ_START_PLACE.shift,
+            TOP_CTL1::SEQ_START_PLACE.width,
             1,
         ),
     );

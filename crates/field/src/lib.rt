@@ -10,6 +10,14 @@
 ghost use Rattle.std.specs.Prelude.{◌≡◌, ◌%◌, ◌^◌, ◌<◌, ◌≤◌};
 ghost use Rattle.field.specs.Field.{get_of, with_of, flag_of, code_of};
 
+// Where a field that is updated on the chip lies: its first bit, and how many bits it has. The functions take the two numbers, as
+// each getter and `with_` writes them for its field: a `Place` there would be longer and say no more.
+#[derive(Debug, Clone, Copy, PartialEq, Eq)]
+pub struct Place {
+    pub shift: u8,
+    pub width: u8,
+}
+
 // The field's value.
 #[tactic(auto, using(crate::proofs::Shifts::get_is))]
 pub fn get(b: u8, shift: u8, width: u8) -> u8

@@ -12,6 +12,7 @@ ghost use Rattle.plans.specs.Configure.{accelerates, top_cfg1, feature_steps, li
 
 use config::{ActuatorConfig, DeviceConfig, DrivingMode, TriggerConfig, TriggerMode};
 use exchange::Step;
+use field::Place;
 use registers::Register;
 use registers_actuator::{ACTUATOR3, FRQ_LRA_PER_L, TOP_CFG1, TOP_CFG2, TOP_CFG4};
 use registers_control::{SEQ_CTL1, TOP_INT_CFG8};
@@ -53,8 +54,7 @@ fn features(session: &mut [u8], a: ActuatorConfig, d: DeviceConfig)
     update(
         session,
         Register::TOP_CFG2,
-        TOP_CFG2::MEM_DATA_SIGNED_SHIFT,
-        TOP_CFG2::MEM_DATA_SIGNED_WIDTH,
+        TOP_CFG2::MEM_DATA_SIGNED_PLACE,
         !accelerates as u8,
     );
     write(session, Register::TOP_CFG5, top_cfg5.into());
@@ -131,8 +131,7 @@ fn rapid_stop(session: &mut [u8])
     update(
         session,
         Register::TOP_INT_CFG8,
-        TOP_INT_CFG8::RAPID_STOP_LIM_SHIFT,
-        TOP_INT_CFG8::RAPID_STOP_LIM_WIDTH,
+        TOP_INT_CFG8::RAPID_STOP_LIM_PLACE,
         7,
     );
 }
@@ -206,12 +205,12 @@ fn write(session: &mut [u8], register: Register, value: u8)
 }
 
 // Reads a register, and writes it back with a field replaced.
-fn update(session: &mut [u8], register: Register, shift: u8, width: u8, value: u8)
-    ensures { session.new ≡ pushed (pushed session.old (Read register.0)) (Update register.0 shift width value) }
+fn update(session: &mut [u8], register: Register, place: Place, value: u8)
+    ensures { session.new ≡ pushed (pushed session.old (Read register.0)) (Update register.0 place.shift place.width value) }
 {
     exchange::push(session, Step::Read(register.address()));
     exchange::push(
         session,
-        Step::Update(register.address(), shift, width, value),
+        Step::Update(register.address(), place.shift, place.width, value),
     );
 }

@@ -5,7 +5,7 @@
 // address that the table lists under the name beside it. Nothing is left out.
 #![tactic(auto)]
 
-ghost use Rattle.std.specs.Prelude.{◌≡◌, true};
+ghost use Rattle.std.specs.Prelude.{◌≡◌, true, map};
 ghost use Rattle.std.specs.List.{list_all};
 ghost use Rattle.registers.specs.Table.{registers, addresses, lists};
 
@@ -109,50 +109,7 @@ impl Register {
     pub fn all() -> [u8; 42]
         ensures { result ≡ addresses }
     {
-        [
-            Register::CHIP_REV.0,
-            Register::IRQ_EVENT1.0,
-            Register::IRQ_EVENT_WARNING_DIAG.0,
-            Register::IRQ_EVENT_SEQ_DIAG.0,
-            Register::IRQ_STATUS1.0,
-            Register::IRQ_MASK1.0,
-            Register::FRQ_LRA_PER_H.0,
-            Register::FRQ_LRA_PER_L.0,
-            Register::ACTUATOR1.0,
-            Register::ACTUATOR2.0,
-            Register::ACTUATOR3.0,
-            Register::CALIB_V2I_H.0,
-            Register::CALIB_V2I_L.0,
-            Register::TOP_CFG1.0,
-            Register::TOP_CFG2.0,
-            Register::TOP_CFG4.0,
-            Register::TOP_INT_CFG1.0,
-            Register::TOP_INT_CFG6_H.0,
-            Register::TOP_INT_CFG6_L.0,
-            Register::TOP_INT_CFG7_H.0,
-            Register::TOP_INT_CFG7_L.0,
-            Register::TOP_INT_CFG8.0,
-            Register::TOP_CTL1.0,
-            Register::TOP_CTL2.0,
-            Register::SEQ_CTL1.0,
-            Register::SWG_C1.0,
-            Register::SWG_C2.0,
-            Register::SWG_C3.0,
-            Register::SEQ_CTL2.0,
-            Register::GPI_0_CTL.0,
-            Register::GPI_1_CTL.0,
-            Register::GPI_2_CTL.0,
-            Register::MEM_CTL1.0,
-            Register::MEM_CTL2.0,
-            Register::POLARITY.0,
-            Register::FRQ_PHASE_H.0,
-            Register::FRQ_PHASE_L.0,
-            Register::TRIM4.0,
-            Register::TOP_CFG5.0,
-            Register::IRQ_MASK2.0,
-            Register::SNP_MEM_0.0,
-            Register::SNP_MEM_99.0,
-        ]
+        named().map(|(_, register)| register.0)
     }
 }
 
@@ -202,9 +159,10 @@ pub const NAMED: [(&str, Register); 42] = [
     ("SNP_MEM_99", Register::SNP_MEM_99),
 ];
 
-// The table lists each constant's address under the name beside it; nothing calls this.
+// The table has the constants' addresses in this order, each under the name beside the constant.
 fn named() -> [(&'static str, Register); 42]
-    ensures { list_all (λ p. lists registers p.0.now p.1.0) result ≡ true }
+    ensures order { map (λ p. p.1.0) result ≡ addresses }
+    ensures names { list_all (λ p. lists registers p.0.now p.1.0) result ≡ true }
 {
     NAMED
 }

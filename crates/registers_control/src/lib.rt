@@ -1,5 +1,5 @@
 // The registers of the control loop, of operation and of custom waveforms: TOP_INT_CFG1 to SWG_C3 of registers.rs, document
-// 01, "Settings to registers". A register is a byte: `new` is zero, and both `From` keep every bit; the method of a field's
+// 01, "Settings to registers". A register is a `Byte`: `new` is zero, and both `From` keep every bit; the method of a field's
 // name reads the field, and `with_` before the name alters it. Proved: each method's result, by the field's name in
 // registers/specs/Table.antt, which has the names and widths of the Rust in the written order; `fields` and `replaced` list
 // what all the getters and all the `with_` make of one byte, and equal definitions that go through the table part by part.
@@ -11,19 +11,41 @@ ghost use Rattle.field.specs.Field.{code_of};
 ghost use Rattle.field.specs.Layout.{get_at, is_at, with_at, readings, replacements};
 ghost use Rattle.registers.specs.Table.{control, read_only, parts_of};
 
-use field::{flag, get, with, with_flag};
+use field::{Place, flag, get, with, with_flag};
 
-// TOP_INT_CFG1 register (0x17).
+// The byte of a register, of a type that its address makes its own. One in each of the four crates, as the language has a type's
+// methods in the type's crate.
 #[derive(Debug, Clone, Copy, PartialEq, Eq, Default)]
-pub struct TOP_INT_CFG1(u8);
+pub struct Byte<const ADDRESS: u8>(u8);
 
-impl TOP_INT_CFG1 {
+impl<const ADDRESS: u8> Byte<ADDRESS> {
     pub fn new() -> Self
         ensures { result.0 ≡ 0 }
     {
         Self::default()
     }
+}
 
+impl<const ADDRESS: u8> From<u8> for Byte<ADDRESS> {
+    ghost from_gives = { λ bits register. register.0 ≡ bits };
+
+    fn from(bits: u8) -> Self {
+        Byte(bits)
+    }
+}
+
+impl<const ADDRESS: u8> From<Byte<ADDRESS>> for u8 {
+    ghost from_gives = { λ register bits. bits ≡ register.0 };
+
+    fn from(register: Byte<ADDRESS>) -> u8 {
+        register.0
+    }
+}
+
+// TOP_INT_CFG1 register (0x17).
+pub type TOP_INT_CFG1 = Byte<0x17>;
+
+impl TOP_INT_CFG1 {
     pub fn BEMF_FAULT_LIM(self) -> u8
         ensures { result ≡ get_at (parts_of "TOP_INT_CFG1") "BEMF_FAULT_LIM" self.0 }
     {
@@ -33,7 +55,7 @@ impl TOP_INT_CFG1 {
     pub fn with_BEMF_FAULT_LIM(self, value: u8) -> Self
         ensures { result.0 ≡ with_at (parts_of "TOP_INT_CFG1") "BEMF_FAULT_LIM" self.0 value }
     {
-        TOP_INT_CFG1(with(self.0, 0, 2, value))
+        TOP_INT_CFG1::from(with(self.0, 0, 2, value))
     }
 
     pub fn FRQ_LOCKED_LIM(self) -> u8
@@ -45,37 +67,14 @@ impl TOP_INT_CFG1 {
     pub fn with_FRQ_LOCKED_LIM(self, value: u8) -> Self
         ensures { result.0 ≡ with_at (parts_of "TOP_INT_CFG1") "FRQ_LOCKED_LIM" self.0 value }
     {
-        TOP_INT_CFG1(with(self.0, 2, 6, value))
-    }
-}
-
-impl From<u8> for TOP_INT_CFG1 {
-    ghost from_gives = { λ bits register. register.0 ≡ bits };
-
-    fn from(bits: u8) -> Self {
-        TOP_INT_CFG1(bits)
-    }
-}
-
-impl From<TOP_INT_CFG1> for u8 {
-    ghost from_gives = { λ register bits. bits ≡ register.0 };
-
-    fn from(register: TOP_INT_CFG1) -> u8 {
-        register.0
+        TOP_INT_CFG1::from(with(self.0, 2, 6, value))
     }
 }
 
 // TOP_INT_CFG6_H register (0x1C).
-#[derive(Debug, Clone, Copy, PartialEq, Eq, Default)]
-pub struct TOP_INT_CFG6_H(u8);
+pub type TOP_INT_CFG6_H = Byte<0x1C>;
 
 impl TOP_INT_CFG6_H {
-    pub fn new() -> Self
-        ensures { result.0 ≡ 0 }
-    {
-        Self::default()
-    }
-
     pub fn FRQ_PID_Kp_H(self) -> u8
         ensures { result ≡ get_at (parts_of "TOP_INT_CFG6_H") "FRQ_PID_Kp_H" self.0 }
     {
@@ -85,37 +84,14 @@ impl TOP_INT_CFG6_H {
     pub fn with_FRQ_PID_Kp_H(self, value: u8) -> Self
         ensures { result.0 ≡ with_at (parts_of "TOP_INT_CFG6_H") "FRQ_PID_Kp_H" self.0 value }
     {
-        TOP_INT_CFG6_H(with(self.0, 0, 8, value))
-    }
-}
-
-impl From<u8> for TOP_INT_CFG6_H {
-    ghost from_gives = { λ bits register. register.0 ≡ bits };
-
-    fn from(bits: u8) -> Self {
-        TOP_INT_CFG6_H(bits)
-    }
-}
-
-impl From<TOP_INT_CFG6_H> for u8 {
-    ghost from_gives = { λ register bits. bits ≡ register.0 };
-
-    fn from(register: TOP_INT_CFG6_H) -> u8 {
-        register.0
+        TOP_INT_CFG6_H::from(with(self.0, 0, 8, value))
     }
 }
 
 // TOP_INT_CFG6_L register (0x1D).
-#[derive(Debug, Clone, Copy, PartialEq, Eq, Default)]
-pub struct TOP_INT_CFG6_L(u8);
+pub type TOP_INT_CFG6_L = Byte<0x1D>;
 
 impl TOP_INT_CFG6_L {
-    pub fn new() -> Self
-        ensures { result.0 ≡ 0 }
-    {
-        Self::default()
-    }
-
     pub fn FRQ_PID_Kp_L(self) -> u8
         ensures { result ≡ get_at (parts_of "TOP_INT_CFG6_L") "FRQ_PID_Kp_L" self.0 }
     {
@@ -125,37 +101,14 @@ impl TOP_INT_CFG6_L {
     pub fn with_FRQ_PID_Kp_L(self, value: u8) -> Self
         ensures { result.0 ≡ with_at (parts_of "TOP_INT_CFG6_L") "FRQ_PID_Kp_L" self.0 value }
     {
-        TOP_INT_CFG6_L(with(self.0, 0, 8, value))
-    }
-}
-
-impl From<u8> for TOP_INT_CFG6_L {
-    ghost from_gives = { λ bits register. register.0 ≡ bits };
-
-    fn from(bits: u8) -> Self {
-        TOP_INT_CFG6_L(bits)
-    }
-}
-
-impl From<TOP_INT_CFG6_L> for u8 {
-    ghost from_gives = { λ register bits. bits ≡ register.0 };
-
-    fn from(register: TOP_INT_CFG6_L) -> u8 {
-        register.0
+        TOP_INT_CFG6_L::from(with(self.0, 0, 8, value))
     }
 }
 
 // TOP_INT_CFG7_H register (0x1E).
-#[derive(Debug, Clone, Copy, PartialEq, Eq, Default)]
-pub struct TOP_INT_CFG7_H(u8);
+pub type TOP_INT_CFG7_H = Byte<0x1E>;
 
 impl TOP_INT_CFG7_H {
-    pub fn new() -> Self
-        ensures { result.0 ≡ 0 }
-    {
-        Self::default()
-    }
-
     pub fn FRQ_PID_Ki_H(self) -> u8
         ensures { result ≡ get_at (parts_of "TOP_INT_CFG7_H") "FRQ_PID_Ki_H" self.0 }
     {
@@ -165,37 +118,14 @@ impl TOP_INT_CFG7_H {
     pub fn with_FRQ_PID_Ki_H(self, value: u8) -> Self
         ensures { result.0 ≡ with_at (parts_of "TOP_INT_CFG7_H") "FRQ_PID_Ki_H" self.0 value }
     {
-        TOP_INT_CFG7_H(with(self.0, 0, 8, value))
-    }
-}
-
-impl From<u8> for TOP_INT_CFG7_H {
-    ghost from_gives = { λ bits register. register.0 ≡ bits };
-
-    fn from(bits: u8) -> Self {
-        TOP_INT_CFG7_H(bits)
-    }
-}
-
-impl From<TOP_INT_CFG7_H> for u8 {
-    ghost from_gives = { λ register bits. bits ≡ register.0 };
-
-    fn from(register: TOP_INT_CFG7_H) -> u8 {
-        register.0
+        TOP_INT_CFG7_H::from(with(self.0, 0, 8, value))
     }
 }
 
 // TOP_INT_CFG7_L register (0x1F).
-#[derive(Debug, Clone, Copy, PartialEq, Eq, Default)]
-pub struct TOP_INT_CFG7_L(u8);
+pub type TOP_INT_CFG7_L = Byte<0x1F>;
 
 impl TOP_INT_CFG7_L {
-    pub fn new() -> Self
-        ensures { result.0 ≡ 0 }
-    {
-        Self::default()
-    }
-
     pub fn FRQ_PID_Ki_L(self) -> u8
         ensures { result ≡ get_at (parts_of "TOP_INT_CFG7_L") "FRQ_PID_Ki_L" self.0 }
     {
@@ -205,41 +135,16 @@ impl TOP_INT_CFG7_L {
     pub fn with_FRQ_PID_Ki_L(self, value: u8) -> Self
         ensures { result.0 ≡ with_at (parts_of "TOP_INT_CFG7_L") "FRQ_PID_Ki_L" self.0 value }
     {
-        TOP_INT_CFG7_L(with(self.0, 0, 8, value))
-    }
-}
-
-impl From<u8> for TOP_INT_CFG7_L {
-    ghost from_gives = { λ bits register. register.0 ≡ bits };
-
-    fn from(bits: u8) -> Self {
-        TOP_INT_CFG7_L(bits)
-    }
-}
-
-impl From<TOP_INT_CFG7_L> for u8 {
-    ghost from_gives = { λ register bits. bits ≡ register.0 };
-
-    fn from(register: TOP_INT_CFG7_L) -> u8 {
-        register.0
+        TOP_INT_CFG7_L::from(with(self.0, 0, 8, value))
     }
 }
 
 // TOP_INT_CFG8 register (0x20).
-#[derive(Debug, Clone, Copy, PartialEq, Eq, Default)]
-pub struct TOP_INT_CFG8(u8);
+pub type TOP_INT_CFG8 = Byte<0x20>;
 
 impl TOP_INT_CFG8 {
     // For updates of the byte that the chip holds: where the field starts, and how many bits it has.
-    pub const RAPID_STOP_LIM_SHIFT: u8 = 4;
-
-    pub const RAPID_STOP_LIM_WIDTH: u8 = 4;
-
-    pub fn new() -> Self
-        ensures { result.0 ≡ 0 }
-    {
-        Self::default()
-    }
+    pub const RAPID_STOP_LIM_PLACE: Place = Place { shift: 4, width: 4 };
 
     pub fn FRQ_TRACK_BEMF_LIM(self) -> u8
         ensures { result ≡ get_at (parts_of "TOP_INT_CFG8") "FRQ_TRACK_BEMF_LIM" self.0 }
@@ -250,86 +155,45 @@ impl TOP_INT_CFG8 {
     pub fn with_FRQ_TRACK_BEMF_LIM(self, value: u8) -> Self
         ensures { result.0 ≡ with_at (parts_of "TOP_INT_CFG8") "FRQ_TRACK_BEMF_LIM" self.0 value }
     {
-        TOP_INT_CFG8(with(self.0, 0, 4, value))
+        TOP_INT_CFG8::from(with(self.0, 0, 4, value))
     }
 
     pub fn RAPID_STOP_LIM(self) -> u8
         ensures { result ≡ get_at (parts_of "TOP_INT_CFG8") "RAPID_STOP_LIM" self.0 }
     {
-        get(
-            self.0,
-            TOP_INT_CFG8::RAPID_STOP_LIM_SHIFT,
-            TOP_INT_CFG8::RAPID_STOP_LIM_WIDTH,
-        )
+        let place = TOP_INT_CFG8::RAPID_STOP_LIM_PLACE;
+        get(self.0, place.shift, place.width)
     }
 
     pub fn with_RAPID_STOP_LIM(self, value: u8) -> Self
         ensures { result.0 ≡ with_at (parts_of "TOP_INT_CFG8") "RAPID_STOP_LIM" self.0 value }
     {
-        TOP_INT_CFG8(with(
-            self.0,
-            TOP_INT_CFG8::RAPID_STOP_LIM_SHIFT,
-            TOP_INT_CFG8::RAPID_STOP_LIM_WIDTH,
-            value,
-        ))
-    }
-}
-
-impl From<u8> for TOP_INT_CFG8 {
-    ghost from_gives = { λ bits register. register.0 ≡ bits };
-
-    fn from(bits: u8) -> Self {
-        TOP_INT_CFG8(bits)
-    }
-}
-
-impl From<TOP_INT_CFG8> for u8 {
-    ghost from_gives = { λ register bits. bits ≡ register.0 };
-
-    fn from(register: TOP_INT_CFG8) -> u8 {
-        register.0
+        let place = TOP_INT_CFG8::RAPID_STOP_LIM_PLACE;
+        TOP_INT_CFG8::from(with(self.0, place.shift, place.width, value))
     }
 }
 
 // TOP_CTL1 register (0x22).
-#[derive(Debug, Clone, Copy, PartialEq, Eq, Default)]
-pub struct TOP_CTL1(u8);
+pub type TOP_CTL1 = Byte<0x22>;
 
 impl TOP_CTL1 {
     // For updates of the byte that the chip holds: where the field starts, and how many bits it has.
-    pub const OPERATION_MODE_SHIFT: u8 = 0;
+    pub const OPERATION_MODE_PLACE: Place = Place { shift: 0, width: 3 };
 
-    pub const OPERATION_MODE_WIDTH: u8 = 3;
-
-    pub const SEQ_START_SHIFT: u8 = 4;
-
-    pub const SEQ_START_WIDTH: u8 = 1;
-
-    pub fn new() -> Self
-        ensures { result.0 ≡ 0 }
-    {
-        Self::default()
-    }
+    pub const SEQ_START_PLACE: Place = Place { shift: 4, width: 1 };
 
     pub fn OPERATION_MODE(self) -> u8
         ensures { result ≡ get_at (parts_of "TOP_CTL1") "OPERATION_MODE" self.0 }
     {
-        get(
-            self.0,
-            TOP_CTL1::OPERATION_MODE_SHIFT,
-            TOP_CTL1::OPERATION_MODE_WIDTH,
-        )
+        let place = TOP_CTL1::OPERATION_MODE_PLACE;
+        get(self.0, place.shift, place.width)
     }
 
     pub fn with_OPERATION_MODE(self, value: u8) -> Self
         ensures { result.0 ≡ with_at (parts_of "TOP_CTL1") "OPERATION_MODE" self.0 value }
     {
-        TOP_CTL1(with(
-            self.0,
-            TOP_CTL1::OPERATION_MODE_SHIFT,
-            TOP_CTL1::OPERATION_MODE_WIDTH,
-            value,
-        ))
+        let place = TOP_CTL1::OPERATION_MODE_PLACE;
+        TOP_CTL1::from(with(self.0, place.shift, place.width, value))
     }
 
     pub fn STANDBY_EN(self) -> bool
@@ -341,49 +205,26 @@ impl TOP_CTL1 {
     pub fn with_STANDBY_EN(self, on: bool) -> Self
         ensures { result.0 ≡ with_at (parts_of "TOP_CTL1") "STANDBY_EN" self.0 (code_of on) }
     {
-        TOP_CTL1(with_flag(self.0, 3, on))
+        TOP_CTL1::from(with_flag(self.0, 3, on))
     }
 
     pub fn SEQ_START(self) -> bool
         ensures { result ≡ is_at (parts_of "TOP_CTL1") "SEQ_START" self.0 }
     {
-        flag(self.0, TOP_CTL1::SEQ_START_SHIFT)
+        flag(self.0, TOP_CTL1::SEQ_START_PLACE.shift)
     }
 
     pub fn with_SEQ_START(self, on: bool) -> Self
         ensures { result.0 ≡ with_at (parts_of "TOP_CTL1") "SEQ_START" self.0 (code_of on) }
     {
-        TOP_CTL1(with_flag(self.0, TOP_CTL1::SEQ_START_SHIFT, on))
-    }
-}
-
-impl From<u8> for TOP_CTL1 {
-    ghost from_gives = { λ bits register. register.0 ≡ bits };
-
-    fn from(bits: u8) -> Self {
-        TOP_CTL1(bits)
-    }
-}
-
-impl From<TOP_CTL1> for u8 {
-    ghost from_gives = { λ register bits. bits ≡ register.0 };
-
-    fn from(register: TOP_CTL1) -> u8 {
-        register.0
+        TOP_CTL1::from(with_flag(self.0, TOP_CTL1::SEQ_START_PLACE.shift, on))
     }
 }
 
 // TOP_CTL2 register (0x23).
-#[derive(Debug, Clone, Copy, PartialEq, Eq, Default)]
-pub struct TOP_CTL2(u8);
+pub type TOP_CTL2 = Byte<0x23>;
 
 impl TOP_CTL2 {
-    pub fn new() -> Self
-        ensures { result.0 ≡ 0 }
-    {
-        Self::default()
-    }
-
     pub fn OVERRIDE_VAL(self) -> u8
         ensures { result ≡ get_at (parts_of "TOP_CTL2") "OVERRIDE_VAL" self.0 }
     {
@@ -393,41 +234,16 @@ impl TOP_CTL2 {
     pub fn with_OVERRIDE_VAL(self, value: u8) -> Self
         ensures { result.0 ≡ with_at (parts_of "TOP_CTL2") "OVERRIDE_VAL" self.0 value }
     {
-        TOP_CTL2(with(self.0, 0, 8, value))
-    }
-}
-
-impl From<u8> for TOP_CTL2 {
-    ghost from_gives = { λ bits register. register.0 ≡ bits };
-
-    fn from(bits: u8) -> Self {
-        TOP_CTL2(bits)
-    }
-}
-
-impl From<TOP_CTL2> for u8 {
-    ghost from_gives = { λ register bits. bits ≡ register.0 };
-
-    fn from(register: TOP_CTL2) -> u8 {
-        register.0
+        TOP_CTL2::from(with(self.0, 0, 8, value))
     }
 }
 
 // SEQ_CTL1 register (0x24).
-#[derive(Debug, Clone, Copy, PartialEq, Eq, Default)]
-pub struct SEQ_CTL1(u8);
+pub type SEQ_CTL1 = Byte<0x24>;
 
 impl SEQ_CTL1 {
     // For updates of the byte that the chip holds: where the field starts, and how many bits it has.
-    pub const FREQ_WAVEFORM_TIMEBASE_SHIFT: u8 = 2;
-
-    pub const FREQ_WAVEFORM_TIMEBASE_WIDTH: u8 = 1;
-
-    pub fn new() -> Self
-        ensures { result.0 ≡ 0 }
-    {
-        Self::default()
-    }
+    pub const FREQ_WAVEFORM_TIMEBASE_PLACE: Place = Place { shift: 2, width: 1 };
 
     pub fn SEQ_CONTINUE(self) -> bool
         ensures { result ≡ is_at (parts_of "SEQ_CTL1") "SEQ_CONTINUE" self.0 }
@@ -438,7 +254,7 @@ impl SEQ_CTL1 {
     pub fn with_SEQ_CONTINUE(self, on: bool) -> Self
         ensures { result.0 ≡ with_at (parts_of "SEQ_CTL1") "SEQ_CONTINUE" self.0 (code_of on) }
     {
-        SEQ_CTL1(with_flag(self.0, 0, on))
+        SEQ_CTL1::from(with_flag(self.0, 0, on))
     }
 
     pub fn WAVEGEN_MODE(self) -> bool
@@ -450,58 +266,28 @@ impl SEQ_CTL1 {
     pub fn with_WAVEGEN_MODE(self, on: bool) -> Self
         ensures { result.0 ≡ with_at (parts_of "SEQ_CTL1") "WAVEGEN_MODE" self.0 (code_of on) }
     {
-        SEQ_CTL1(with_flag(self.0, 1, on))
+        SEQ_CTL1::from(with_flag(self.0, 1, on))
     }
 
     pub fn FREQ_WAVEFORM_TIMEBASE(self) -> u8
         ensures { result ≡ get_at (parts_of "SEQ_CTL1") "FREQ_WAVEFORM_TIMEBASE" self.0 }
     {
-        get(
-            self.0,
-            SEQ_CTL1::FREQ_WAVEFORM_TIMEBASE_SHIFT,
-            SEQ_CTL1::FREQ_WAVEFORM_TIMEBASE_WIDTH,
-        )
+        let place = SEQ_CTL1::FREQ_WAVEFORM_TIMEBASE_PLACE;
+        get(self.0, place.shift, place.width)
     }
 
     pub fn with_FREQ_WAVEFORM_TIMEBASE(self, value: u8) -> Self
         ensures { result.0 ≡ with_at (parts_of "SEQ_CTL1") "FREQ_WAVEFORM_TIMEBASE" self.0 value }
     {
-        SEQ_CTL1(with(
-            self.0,
-            SEQ_CTL1::FREQ_WAVEFORM_TIMEBASE_SHIFT,
-            SEQ_CTL1::FREQ_WAVEFORM_TIMEBASE_WIDTH,
-            value,
-        ))
-    }
-}
-
-impl From<u8> for SEQ_CTL1 {
-    ghost from_gives = { λ bits register. register.0 ≡ bits };
-
-    fn from(bits: u8) -> Self {
-        SEQ_CTL1(bits)
-    }
-}
-
-impl From<SEQ_CTL1> for u8 {
-    ghost from_gives = { λ register bits. bits ≡ register.0 };
-
-    fn from(register: SEQ_CTL1) -> u8 {
-        register.0
+        let place = SEQ_CTL1::FREQ_WAVEFORM_TIMEBASE_PLACE;
+        SEQ_CTL1::from(with(self.0, place.shift, place.width, value))
     }
 }
 
 // SWG_C1 register (0x25).
-#[derive(Debug, Clone, Copy, PartialEq, Eq, Default)]
-pub struct SWG_C1(u8);
+pub type SWG_C1 = Byte<0x25>;
 
 impl SWG_C1 {
-    pub fn new() -> Self
-        ensures { result.0 ≡ 0 }
-    {
-        Self::default()
-    }
-
     pub fn CUSTOM_WAVE_GEN_COEFF1(self) -> u8
         ensures { result ≡ get_at (parts_of "SWG_C1") "CUSTOM_WAVE_GEN_COEFF1" self.0 }
     {
@@ -511,37 +297,14 @@ impl SWG_C1 {
     pub fn with_CUSTOM_WAVE_GEN_COEFF1(self, value: u8) -> Self
         ensures { result.0 ≡ with_at (parts_of "SWG_C1") "CUSTOM_WAVE_GEN_COEFF1" self.0 value }
     {
-        SWG_C1(with(self.0, 0, 8, value))
-    }
-}
-
-impl From<u8> for SWG_C1 {
-    ghost from_gives = { λ bits register. register.0 ≡ bits };
-
-    fn from(bits: u8) -> Self {
-        SWG_C1(bits)
-    }
-}
-
-impl From<SWG_C1> for u8 {
-    ghost from_gives = { λ register bits. bits ≡ register.0 };
-
-    fn from(register: SWG_C1) -> u8 {
-        register.0
+        SWG_C1::from(with(self.0, 0, 8, value))
     }
 }
 
 // SWG_C2 register (0x26).
-#[derive(Debug, Clone, Copy, PartialEq, Eq, Default)]
-pub struct SWG_C2(u8);
+pub type SWG_C2 = Byte<0x26>;
 
 impl SWG_C2 {
-    pub fn new() -> Self
-        ensures { result.0 ≡ 0 }
-    {
-        Self::default()
-    }
-
     pub fn CUSTOM_WAVE_GEN_COEFF2(self) -> u8
         ensures { result ≡ get_at (parts_of "SWG_C2") "CUSTOM_WAVE_GEN_COEFF2" self.0 }
     {
@@ -551,37 +314,14 @@ impl SWG_C2 {
     pub fn with_CUSTOM_WAVE_GEN_COEFF2(self, value: u8) -> Self
         ensures { result.0 ≡ with_at (parts_of "SWG_C2") "CUSTOM_WAVE_GEN_COEFF2" self.0 value }
     {
-        SWG_C2(with(self.0, 0, 8, value))
-    }
-}
-
-impl From<u8> for SWG_C2 {
-    ghost from_gives = { λ bits register. register.0 ≡ bits };
-
-    fn from(bits: u8) -> Self {
-        SWG_C2(bits)
-    }
-}
-
-impl From<SWG_C2> for u8 {
-    ghost from_gives = { λ register bits. bits ≡ register.0 };
-
-    fn from(register: SWG_C2) -> u8 {
-        register.0
+        SWG_C2::from(with(self.0, 0, 8, value))
     }
 }
 
 // SWG_C3 register (0x27).
-#[derive(Debug, Clone, Copy, PartialEq, Eq, Default)]
-pub struct SWG_C3(u8);
+pub type SWG_C3 = Byte<0x27>;
 
 impl SWG_C3 {
-    pub fn new() -> Self
-        ensures { result.0 ≡ 0 }
-    {
-        Self::default()
-    }
-
     pub fn CUSTOM_WAVE_GEN_COEFF3(self) -> u8
         ensures { result ≡ get_at (parts_of "SWG_C3") "CUSTOM_WAVE_GEN_COEFF3" self.0 }
     {
@@ -591,23 +331,7 @@ impl SWG_C3 {
     pub fn with_CUSTOM_WAVE_GEN_COEFF3(self, value: u8) -> Self
         ensures { result.0 ≡ with_at (parts_of "SWG_C3") "CUSTOM_WAVE_GEN_COEFF3" self.0 value }
     {
-        SWG_C3(with(self.0, 0, 8, value))
-    }
-}
-
-impl From<u8> for SWG_C3 {
-    ghost from_gives = { λ bits register. register.0 ≡ bits };
-
-    fn from(bits: u8) -> Self {
-        SWG_C3(bits)
-    }
-}
-
-impl From<SWG_C3> for u8 {
-    ghost from_gives = { λ register bits. bits ≡ register.0 };
-
-    fn from(register: SWG_C3) -> u8 {
-        register.0
+        SWG_C3::from(with(self.0, 0, 8, value))
     }
 }
 

@@ -1,10 +1,10 @@
-// The registers of the chip's revision and of its interrupts: CHIP_REV to IRQ_MASK1 of registers.rs, document 01, "Settings
-// to registers". A register is a byte: `new` is zero, and both `From` keep every bit; the method of a field's name reads the
+// The registers of the chip's revision and of its interrupts: CHIP_REV to IRQ_MASK1 of registers.rs, document 01, "Settings to
+// registers". A register is a `Byte`: `new` is zero, and both `From` keep every bit; the method of a field's name reads the
 // field, and `with_` before the name alters it; the two fields of CHIP_REV are read-only and have no `with_`. Proved: each
 // method's result, by the field's name in registers/specs/Table.antt, which has the names and widths of the Rust in the
-// written order; `fields` and `replaced` list what all the getters and all the `with_` make of one byte, and equal
-// definitions that go through the table part by part. Left out: what else the attribute `bitfield` makes, such as `set_`
-// methods; `Debug` prints the byte, not the fields.
+// written order; `fields` and `replaced` list what all the getters and all the `with_` make of one byte, and equal definitions
+// that go through the table part by part. Left out: what else the attribute `bitfield` makes, such as `set_` methods; `Debug`
+// prints the byte, not the fields.
 #![tactic(auto)]
 
 ghost use Rattle.std.specs.Prelude.{◌≡◌};
@@ -14,17 +14,39 @@ ghost use Rattle.registers.specs.Table.{interrupts, read_only, parts_of};
 
 use field::{flag, get, with_flag};
 
-// Chip revision register.
+// The byte of a register, of a type that its address makes its own. One in each of the four crates, as the language has a type's
+// methods in the type's crate.
 #[derive(Debug, Clone, Copy, PartialEq, Eq, Default)]
-pub struct CHIP_REV(u8);
+pub struct Byte<const ADDRESS: u8>(u8);
 
-impl CHIP_REV {
+impl<const ADDRESS: u8> Byte<ADDRESS> {
     pub fn new() -> Self
         ensures { result.0 ≡ 0 }
     {
         Self::default()
     }
+}
 
+impl<const ADDRESS: u8> From<u8> for Byte<ADDRESS> {
+    ghost from_gives = { λ bits register. register.0 ≡ bits };
+
+    fn from(bits: u8) -> Self {
+        Byte(bits)
+    }
+}
+
+impl<const ADDRESS: u8> From<Byte<ADDRESS>> for u8 {
+    ghost from_gives = { λ register bits. bits ≡ register.0 };
+
+    fn from(register: Byte<ADDRESS>) -> u8 {
+        register.0
+    }
+}
+
+// Chip revision register.
+pub type CHIP_REV = Byte<0x00>;
+
+impl CHIP_REV {
     pub fn CHIP_REV_MAJOR(self) -> u8
         ensures { result ≡ get_at (parts_of "CHIP_REV") "CHIP_REV_MAJOR" self.0 }
     {
@@ -38,33 +60,10 @@ impl CHIP_REV {
     }
 }
 
-impl From<u8> for CHIP_REV {
-    ghost from_gives = { λ bits register. register.0 ≡ bits };
-
-    fn from(bits: u8) -> Self {
-        CHIP_REV(bits)
-    }
-}
-
-impl From<CHIP_REV> for u8 {
-    ghost from_gives = { λ register bits. bits ≡ register.0 };
-
-    fn from(register: CHIP_REV) -> u8 {
-        register.0
-    }
-}
-
 // IRQ Event 1 register (0x03).
-#[derive(Debug, Clone, Copy, PartialEq, Eq, Default)]
-pub struct IRQ_EVENT1(u8);
+pub type IRQ_EVENT1 = Byte<0x03>;
 
 impl IRQ_EVENT1 {
-    pub fn new() -> Self
-        ensures { result.0 ≡ 0 }
-    {
-        Self::default()
-    }
-
     pub fn E_SEQ_CONTINUE(self) -> bool
         ensures { result ≡ is_at (parts_of "IRQ_EVENT1") "E_SEQ_CONTINUE" self.0 }
     {
@@ -74,7 +73,7 @@ impl IRQ_EVENT1 {
     pub fn with_E_SEQ_CONTINUE(self, on: bool) -> Self
         ensures { result.0 ≡ with_at (parts_of "IRQ_EVENT1") "E_SEQ_CONTINUE" self.0 (code_of on) }
     {
-        IRQ_EVENT1(with_flag(self.0, 0, on))
+        IRQ_EVENT1::from(with_flag(self.0, 0, on))
     }
 
     pub fn E_UVLO(self) -> bool
@@ -86,7 +85,7 @@ impl IRQ_EVENT1 {
     pub fn with_E_UVLO(self, on: bool) -> Self
         ensures { result.0 ≡ with_at (parts_of "IRQ_EVENT1") "E_UVLO" self.0 (code_of on) }
     {
-        IRQ_EVENT1(with_flag(self.0, 1, on))
+        IRQ_EVENT1::from(with_flag(self.0, 1, on))
     }
 
     pub fn E_SEQ_DONE(self) -> bool
@@ -98,7 +97,7 @@ impl IRQ_EVENT1 {
     pub fn with_E_SEQ_DONE(self, on: bool) -> Self
         ensures { result.0 ≡ with_at (parts_of "IRQ_EVENT1") "E_SEQ_DONE" self.0 (code_of on) }
     {
-        IRQ_EVENT1(with_flag(self.0, 2, on))
+        IRQ_EVENT1::from(with_flag(self.0, 2, on))
     }
 
     pub fn E_OVERTEMP_CRIT(self) -> bool
@@ -110,7 +109,7 @@ impl IRQ_EVENT1 {
     pub fn with_E_OVERTEMP_CRIT(self, on: bool) -> Self
         ensures { result.0 ≡ with_at (parts_of "IRQ_EVENT1") "E_OVERTEMP_CRIT" self.0 (code_of on) }
     {
-        IRQ_EVENT1(with_flag(self.0, 3, on))
+        IRQ_EVENT1::from(with_flag(self.0, 3, on))
     }
 
     pub fn E_SEQ_FAULT(self) -> bool
@@ -122,7 +121,7 @@ impl IRQ_EVENT1 {
     pub fn with_E_SEQ_FAULT(self, on: bool) -> Self
         ensures { result.0 ≡ with_at (parts_of "IRQ_EVENT1") "E_SEQ_FAULT" self.0 (code_of on) }
     {
-        IRQ_EVENT1(with_flag(self.0, 4, on))
+        IRQ_EVENT1::from(with_flag(self.0, 4, on))
     }
 
     pub fn E_WARNING(self) -> bool
@@ -134,7 +133,7 @@ impl IRQ_EVENT1 {
     pub fn with_E_WARNING(self, on: bool) -> Self
         ensures { result.0 ≡ with_at (parts_of "IRQ_EVENT1") "E_WARNING" self.0 (code_of on) }
     {
-        IRQ_EVENT1(with_flag(self.0, 5, on))
+        IRQ_EVENT1::from(with_flag(self.0, 5, on))
     }
 
     pub fn E_ACTUATOR_FAULT(self) -> bool
@@ -146,7 +145,7 @@ impl IRQ_EVENT1 {
     pub fn with_E_ACTUATOR_FAULT(self, on: bool) -> Self
         ensures { result.0 ≡ with_at (parts_of "IRQ_EVENT1") "E_ACTUATOR_FAULT" self.0 (code_of on) }
     {
-        IRQ_EVENT1(with_flag(self.0, 6, on))
+        IRQ_EVENT1::from(with_flag(self.0, 6, on))
     }
 
     pub fn E_OC_FAULT(self) -> bool
@@ -158,37 +157,14 @@ impl IRQ_EVENT1 {
     pub fn with_E_OC_FAULT(self, on: bool) -> Self
         ensures { result.0 ≡ with_at (parts_of "IRQ_EVENT1") "E_OC_FAULT" self.0 (code_of on) }
     {
-        IRQ_EVENT1(with_flag(self.0, 7, on))
-    }
-}
-
-impl From<u8> for IRQ_EVENT1 {
-    ghost from_gives = { λ bits register. register.0 ≡ bits };
-
-    fn from(bits: u8) -> Self {
-        IRQ_EVENT1(bits)
-    }
-}
-
-impl From<IRQ_EVENT1> for u8 {
-    ghost from_gives = { λ register bits. bits ≡ register.0 };
-
-    fn from(register: IRQ_EVENT1) -> u8 {
-        register.0
+        IRQ_EVENT1::from(with_flag(self.0, 7, on))
     }
 }
 
 // IRQ Event Warning Diag register (0x04).
-#[derive(Debug, Clone, Copy, PartialEq, Eq, Default)]
-pub struct IRQ_EVENT_WARNING_DIAG(u8);
+pub type IRQ_EVENT_WARNING_DIAG = Byte<0x04>;
 
 impl IRQ_EVENT_WARNING_DIAG {
-    pub fn new() -> Self
-        ensures { result.0 ≡ 0 }
-    {
-        Self::default()
-    }
-
     pub fn E_OVERTEMP_WARN(self) -> bool
         ensures { result ≡ is_at (parts_of "IRQ_EVENT_WARNING_DIAG") "E_OVERTEMP_WARN" self.0 }
     {
@@ -198,7 +174,7 @@ impl IRQ_EVENT_WARNING_DIAG {
     pub fn with_E_OVERTEMP_WARN(self, on: bool) -> Self
         ensures { result.0 ≡ with_at (parts_of "IRQ_EVENT_WARNING_DIAG") "E_OVERTEMP_WARN" self.0 (code_of on) }
     {
-        IRQ_EVENT_WARNING_DIAG(with_flag(self.0, 3, on))
+        IRQ_EVENT_WARNING_DIAG::from(with_flag(self.0, 3, on))
     }
 
     pub fn E_MEM_TYPE(self) -> bool
@@ -210,7 +186,7 @@ impl IRQ_EVENT_WARNING_DIAG {
     pub fn with_E_MEM_TYPE(self, on: bool) -> Self
         ensures { result.0 ≡ with_at (parts_of "IRQ_EVENT_WARNING_DIAG") "E_MEM_TYPE" self.0 (code_of on) }
     {
-        IRQ_EVENT_WARNING_DIAG(with_flag(self.0, 4, on))
+        IRQ_EVENT_WARNING_DIAG::from(with_flag(self.0, 4, on))
     }
 
     pub fn E_LIM_DRIVE_ACC(self) -> bool
@@ -222,7 +198,7 @@ impl IRQ_EVENT_WARNING_DIAG {
     pub fn with_E_LIM_DRIVE_ACC(self, on: bool) -> Self
         ensures { result.0 ≡ with_at (parts_of "IRQ_EVENT_WARNING_DIAG") "E_LIM_DRIVE_ACC" self.0 (code_of on) }
     {
-        IRQ_EVENT_WARNING_DIAG(with_flag(self.0, 6, on))
+        IRQ_EVENT_WARNING_DIAG::from(with_flag(self.0, 6, on))
     }
 
     pub fn E_LIM_DRIVE(self) -> bool
@@ -234,37 +210,14 @@ impl IRQ_EVENT_WARNING_DIAG {
     pub fn with_E_LIM_DRIVE(self, on: bool) -> Self
         ensures { result.0 ≡ with_at (parts_of "IRQ_EVENT_WARNING_DIAG") "E_LIM_DRIVE" self.0 (code_of on) }
     {
-        IRQ_EVENT_WARNING_DIAG(with_flag(self.0, 7, on))
-    }
-}
-
-impl From<u8> for IRQ_EVENT_WARNING_DIAG {
-    ghost from_gives = { λ bits register. register.0 ≡ bits };
-
-    fn from(bits: u8) -> Self {
-        IRQ_EVENT_WARNING_DIAG(bits)
-    }
-}
-
-impl From<IRQ_EVENT_WARNING_DIAG> for u8 {
-    ghost from_gives = { λ register bits. bits ≡ register.0 };
-
-    fn from(register: IRQ_EVENT_WARNING_DIAG) -> u8 {
-        register.0
+        IRQ_EVENT_WARNING_DIAG::from(with_flag(self.0, 7, on))
     }
 }
 
 // IRQ Event Sequence Diag register (0x05).
-#[derive(Debug, Clone, Copy, PartialEq, Eq, Default)]
-pub struct IRQ_EVENT_SEQ_DIAG(u8);
+pub type IRQ_EVENT_SEQ_DIAG = Byte<0x05>;
 
 impl IRQ_EVENT_SEQ_DIAG {
-    pub fn new() -> Self
-        ensures { result.0 ≡ 0 }
-    {
-        Self::default()
-    }
-
     pub fn E_PWM_FAULT(self) -> bool
         ensures { result ≡ is_at (parts_of "IRQ_EVENT_SEQ_DIAG") "E_PWM_FAULT" self.0 }
     {
@@ -274,7 +227,7 @@ impl IRQ_EVENT_SEQ_DIAG {
     pub fn with_E_PWM_FAULT(self, on: bool) -> Self
         ensures { result.0 ≡ with_at (parts_of "IRQ_EVENT_SEQ_DIAG") "E_PWM_FAULT" self.0 (code_of on) }
     {
-        IRQ_EVENT_SEQ_DIAG(with_flag(self.0, 5, on))
+        IRQ_EVENT_SEQ_DIAG::from(with_flag(self.0, 5, on))
     }
 
     pub fn E_MEM_FAULT(self) -> bool
@@ -286,7 +239,7 @@ impl IRQ_EVENT_SEQ_DIAG {
     pub fn with_E_MEM_FAULT(self, on: bool) -> Self
         ensures { result.0 ≡ with_at (parts_of "IRQ_EVENT_SEQ_DIAG") "E_MEM_FAULT" self.0 (code_of on) }
     {
-        IRQ_EVENT_SEQ_DIAG(with_flag(self.0, 6, on))
+        IRQ_EVENT_SEQ_DIAG::from(with_flag(self.0, 6, on))
     }
 
     pub fn E_SEQ_ID_FAULT(self) -> bool
@@ -298,37 +251,14 @@ impl IRQ_EVENT_SEQ_DIAG {
     pub fn with_E_SEQ_ID_FAULT(self, on: bool) -> Self
         ensures { result.0 ≡ with_at (parts_of "IRQ_EVENT_SEQ_DIAG") "E_SEQ_ID_FAULT" self.0 (code_of on) }
     {
-        IRQ_EVENT_SEQ_DIAG(with_flag(self.0, 7, on))
-    }
-}
-
-impl From<u8> for IRQ_EVENT_SEQ_DIAG {
-    ghost from_gives = { λ bits register. register.0 ≡ bits };
-
-    fn from(bits: u8) -> Self {
-        IRQ_EVENT_SEQ_DIAG(bits)
-    }
-}
-
-impl From<IRQ_EVENT_SEQ_DIAG> for u8 {
-    ghost from_gives = { λ register bits. bits ≡ register.0 };
-
-    fn from(register: IRQ_EVENT_SEQ_DIAG) -> u8 {
-        register.0
+        IRQ_EVENT_SEQ_DIAG::from(with_flag(self.0, 7, on))
     }
 }
 
 // IRQ Status 1 register (0x06).
-#[derive(Debug, Clone, Copy, PartialEq, Eq, Default)]
-pub struct IRQ_STATUS1(u8);
+pub type IRQ_STATUS1 = Byte<0x06>;
 
 impl IRQ_STATUS1 {
-    pub fn new() -> Self
-        ensures { result.0 ≡ 0 }
-    {
-        Self::default()
-    }
-
     pub fn STA_SEQ_CONTINUE(self) -> bool
         ensures { result ≡ is_at (parts_of "IRQ_STATUS1") "STA_SEQ_CONTINUE" self.0 }
     {
@@ -338,7 +268,7 @@ impl IRQ_STATUS1 {
     pub fn with_STA_SEQ_CONTINUE(self, on: bool) -> Self
         ensures { result.0 ≡ with_at (parts_of "IRQ_STATUS1") "STA_SEQ_CONTINUE" self.0 (code_of on) }
     {
-        IRQ_STATUS1(with_flag(self.0, 0, on))
+        IRQ_STATUS1::from(with_flag(self.0, 0, on))
     }
 
     pub fn STA_UVLO_VBAT_OK(self) -> bool
@@ -350,7 +280,7 @@ impl IRQ_STATUS1 {
     pub fn with_STA_UVLO_VBAT_OK(self, on: bool) -> Self
         ensures { result.0 ≡ with_at (parts_of "IRQ_STATUS1") "STA_UVLO_VBAT_OK" self.0 (code_of on) }
     {
-        IRQ_STATUS1(with_flag(self.0, 1, on))
+        IRQ_STATUS1::from(with_flag(self.0, 1, on))
     }
 
     pub fn STA_SEQ_DONE(self) -> bool
@@ -362,7 +292,7 @@ impl IRQ_STATUS1 {
     pub fn with_STA_SEQ_DONE(self, on: bool) -> Self
         ensures { result.0 ≡ with_at (parts_of "IRQ_STATUS1") "STA_SEQ_DONE" self.0 (code_of on) }
     {
-        IRQ_STATUS1(with_flag(self.0, 2, on))
+        IRQ_STATUS1::from(with_flag(self.0, 2, on))
     }
 
     pub fn STA_OVERTEMP_CRIT(self) -> bool
@@ -374,7 +304,7 @@ impl IRQ_STATUS1 {
     pub fn with_STA_OVERTEMP_CRIT(self, on: bool) -> Self
         ensures { result.0 ≡ with_at (parts_of "IRQ_STATUS1") "STA_OVERTEMP_CRIT" self.0 (code_of on) }
     {
-        IRQ_STATUS1(with_flag(self.0, 3, on))
+        IRQ_STATUS1::from(with_flag(self.0, 3, on))
     }
 
     pub fn STA_SEQ_FAULT(self) -> bool
@@ -386,7 +316,7 @@ impl IRQ_STATUS1 {
     pub fn with_STA_SEQ_FAULT(self, on: bool) -> Self
         ensures { result.0 ≡ with_at (parts_of "IRQ_STATUS1") "STA_SEQ_FAULT" self.0 (code_of on) }
     {
-        IRQ_STATUS1(with_flag(self.0, 4, on))
+        IRQ_STATUS1::from(with_flag(self.0, 4, on))
     }
 
     pub fn STA_WARNING(self) -> bool
@@ -398,7 +328,7 @@ impl IRQ_STATUS1 {
     pub fn with_STA_WARNING(self, on: bool) -> Self
         ensures { result.0 ≡ with_at (parts_of "IRQ_STATUS1") "STA_WARNING" self.0 (code_of on) }
     {
-        IRQ_STATUS1(with_flag(self.0, 5, on))
+        IRQ_STATUS1::from(with_flag(self.0, 5, on))
     }
 
     pub fn STA_ACTUATOR(self) -> bool
@@ -410,7 +340,7 @@ impl IRQ_STATUS1 {
     pub fn with_STA_ACTUATOR(self, on: bool) -> Self
         ensures { result.0 ≡ with_at (parts_of "IRQ_STATUS1") "STA_ACTUATOR" self.0 (code_of on) }
     {
-        IRQ_STATUS1(with_flag(self.0, 6, on))
+        IRQ_STATUS1::from(with_flag(self.0, 6, on))
     }
 
     pub fn STA_OC(self) -> bool
@@ -422,37 +352,14 @@ impl IRQ_STATUS1 {
     pub fn with_STA_OC(self, on: bool) -> Self
         ensures { result.0 ≡ with_at (parts_of "IRQ_STATUS1") "STA_OC" self.0 (code_of on) }
     {
-        IRQ_STATUS1(with_flag(self.0, 7, on))
-    }
-}
-
-impl From<u8> for IRQ_STATUS1 {
-    ghost from_gives = { λ bits register. register.0 ≡ bits };
-
-    fn from(bits: u8) -> Self {
-        IRQ_STATUS1(bits)
-    }
-}
-
-impl From<IRQ_STATUS1> for u8 {
-    ghost from_gives = { λ register bits. bits ≡ register.0 };
-
-    fn from(register: IRQ_STATUS1) -> u8 {
-        register.0
+        IRQ_STATUS1::from(with_flag(self.0, 7, on))
     }
 }
 
 // IRQ Mask 1 register (0x07).
-#[derive(Debug, Clone, Copy, PartialEq, Eq, Default)]
-pub struct IRQ_MASK1(u8);
+pub type IRQ_MASK1 = Byte<0x07>;
 
 impl IRQ_MASK1 {
-    pub fn new() -> Self
-        ensures { result.0 ≡ 0 }
-    {
-        Self::default()
-    }
-
     pub fn SEQ_CONTINUE_M(self) -> bool
         ensures { result ≡ is_at (parts_of "IRQ_MASK1") "SEQ_CONTINUE_M" self.0 }
     {
@@ -462,7 +369,7 @@ impl IRQ_MASK1 {
     pub fn with_SEQ_CONTINUE_M(self, on: bool) -> Self
         ensures { result.0 ≡ with_at (parts_of "IRQ_MASK1") "SEQ_CONTINUE_M" self.0 (code_of on) }
     {
-        IRQ_MASK1(with_flag(self.0, 0, on))
+        IRQ_MASK1::from(with_flag(self.0, 0, on))
     }
 
     pub fn E_UVLO_M(self) -> bool
@@ -474,7 +381,7 @@ impl IRQ_MASK1 {
     pub fn with_E_UVLO_M(self, on: bool) -> Self
         ensures { result.0 ≡ with_at (parts_of "IRQ_MASK1") "E_UVLO_M" self.0 (code_of on) }
     {
-        IRQ_MASK1(with_flag(self.0, 1, on))
+        IRQ_MASK1::from(with_flag(self.0, 1, on))
     }
 
     pub fn SEQ_DONE_M(self) -> bool
@@ -486,7 +393,7 @@ impl IRQ_MASK1 {
     pub fn with_SEQ_DONE_M(self, on: bool) -> Self
         ensures { result.0 ≡ with_at (parts_of "IRQ_MASK1") "SEQ_DONE_M" self.0 (code_of on) }
     {
-        IRQ_MASK1(with_flag(self.0, 2, on))
+        IRQ_MASK1::from(with_flag(self.0, 2, on))
     }
 
     pub fn OVERTEMP_CRIT_M(self) -> bool
@@ -498,7 +405,7 @@ impl IRQ_MASK1 {
     pub fn with_OVERTEMP_CRIT_M(self, on: bool) -> Self
         ensures { result.0 ≡ with_at (parts_of "IRQ_MASK1") "OVERTEMP_CRIT_M" self.0 (code_of on) }
     {
-        IRQ_MASK1(with_flag(self.0, 3, on))
+        IRQ_MASK1::from(with_flag(self.0, 3, on))
     }
 
     pub fn SEQ_FAULT_M(self) -> bool
@@ -510,7 +417,7 @@ impl IRQ_MASK1 {
     pub fn with_SEQ_FAULT_M(self, on: bool) -> Self
         ensures { result.0 ≡ with_at (parts_of "IRQ_MASK1") "SEQ_FAULT_M" self.0 (code_of on) }
     {
-        IRQ_MASK1(with_flag(self.0, 4, on))
+        IRQ_MASK1::from(with_flag(self.0, 4, on))
     }
 
     pub fn WARNING_M(self) -> bool
@@ -522,7 +429,7 @@ impl IRQ_MASK1 {
     pub fn with_WARNING_M(self, on: bool) -> Self
         ensures { result.0 ≡ with_at (parts_of "IRQ_MASK1") "WARNING_M" self.0 (code_of on) }
     {
-        IRQ_MASK1(with_flag(self.0, 5, on))
+        IRQ_MASK1::from(with_flag(self.0, 5, on))
     }
 
     pub fn ACTUATOR_M(self) -> bool
@@ -534,7 +441,7 @@ impl IRQ_MASK1 {
     pub fn with_ACTUATOR_M(self, on: bool) -> Self
         ensures { result.0 ≡ with_at (parts_of "IRQ_MASK1") "ACTUATOR_M" self.0 (code_of on) }
     {
-        IRQ_MASK1(with_flag(self.0, 6, on))
+        IRQ_MASK1::from(with_flag(self.0, 6, on))
     }
 
     pub fn OC_M(self) -> bool
@@ -546,23 +453,7 @@ impl IRQ_MASK1 {
     pub fn with_OC_M(self, on: bool) -> Self
         ensures { result.0 ≡ with_at (parts_of "IRQ_MASK1") "OC_M" self.0 (code_of on) }
     {
-        IRQ_MASK1(with_flag(self.0, 7, on))
-    }
-}
-
-impl From<u8> for IRQ_MASK1 {
-    ghost from_gives = { λ bits register. register.0 ≡ bits };
-
-    fn from(bits: u8) -> Self {
-        IRQ_MASK1(bits)
-    }
-}
-
-impl From<IRQ_MASK1> for u8 {
-    ghost from_gives = { λ register bits. bits ≡ register.0 };
-
-    fn from(register: IRQ_MASK1) -> u8 {
-        register.0
+        IRQ_MASK1::from(with_flag(self.0, 7, on))
     }
 }
 

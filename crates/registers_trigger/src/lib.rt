@@ -1,11 +1,11 @@
 // The registers of sequences, triggers, the waveform memory and trims: SEQ_CTL2 to IRQ_MASK2 of registers.rs, document 01,
-// "Settings to registers". A register is a byte: `new` is zero, and both `From` keep every bit; the method of a field's name
+// "Settings to registers". A register is a `Byte`: `new` is zero, and both `From` keep every bit; the method of a field's name
 // reads the field, and `with_` before the name alters it; WAV_MEM_BASE_ADDR is read-only and has no `with_`. The three GPI
 // registers keep their own types, whose fields' names have the register's digit, and share the trait `Gpi`. Proved: each
 // method's result, by the field's name in registers/specs/Table.antt, which has the names and widths of the Rust in the
-// written order; `fields` and `replaced` list what all the getters and all the `with_` make of one byte, and equal
-// definitions that go through the table part by part. Left out: what else the attribute `bitfield` makes, such as `set_`
-// methods; `Debug` prints the byte, not the fields.
+// written order; `fields` and `replaced` list what all the getters and all the `with_` make of one byte, and equal definitions
+// that go through the table part by part. Left out: what else the attribute `bitfield` makes, such as `set_` methods; `Debug`
+// prints the byte, not the fields.
 #![tactic(auto)]
 
 ghost use Rattle.std.specs.Prelude.{◌≡◌};
@@ -17,17 +17,39 @@ ghost use Rattle.registers_trigger.specs.Gpi.{Digit, gpi_name, gpi_with};
 use field::{flag, get, with, with_flag};
 use registers::Register;
 
-// SEQ_CTL2 register (0x28).
+// The byte of a register, of a type that its address makes its own. One in each of the four crates, as the language has a type's
+// methods in the type's crate.
 #[derive(Debug, Clone, Copy, PartialEq, Eq, Default)]
-pub struct SEQ_CTL2(u8);
+pub struct Byte<const ADDRESS: u8>(u8);
 
-impl SEQ_CTL2 {
+impl<const ADDRESS: u8> Byte<ADDRESS> {
     pub fn new() -> Self
         ensures { result.0 ≡ 0 }
     {
         Self::default()
     }
+}
 
+impl<const ADDRESS: u8> From<u8> for Byte<ADDRESS> {
+    ghost from_gives = { λ bits register. register.0 ≡ bits };
+
+    fn from(bits: u8) -> Self {
+        Byte(bits)
+    }
+}
+
+impl<const ADDRESS: u8> From<Byte<ADDRESS>> for u8 {
+    ghost from_gives = { λ register bits. bits ≡ register.0 };
+
+    fn from(register: Byte<ADDRESS>) -> u8 {
+        register.0
+    }
+}
+
+// SEQ_CTL2 register (0x28).
+pub type SEQ_CTL2 = Byte<0x28>;
+
+impl SEQ_CTL2 {
     pub fn PS_SEQ_ID(self) -> u8
         ensures { result ≡ get_at (parts_of "SEQ_CTL2") "PS_SEQ_ID" self.0 }
     {
@@ -37,7 +59,7 @@ impl SEQ_CTL2 {
     pub fn with_PS_SEQ_ID(self, value: u8) -> Self
         ensures { result.0 ≡ with_at (parts_of "SEQ_CTL2") "PS_SEQ_ID" self.0 value }
     {
-        SEQ_CTL2(with(self.0, 0, 4, value))
+        SEQ_CTL2::from(with(self.0, 0, 4, value))
     }
 
     pub fn PS_SEQ_LOOP(self) -> u8
@@ -49,23 +71,7 @@ impl SEQ_CTL2 {
     pub fn with_PS_SEQ_LOOP(self, value: u8) -> Self
         ensures { result.0 ≡ with_at (parts_of "SEQ_CTL2") "PS_SEQ_LOOP" self.0 value }
     {
-        SEQ_CTL2(with(self.0, 4, 4, value))
-    }
-}
-
-impl From<u8> for SEQ_CTL2 {
-    ghost from_gives = { λ bits register. register.0 ≡ bits };
-
-    fn from(bits: u8) -> Self {
-        SEQ_CTL2(bits)
-    }
-}
-
-impl From<SEQ_CTL2> for u8 {
-    ghost from_gives = { λ register bits. bits ≡ register.0 };
-
-    fn from(register: SEQ_CTL2) -> u8 {
-        register.0
+        SEQ_CTL2::from(with(self.0, 4, 4, value))
     }
 }
 
@@ -83,16 +89,9 @@ pub trait Gpi {
 }
 
 // GPI0 Control register (0x29).
-#[derive(Debug, Clone, Copy, PartialEq, Eq, Default)]
-pub struct GPI_0_CTL(u8);
+pub type GPI_0_CTL = Byte<0x29>;
 
 impl GPI_0_CTL {
-    pub fn new() -> Self
-        ensures { result.0 ≡ 0 }
-    {
-        Self::default()
-    }
-
     pub fn GPI0_POLARITY(self) -> u8
         ensures { result ≡ get_at (parts_of "GPI_0_CTL") "GPI0_POLARITY" self.0 }
     {
@@ -102,7 +101,7 @@ impl GPI_0_CTL {
     pub fn with_GPI0_POLARITY(self, value: u8) -> Self
         ensures { result.0 ≡ with_at (parts_of "GPI_0_CTL") "GPI0_POLARITY" self.0 value }
     {
-        GPI_0_CTL(with(self.0, 0, 2, value))
+        GPI_0_CTL::from(with(self.0, 0, 2, value))
     }
 
     pub fn GPI0_MODE(self) -> bool
@@ -114,7 +113,7 @@ impl GPI_0_CTL {
     pub fn with_GPI0_MODE(self, on: bool) -> Self
         ensures { result.0 ≡ with_at (parts_of "GPI_0_CTL") "GPI0_MODE" self.0 (code_of on) }
     {
-        GPI_0_CTL(with_flag(self.0, 2, on))
+        GPI_0_CTL::from(with_flag(self.0, 2, on))
     }
 
     pub fn GPI0_SEQUENCE_ID(self) -> u8
@@ -126,23 +125,7 @@ impl GPI_0_CTL {
     pub fn with_GPI0_SEQUENCE_ID(self, value: u8) -> Self
         ensures { result.0 ≡ with_at (parts_of "GPI_0_CTL") "GPI0_SEQUENCE_ID" self.0 value }
     {
-        GPI_0_CTL(with(self.0, 3, 4, value))
-    }
-}
-
-impl From<u8> for GPI_0_CTL {
-    ghost from_gives = { λ bits register. register.0 ≡ bits };
-
-    fn from(bits: u8) -> Self {
-        GPI_0_CTL(bits)
-    }
-}
-
-impl From<GPI_0_CTL> for u8 {
-    ghost from_gives = { λ register bits. bits ≡ register.0 };
-
-    fn from(register: GPI_0_CTL) -> u8 {
-        register.0
+        GPI_0_CTL::from(with(self.0, 3, 4, value))
     }
 }
 
@@ -163,16 +146,9 @@ impl Gpi for GPI_0_CTL {
 }
 
 // GPI1 Control register (0x2A).
-#[derive(Debug, Clone, Copy, PartialEq, Eq, Default)]
-pub struct GPI_1_CTL(u8);
+pub type GPI_1_CTL = Byte<0x2A>;
 
 impl GPI_1_CTL {
-    pub fn new() -> Self
-        ensures { result.0 ≡ 0 }
-    {
-        Self::default()
-    }
-
     pub fn GPI1_POLARITY(self) -> u8
         ensures { result ≡ get_at (parts_of "GPI_1_CTL") "GPI1_POLARITY" self.0 }
     {
@@ -182,7 +158,7 @@ impl GPI_1_CTL {
     pub fn with_GPI1_POLARITY(self, value: u8) -> Self
         ensures { result.0 ≡ with_at (parts_of "GPI_1_CTL") "GPI1_POLARITY" self.0 value }
     {
-        GPI_1_CTL(with(self.0, 0, 2, value))
+        GPI_1_CTL::from(with(self.0, 0, 2, value))
     }
 
     pub fn GPI1_MODE(self) -> bool
@@ -194,7 +170,7 @@ impl GPI_1_CTL {
     pub fn with_GPI1_MODE(self, on: bool) -> Self
         ensures { result.0 ≡ with_at (parts_of "GPI_1_CTL") "GPI1_MODE" self.0 (code_of on) }
     {
-        GPI_1_CTL(with_flag(self.0, 2, on))
+        GPI_1_CTL::from(with_flag(self.0, 2, on))
     }
 
     pub fn GPI1_SEQUENCE_ID(self) -> u8
@@ -206,23 +182,7 @@ impl GPI_1_CTL {
     pub fn with_GPI1_SEQUENCE_ID(self, value: u8) -> Self
         ensures { result.0 ≡ with_at (parts_of "GPI_1_CTL") "GPI1_SEQUENCE_ID" self.0 value }
     {
-        GPI_1_CTL(with(self.0, 3, 4, value))
-    }
-}
-
-impl From<u8> for GPI_1_CTL {
-    ghost from_gives = { λ bits register. register.0 ≡ bits };
-
-    fn from(bits: u8) -> Self {
-        GPI_1_CTL(bits)
-    }
-}
-
-impl From<GPI_1_CTL> for u8 {
-    ghost from_gives = { λ register bits. bits ≡ register.0 };
-
-    fn from(register: GPI_1_CTL) -> u8 {
-        register.0
+        GPI_1_CTL::from(with(self.0, 3, 4, value))
     }
 }
 
@@ -243,16 +203,9 @@ impl Gpi for GPI_1_CTL {
 }
 
 // GPI2 Control register (0x2B).
-#[derive(Debug, Clone, Copy, PartialEq, Eq, Default)]
-pub struct GPI_2_CTL(u8);
+pub type GPI_2_CTL = Byte<0x2B>;
 
 impl GPI_2_CTL {
-    pub fn new() -> Self
-        ensures { result.0 ≡ 0 }
-    {
-        Self::default()
-    }
-
     pub fn GPI2_POLARITY(self) -> u8
         ensures { result ≡ get_at (parts_of "GPI_2_CTL") "GPI2_POLARITY" self.0 }
     {
@@ -262,7 +215,7 @@ impl GPI_2_CTL {
     pub fn with_GPI2_POLARITY(self, value: u8) -> Self
         ensures { result.0 ≡ with_at (parts_of "GPI_2_CTL") "GPI2_POLARITY" self.0 value }
     {
-        GPI_2_CTL(with(self.0, 0, 2, value))
+        GPI_2_CTL::from(with(self.0, 0, 2, value))
     }
 
     pub fn GPI2_MODE(self) -> bool
@@ -274,7 +227,7 @@ impl GPI_2_CTL {
     pub fn with_GPI2_MODE(self, on: bool) -> Self
         ensures { result.0 ≡ with_at (parts_of "GPI_2_CTL") "GPI2_MODE" self.0 (code_of on) }
     {
-        GPI_2_CTL(with_flag(self.0, 2, on))
+        GPI_2_CTL::from(with_flag(self.0, 2, on))
     }
 
     pub fn GPI2_SEQUENCE_ID(self) -> u8
@@ -286,23 +239,7 @@ impl GPI_2_CTL {
     pub fn with_GPI2_SEQUENCE_ID(self, value: u8) -> Self
         ensures { result.0 ≡ with_at (parts_of "GPI_2_CTL") "GPI2_SEQUENCE_ID" self.0 value }
     {
-        GPI_2_CTL(with(self.0, 3, 4, value))
-    }
-}
-
-impl From<u8> for GPI_2_CTL {
-    ghost from_gives = { λ bits register. register.0 ≡ bits };
-
-    fn from(bits: u8) -> Self {
-        GPI_2_CTL(bits)
-    }
-}
-
-impl From<GPI_2_CTL> for u8 {
-    ghost from_gives = { λ register bits. bits ≡ register.0 };
-
-    fn from(register: GPI_2_CTL) -> u8 {
-        register.0
+        GPI_2_CTL::from(with(self.0, 3, 4, value))
     }
 }
 
@@ -323,16 +260,9 @@ impl Gpi for GPI_2_CTL {
 }
 
 // MEM_CTL1 register (0x2C).
-#[derive(Debug, Clone, Copy, PartialEq, Eq, Default)]
-pub struct MEM_CTL1(u8);
+pub type MEM_CTL1 = Byte<0x2C>;
 
 impl MEM_CTL1 {
-    pub fn new() -> Self
-        ensures { result.0 ≡ 0 }
-    {
-        Self::default()
-    }
-
     pub fn WAV_MEM_BASE_ADDR(self) -> u8
         ensures { result ≡ get_at (parts_of "MEM_CTL1") "WAV_MEM_BASE_ADDR" self.0 }
     {
@@ -340,33 +270,10 @@ impl MEM_CTL1 {
     }
 }
 
-impl From<u8> for MEM_CTL1 {
-    ghost from_gives = { λ bits register. register.0 ≡ bits };
-
-    fn from(bits: u8) -> Self {
-        MEM_CTL1(bits)
-    }
-}
-
-impl From<MEM_CTL1> for u8 {
-    ghost from_gives = { λ register bits. bits ≡ register.0 };
-
-    fn from(register: MEM_CTL1) -> u8 {
-        register.0
-    }
-}
-
 // MEM_CTL2 register (0x2D).
-#[derive(Debug, Clone, Copy, PartialEq, Eq, Default)]
-pub struct MEM_CTL2(u8);
+pub type MEM_CTL2 = Byte<0x2D>;
 
 impl MEM_CTL2 {
-    pub fn new() -> Self
-        ensures { result.0 ≡ 0 }
-    {
-        Self::default()
-    }
-
     pub fn WAV_MEM_LOCK(self) -> bool
         ensures { result ≡ is_at (parts_of "MEM_CTL2") "WAV_MEM_LOCK" self.0 }
     {
@@ -376,37 +283,14 @@ impl MEM_CTL2 {
     pub fn with_WAV_MEM_LOCK(self, on: bool) -> Self
         ensures { result.0 ≡ with_at (parts_of "MEM_CTL2") "WAV_MEM_LOCK" self.0 (code_of on) }
     {
-        MEM_CTL2(with_flag(self.0, 7, on))
-    }
-}
-
-impl From<u8> for MEM_CTL2 {
-    ghost from_gives = { λ bits register. register.0 ≡ bits };
-
-    fn from(bits: u8) -> Self {
-        MEM_CTL2(bits)
-    }
-}
-
-impl From<MEM_CTL2> for u8 {
-    ghost from_gives = { λ register bits. bits ≡ register.0 };
-
-    fn from(register: MEM_CTL2) -> u8 {
-        register.0
+        MEM_CTL2::from(with_flag(self.0, 7, on))
     }
 }
 
 // FRQ_PHASE_H register (0x48).
-#[derive(Debug, Clone, Copy, PartialEq, Eq, Default)]
-pub struct FRQ_PHASE_H(u8);
+pub type FRQ_PHASE_H = Byte<0x48>;
 
 impl FRQ_PHASE_H {
-    pub fn new() -> Self
-        ensures { result.0 ≡ 0 }
-    {
-        Self::default()
-    }
-
     pub fn DELAY_H(self) -> u8
         ensures { result ≡ get_at (parts_of "FRQ_PHASE_H") "DELAY_H" self.0 }
     {
@@ -416,37 +300,14 @@ impl FRQ_PHASE_H {
     pub fn with_DELAY_H(self, value: u8) -> Self
         ensures { result.0 ≡ with_at (parts_of "FRQ_PHASE_H") "DELAY_H" self.0 value }
     {
-        FRQ_PHASE_H(with(self.0, 0, 8, value))
-    }
-}
-
-impl From<u8> for FRQ_PHASE_H {
-    ghost from_gives = { λ bits register. register.0 ≡ bits };
-
-    fn from(bits: u8) -> Self {
-        FRQ_PHASE_H(bits)
-    }
-}
-
-impl From<FRQ_PHASE_H> for u8 {
-    ghost from_gives = { λ register bits. bits ≡ register.0 };
-
-    fn from(register: FRQ_PHASE_H) -> u8 {
-        register.0
+        FRQ_PHASE_H::from(with(self.0, 0, 8, value))
     }
 }
 
 // FRQ_PHASE_L register (0x49).
-#[derive(Debug, Clone, Copy, PartialEq, Eq, Default)]
-pub struct FRQ_PHASE_L(u8);
+pub type FRQ_PHASE_L = Byte<0x49>;
 
 impl FRQ_PHASE_L {
-    pub fn new() -> Self
-        ensures { result.0 ≡ 0 }
-    {
-        Self::default()
-    }
-
     pub fn DELAY_SHIFT_L(self) -> u8
         ensures { result ≡ get_at (parts_of "FRQ_PHASE_L") "DELAY_SHIFT_L" self.0 }
     {
@@ -456,7 +317,7 @@ impl FRQ_PHASE_L {
     pub fn with_DELAY_SHIFT_L(self, value: u8) -> Self
         ensures { result.0 ≡ with_at (parts_of "FRQ_PHASE_L") "DELAY_SHIFT_L" self.0 value }
     {
-        FRQ_PHASE_L(with(self.0, 0, 3, value))
+        FRQ_PHASE_L::from(with(self.0, 0, 3, value))
     }
 
     pub fn DELAY_FREEZE(self) -> bool
@@ -468,37 +329,14 @@ impl FRQ_PHASE_L {
     pub fn with_DELAY_FREEZE(self, on: bool) -> Self
         ensures { result.0 ≡ with_at (parts_of "FRQ_PHASE_L") "DELAY_FREEZE" self.0 (code_of on) }
     {
-        FRQ_PHASE_L(with_flag(self.0, 7, on))
-    }
-}
-
-impl From<u8> for FRQ_PHASE_L {
-    ghost from_gives = { λ bits register. register.0 ≡ bits };
-
-    fn from(bits: u8) -> Self {
-        FRQ_PHASE_L(bits)
-    }
-}
-
-impl From<FRQ_PHASE_L> for u8 {
-    ghost from_gives = { λ register bits. bits ≡ register.0 };
-
-    fn from(register: FRQ_PHASE_L) -> u8 {
-        register.0
+        FRQ_PHASE_L::from(with_flag(self.0, 7, on))
     }
 }
 
 // TRIM4 register (0x60).
-#[derive(Debug, Clone, Copy, PartialEq, Eq, Default)]
-pub struct TRIM4(u8);
+pub type TRIM4 = Byte<0x60>;
 
 impl TRIM4 {
-    pub fn new() -> Self
-        ensures { result.0 ≡ 0 }
-    {
-        Self::default()
-    }
-
     pub fn LOOP_FILT_RES_TRIM(self) -> u8
         ensures { result ≡ get_at (parts_of "TRIM4") "LOOP_FILT_RES_TRIM" self.0 }
     {
@@ -508,7 +346,7 @@ impl TRIM4 {
     pub fn with_LOOP_FILT_RES_TRIM(self, value: u8) -> Self
         ensures { result.0 ≡ with_at (parts_of "TRIM4") "LOOP_FILT_RES_TRIM" self.0 value }
     {
-        TRIM4(with(self.0, 0, 2, value))
+        TRIM4::from(with(self.0, 0, 2, value))
     }
 
     pub fn LOOP_FILT_CAP_TRIM(self) -> u8
@@ -520,37 +358,14 @@ impl TRIM4 {
     pub fn with_LOOP_FILT_CAP_TRIM(self, value: u8) -> Self
         ensures { result.0 ≡ with_at (parts_of "TRIM4") "LOOP_FILT_CAP_TRIM" self.0 value }
     {
-        TRIM4(with(self.0, 2, 2, value))
-    }
-}
-
-impl From<u8> for TRIM4 {
-    ghost from_gives = { λ bits register. register.0 ≡ bits };
-
-    fn from(bits: u8) -> Self {
-        TRIM4(bits)
-    }
-}
-
-impl From<TRIM4> for u8 {
-    ghost from_gives = { λ register bits. bits ≡ register.0 };
-
-    fn from(register: TRIM4) -> u8 {
-        register.0
+        TRIM4::from(with(self.0, 2, 2, value))
     }
 }
 
 // TOP_CFG5 register (0x6E).
-#[derive(Debug, Clone, Copy, PartialEq, Eq, Default)]
-pub struct TOP_CFG5(u8);
+pub type TOP_CFG5 = Byte<0x6E>;
 
 impl TOP_CFG5 {
-    pub fn new() -> Self
-        ensures { result.0 ≡ 0 }
-    {
-        Self::default()
-    }
-
     pub fn V2I_FACTOR_OFFSET_EN(self) -> bool
         ensures { result ≡ is_at (parts_of "TOP_CFG5") "V2I_FACTOR_OFFSET_EN" self.0 }
     {
@@ -560,37 +375,14 @@ impl TOP_CFG5 {
     pub fn with_V2I_FACTOR_OFFSET_EN(self, on: bool) -> Self
         ensures { result.0 ≡ with_at (parts_of "TOP_CFG5") "V2I_FACTOR_OFFSET_EN" self.0 (code_of on) }
     {
-        TOP_CFG5(with_flag(self.0, 0, on))
-    }
-}
-
-impl From<u8> for TOP_CFG5 {
-    ghost from_gives = { λ bits register. register.0 ≡ bits };
-
-    fn from(bits: u8) -> Self {
-        TOP_CFG5(bits)
-    }
-}
-
-impl From<TOP_CFG5> for u8 {
-    ghost from_gives = { λ register bits. bits ≡ register.0 };
-
-    fn from(register: TOP_CFG5) -> u8 {
-        register.0
+        TOP_CFG5::from(with_flag(self.0, 0, on))
     }
 }
 
 // IRQ_MASK2 register (0x83).
-#[derive(Debug, Clone, Copy, PartialEq, Eq, Default)]
-pub struct IRQ_MASK2(u8);
+pub type IRQ_MASK2 = Byte<0x83>;
 
 impl IRQ_MASK2 {
-    pub fn new() -> Self
-        ensures { result.0 ≡ 0 }
-    {
-        Self::default()
-    }
-
     pub fn ADC_SAT_M(self) -> bool
         ensures { result ≡ is_at (parts_of "IRQ_MASK2") "ADC_SAT_M" self.0 }
     {
@@ -600,23 +392,7 @@ impl IRQ_MASK2 {
     pub fn with_ADC_SAT_M(self, on: bool) -> Self
         ensures { result.0 ≡ with_at (parts_of "IRQ_MASK2") "ADC_SAT_M" self.0 (code_of on) }
     {
-        IRQ_MASK2(with_flag(self.0, 7, on))
-    }
-}
-
-impl From<u8> for IRQ_MASK2 {
-    ghost from_gives = { λ bits register. register.0 ≡ bits };
-
-    fn from(bits: u8) -> Self {
-        IRQ_MASK2(bits)
-    }
-}
-
-impl From<IRQ_MASK2> for u8 {
-    ghost from_gives = { λ register bits. bits ≡ register.0 };
-
-    fn from(register: IRQ_MASK2) -> u8 {
-        register.0
+        IRQ_MASK2::from(with_flag(self.0, 7, on))
     }
 }
 

@@ -10,6 +10,7 @@ ghost use Rattle.sessions.specs.Sessions as spec;
 use config::OperationMode;
 use da728x::DA728x;
 use exchange::{Opening, Step};
+use field::Place;
 use outcome::Purpose;
 use registers::Register;
 use registers_control::TOP_CTL1;
@@ -59,12 +60,15 @@ pub fn run(session: &mut [u8], address: u8, purpose: u8, step: Step)
 }
 
 // Reads a register, and writes it back with a field replaced.
-pub fn update(session: &mut [u8], address: u8, register: u8, shift: u8, width: u8, value: u8)
-    ensures { session.new ≡ begun_in session.old (spec.blank 0 address) (Read register ∷ Update register shift width value ∷ []) }
+pub fn update(session: &mut [u8], address: u8, register: u8, place: Place, value: u8)
+    ensures { session.new ≡ begun_in session.old (spec.blank 0 address) (Read register ∷ Update register place.shift place.width value ∷ []) }
 {
     begin(session, address, Purpose::Command.into());
     exchange::push(session, Step::Read(register));
-    exchange::push(session, Step::Update(register, shift, width, value));
+    exchange::push(
+        session,
+        Step::Update(register, place.shift, place.width, value),
+    );
 }
 
 // ---- register values

@@ -161,13 +161,12 @@ fn addresses_are_the_published_ones() {
     compared("addresses", listed.len(), 42);
 }
 
-/// Each constant of `Register` has the address that the published text gives its name, and `all` goes through them in order, as
-/// does `NAMED`, each constant beside its own name.
+/// Each constant of `Register` has the address that the published text gives its name, and `NAMED` goes through them in order, each
+/// beside its own name.
 #[test]
 fn constants_are_the_published_addresses() {
     let text = text("crates/registers/src/lib.rt");
     let mut constants = Vec::new();
-    let mut order = Vec::new();
     let mut named = Vec::new();
     for line in text.lines().map(str::trim) {
         if let Some(rest) = line.strip_prefix("(\"") {
@@ -181,16 +180,35 @@ fn constants_are_the_published_addresses() {
             let (name, value) = rest.split_once(": Register = Register(0x").unwrap();
             let value = u8::from_str_radix(value.strip_suffix(");").unwrap(), 16).unwrap();
             constants.push((name.to_string(), value));
-        } else if let Some(rest) = line.strip_prefix("Register::") {
-            order.push(rest.strip_suffix(".0,").unwrap().to_string());
         }
     }
     let published = published_addresses();
     assert_eq!(constants, published);
     let names: Vec<_> = published.into_iter().map(|(name, _)| name).collect();
-    assert_eq!(order, names);
     assert_eq!(named, names);
     compared("constants of Register", constants.len(), 42);
+}
+
+/// Each register type is the `Byte` of the address that the published text gives its name.
+#[test]
+fn types_are_of_the_published_addresses() {
+    let mut types = Vec::new();
+    for path in METHODS {
+        for line in text(path).lines() {
+            if let Some((name, address)) =
+                line.strip_prefix("pub type ").and_then(|rest| rest.split_once(" = Byte<0x"))
+            {
+                let address = u8::from_str_radix(address.strip_suffix(">;").unwrap(), 16).unwrap();
+                types.push((name.to_string(), address));
+            }
+        }
+    }
+    let published = published_types();
+    let of_a_type = |name: &String| published.iter().any(|(of, _)| of == name);
+    let wanted: Vec<_> =
+        published_addresses().into_iter().filter(|(name, _)| of_a_type(name)).collect();
+    assert_eq!(types, wanted);
+    compared("addresses of register types", types.len(), 39);
 }
 
 /// Each method of a register type is named after the field, and stands in the type, that its contract speaks of.

@@ -7,4 +7,4 @@ use Rattle.sessions.proofs.update.Goals as goal
 pub returns : goal.returns
 returns c =
     let a = c.args in
-    ran _ _ _ [] (Read a.register ∷ Update a.register a.shift a.width a.value ∷ []) (omega arith) (for_the _ _ _ c.begin.ensures c.into.ensures) cc
+    ran _ _ _ [] (Read a.register ∷ Update a.register a.place.shift a.place.width a.value ∷ []) (omega arith) (for_the _ _ _ c.begin.ensures c.into.ensures) cc
