@@ -21,11 +21,7 @@ pub fn voltage(mV: u16) -> u8
 pub fn imax(mA: u16) -> u8
     ensures { result ≡ imax_code mA }
 {
-    if mA < 29 {
-        0
-    } else {
-        ((1000 * mA as u32 - 28600) / 7200 % 256) as u8
-    }
+    ((1000 * mA as u32).saturating_sub(28600) / 7200 % 256) as u8
 }
 
 // CALIB_V2I_H and CALIB_V2I_L, from milliohms and IMAX.
@@ -83,75 +79,40 @@ pub fn cap_trim(uH: u16) -> u8
 pub fn column(uH: u16) -> usize
     ensures { result ≡ trim.column uH }
 {
-    if uH < 13 {
-        0
-    } else {
-        ((uH as usize - 13) / 25).min(9)
-    }
+    ((uH as usize).saturating_sub(13) / 25).min(9)
 }
 
-// LOOP_FILT_RES_TRIM for each column, by whole ohms up to the number in the name; rows by name, as a row by value costs more.
-const TO_5: [u8; 10] = [2, 2, 3, 3, 3, 3, 3, 3, 3, 3];
-
-const TO_7: [u8; 10] = [1, 2, 2, 3, 3, 3, 3, 3, 3, 3];
-
-const TO_9: [u8; 10] = [1, 2, 2, 2, 3, 3, 3, 3, 3, 3];
-
-const TO_11: [u8; 10] = [0, 1, 2, 2, 2, 3, 3, 3, 3, 3];
-
-const TO_13: [u8; 10] = [0, 1, 2, 2, 2, 2, 3, 3, 3, 3];
-
-const TO_15: [u8; 10] = [0, 1, 1, 2, 2, 2, 2, 3, 3, 3];
-
-const TO_17: [u8; 10] = [0, 1, 1, 2, 2, 2, 2, 2, 3, 3];
-
-const TO_19: [u8; 10] = [0, 0, 1, 1, 2, 2, 2, 2, 2, 3];
-
-const TO_21: [u8; 10] = [0, 1, 1, 2, 2, 2, 3, 3, 3, 3];
-
-const TO_23: [u8; 10] = [0, 1, 1, 2, 2, 2, 2, 3, 3, 3];
-
-const TO_25: [u8; 10] = [0, 1, 1, 2, 2, 2, 2, 3, 3, 3];
-
-const TO_27: [u8; 10] = [0, 1, 1, 2, 2, 2, 2, 2, 3, 3];
-
-const TO_31: [u8; 10] = [0, 1, 2, 2, 2, 3, 3, 3, 3, 3];
-
-const TO_33: [u8; 10] = [0, 1, 2, 2, 2, 2, 3, 3, 3, 3];
-
-const TO_35: [u8; 10] = [0, 1, 1, 2, 2, 2, 3, 3, 3, 3];
-
-const TO_41: [u8; 10] = [0, 1, 1, 2, 2, 2, 2, 3, 3, 3];
-
-const TO_45: [u8; 10] = [0, 1, 2, 2, 3, 3, 3, 3, 3, 3];
-
-const FROM_46: [u8; 10] = [0, 1, 2, 2, 2, 3, 3, 3, 3, 3];
+// The row of whole ohms: LOOP_FILT_RES_TRIM for each column.
+fn row(ohms: u16) -> &'static [u8; 10]
+    ensures { result.now ≡ trim.row_at ohms trim.trim_rows }
+{
+    match ohms {
+        0..=5 => &[2, 2, 3, 3, 3, 3, 3, 3, 3, 3],
+        6..=7 => &[1, 2, 2, 3, 3, 3, 3, 3, 3, 3],
+        8..=9 => &[1, 2, 2, 2, 3, 3, 3, 3, 3, 3],
+        10..=11 => &[0, 1, 2, 2, 2, 3, 3, 3, 3, 3],
+        12..=13 => &[0, 1, 2, 2, 2, 2, 3, 3, 3, 3],
+        14..=15 => &[0, 1, 1, 2, 2, 2, 2, 3, 3, 3],
+        16..=17 => &[0, 1, 1, 2, 2, 2, 2, 2, 3, 3],
+        18..=19 => &[0, 0, 1, 1, 2, 2, 2, 2, 2, 3],
+        20..=21 => &[0, 1, 1, 2, 2, 2, 3, 3, 3, 3],
+        22..=23 => &[0, 1, 1, 2, 2, 2, 2, 3, 3, 3],
+        24..=25 => &[0, 1, 1, 2, 2, 2, 2, 3, 3, 3],
+        26..=27 => &[0, 1, 1, 2, 2, 2, 2, 2, 3, 3],
+        28..=31 => &[0, 1, 2, 2, 2, 3, 3, 3, 3, 3],
+        32..=33 => &[0, 1, 2, 2, 2, 2, 3, 3, 3, 3],
+        34..=35 => &[0, 1, 1, 2, 2, 2, 3, 3, 3, 3],
+        36..=41 => &[0, 1, 1, 2, 2, 2, 2, 3, 3, 3],
+        42..=45 => &[0, 1, 2, 2, 3, 3, 3, 3, 3, 3],
+        _ => &[0, 1, 2, 2, 2, 3, 3, 3, 3, 3],
+    }
+}
 
 // LOOP_FILT_RES_TRIM, from milliohms and microhenries.
 pub fn res_trim(mOhm: u16, uH: u16) -> u8
     ensures { result ≡ trim.resistance_code mOhm uH }
 {
-    let c = column(uH);
-    match mOhm / 1000 {
-        0..=5 => TO_5[c],
-        6..=7 => TO_7[c],
-        8..=9 => TO_9[c],
-        10..=11 => TO_11[c],
-        12..=13 => TO_13[c],
-        14..=15 => TO_15[c],
-        16..=17 => TO_17[c],
-        18..=19 => TO_19[c],
-        20..=21 => TO_21[c],
-        22..=23 => TO_23[c],
-        24..=25 => TO_25[c],
-        26..=27 => TO_27[c],
-        28..=31 => TO_31[c],
-        32..=33 => TO_33[c],
-        34..=35 => TO_35[c],
-        36..=41 => TO_41[c],
-        42..=45 => TO_45[c],
-        _ => FROM_46[c],
-    }
+    row(mOhm / 1000)[column(uH)]
 }
 
 // TRIM4, from milliohms and microhenries.
