@@ -109,7 +109,11 @@ impl Register {
     pub fn all() -> [u8; 42]
         ensures { result ≡ addresses }
     {
-        named().map(|(_, register)| register.0)
+        let mut all = [0; 42];
+        for (i, (_, register)) in named().iter().enumerate() {
+            all[i] = register.0;
+        }
+        all
     }
 }
 
@@ -160,9 +164,9 @@ pub const NAMED: [(&str, Register); 42] = [
 ];
 
 // The table has the constants' addresses in this order, each under the name beside the constant.
-fn named() -> [(&'static str, Register); 42]
-    ensures order { map (λ p. p.1.0) result ≡ addresses }
-    ensures names { list_all (λ p. lists registers p.0.now p.1.0) result ≡ true }
+fn named() -> &'static [(&'static str, Register); 42]
+    ensures order { map (λ p. p.1.0) result.now ≡ addresses }
+    ensures names { list_all (λ p. lists registers p.0.now p.1.0) result.now ≡ true }
 {
-    NAMED
+    &NAMED
 }
