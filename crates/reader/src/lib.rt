@@ -91,8 +91,7 @@ impl<T: Copy, const MOST: usize> Runs<T, MOST> {
         ensures value { result.now ≡ take self.now.len self.now.items }
         ensures upper_bound { length result.now ≤ 96 }
     {
-        let n = laws::wide(self.len).min(96);
-        &self.items[..n]
+        laws::shown(&self.items, self.len)
     }
 }
 
@@ -163,7 +162,7 @@ fn walk<T: Gather>(image: &[u8], ends: &[u8], first: usize, items: &mut T) -> Re
 {
     let mut last = first;
     for end in ends {
-        let end = laws::wide(*end);
+        let end = usize::from(*end);
         if end <= last || image.len() <= end {
             return Err(Error::NotAnImage);
         }
@@ -179,15 +178,7 @@ fn walk<T: Gather>(image: &[u8], ends: &[u8], first: usize, items: &mut T) -> Re
 pub fn zero_from(image: &[u8], at: usize) -> bool
     ensures { result ≡ all_zero (drop at image.now) }
 {
-    if image.len() <= at {
-        return true;
-    }
-    for byte in &image[at..] {
-        if 0 < *byte {
-            return false;
-        }
-    }
-    true
+    image[at.min(image.len())..].iter().all(|byte| *byte < 1)
 }
 
 // 1 to 15 snippets, 1 to 16 sequences.
@@ -208,8 +199,8 @@ pub fn scan<S: Gather, Q: Gather>(
     if image.len() != 100 {
         return Err(Error::NotAnImage);
     }
-    let s = laws::wide(image[0]);
-    let q = laws::wide(image[1]);
+    let s = usize::from(image[0]);
+    let q = usize::from(image[1]);
     if !counts_fit(s, q) {
         return Err(Error::NotAnImage);
     }
