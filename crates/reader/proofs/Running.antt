@@ -1,5 +1,6 @@
--- The loop over the frames of a sequence: a frame that was read at an index, and what is left behind it.
+-- The frames of a sequence: one that was read, and what is left behind it.
 -- Assumes nothing.
+use Rattle.std.proofs.Common.{Result, Ok, Err}
 use mathlib.Core.Path.{◌≡◌, refl, sym, ap, ◌∙◌, subst}
 use mathlib.Core.Bool.{Bool, true, false, cond}
 use mathlib.Core.List.{List, [], ◌∷◌, ◌++◌}
@@ -11,13 +12,14 @@ use lib.ListN.{length, drop, length-append, drop_of_length-le}
 use lib.Seq.{drop-drop, drop_at}
 use Rattle.errors.specs.Told.{gives, refuses}
 use Rattle.frame.specs.declared.FrameBuilder.{FrameBuilder}
-use Rattle.frame.specs.Read.{two_bytes, Parsed, parsed, read_third, read_second, read_after, read_frame, one_byte, Taken, taken_from}
-use Rattle.content.specs.ReadImage.{and_then}
+use Rattle.frame.specs.Read.{two_bytes, Parsed, parsed, read_third, read_second, read_after, read_frame, first_frame, one_byte, Taken, taken_from}
+use Rattle.errors.specs.declared.Error.{Error}
+use Rattle.errors.specs.declared.Error.TheVariants.{NotAnImage}
+use Rattle.content.specs.ReadImage.{on_option, and_then, every, read_frames}
 use Rattle.content.proofs.Codec.{none_some, some_inj, cond_some}
 use Rattle.reader.specs.Reading.{Frames}
 use Rattle.reader.specs.Flat.{push_item}
-use Rattle.reader.specs.Walk.{run_frames}
-use Rattle.reader.proofs.Loops.{drop_one}
+use Rattle.reader.specs.Walk.{frames_from, run_frames}
 
 -- ---- a frame leaves a shorter end of the bytes
 
@@ -72,34 +74,75 @@ refused l n e = go (read_frame l) refl e where
   go none d e = d
   go (some p) d e = let z : ◌≡◌ {A = ℕ} 0 1 = cc in absurd (omega arith)
 
--- ---- the loop
+-- ---- the frames one by one
 
-pub run_nil : (k : ℕ) (o : Frames) → run_frames k [] o ≡ some o
-run_nil zero o = refl
-run_nil (suc k) o = refl
+pub left_none : (k : ℕ) (l : List ℕ) → length l ≡ 0 → frames_from k l ≡ []
+left_none zero [] h = refl
+left_none (suc k) [] h = refl
+left_none k (b ∷ bs) h = absurd (omega arith)
 
-pub run_end : (k : ℕ) (s : List ℕ) (at : ℕ) (o : Frames) → length s ≤ at → run_frames k (drop at s) o ≡ some o
-run_end k s at o h = ap (λ (l : List ℕ). run_frames k l o) (drop_of_length-le s h) ∙ run_nil k o
+left_one : (k : ℕ) (l : List ℕ) (m : Option Parsed) → 0 < length l → 0 < k → read_frame l ≡ m
+    → frames_from k l ≡ on_option m (Err NotAnImage ∷ []) (λ p. Ok p.frame ∷ frames_from (k - 1) p.rest)
+left_one k [] m h g e = absurd (omega arith)
+left_one zero (b ∷ bs) m h g e = absurd (omega arith)
+left_one (suc k) (b ∷ bs) m h g e =
+    let j : k ≡ suc k - 1 = omega arith in
+    ap (λ (x : Option Parsed). on_option x (Err NotAnImage ∷ []) (λ p. Ok p.frame ∷ frames_from k p.rest)) e
+    ∙ ap (λ (j : ℕ). on_option m (Err NotAnImage ∷ []) (λ p. Ok p.frame ∷ frames_from j p.rest)) j
 
-module _ (s : List ℕ) (at k : ℕ) (o : Frames) (h : at < length s) where
-  run_one : k < 32 → (m : Option Parsed) → read_frame (drop at s) ≡ m
-      → run_frames (32 - k) (drop at s) o ≡ and_then m (λ p. run_frames (32 - (k + 1)) p.rest (push_item o p.frame))
-  run_one g m e =
-      let n : 32 - k ≡ suc (32 - (k + 1)) = omega arith in
-      let d = drop_one s at h in
-      ap (λ (j : ℕ). run_frames j (drop at s) o) n
-      ∙ ap (λ (l : List ℕ). run_frames (suc (32 - (k + 1))) l o) d
-      ∙ ap (λ (x : Option Parsed). and_then x (λ p. run_frames (32 - (k + 1)) p.rest (push_item o p.frame))) (ap read_frame (sym d) ∙ e)
+pub left_full : (l : List ℕ) → 0 < length l → frames_from 0 l ≡ Err NotAnImage ∷ []
+left_full [] h = absurd (omega arith)
+left_full (b ∷ bs) h = refl
 
-  pub run_step : (f : FrameBuilder) (m : ℕ) → k < 32 → gives (record { frame = f; len = m }) ≡ taken_from (length (drop at s)) (read_frame (drop at s))
-      → run_frames (32 - k) (drop at s) o ≡ run_frames (32 - (k + 1)) (drop (at + m) s) (push_item o f)
-  run_step f m g e =
-      run_one g _ (took (drop at s) f m e) ∙ ap (λ (l : List ℕ). run_frames (32 - (k + 1)) l (push_item o f)) (drop-drop m at s)
+module _ (k : ℕ) (l : List ℕ) (h : 0 < length l) where
+  pub left_next : (f : FrameBuilder) (m : ℕ) → 0 < k → gives (record { frame = f; len = m }) ≡ first_frame l → frames_from k l ≡ Ok f ∷ frames_from (k - 1) (drop m l)
+  left_next f m g e = left_one k l _ h g (took l f m e)
 
-  pub run_stop : (n : ℕ) → k < 32 → refuses n ≡ taken_from (length (drop at s)) (read_frame (drop at s)) → run_frames (32 - k) (drop at s) o ≡ none
-  run_stop n g e = run_one g _ (refused (drop at s) n e)
+  pub left_refused : (n : ℕ) → refuses n ≡ first_frame l → frames_from k l ≡ Err NotAnImage ∷ []
+  left_refused n e = go k refl where
+    go : (j : ℕ) → k ≡ j → frames_from j l ≡ Err NotAnImage ∷ []
+    go zero d = left_full l h
+    go (suc j) d = left_one (suc j) l none h (omega arith) (refused l n e)
 
-  pub run_full : 32 ≤ k → run_frames (32 - k) (drop at s) o ≡ none
-  run_full g =
-      let z : 32 - k ≡ 0 = omega arith in
-      ap (λ (n : ℕ). run_frames n (drop at s) o) z ∙ ap (λ (l : List ℕ). run_frames 0 l o) (drop_one s at h)
+-- what refuses has its number
+pub left_error : (k : ℕ) (l : List ℕ) (e : Error) (r : List (Result FrameBuilder Error)) → frames_from k l ≡ Err e ∷ r → e ≡ NotAnImage
+left_error zero [] e r d = absurd (omega (arith, ap length d))
+left_error zero (b ∷ bs) e r d = cc
+left_error (suc k) [] e r d = absurd (omega (arith, ap length d))
+left_error (suc k) (b ∷ bs) e r d = go (read_frame (b ∷ bs)) d where
+  go : (m : Option Parsed) → on_option m (Err NotAnImage ∷ []) (λ p. Ok p.frame ∷ frames_from k p.rest) ≡ Err e ∷ r → e ≡ NotAnImage
+  go none d = cc
+  go (some p) d = cc
+
+-- ---- all of them
+
+abbrev pub ok : Result FrameBuilder Error → Option FrameBuilder
+ok (Ok f) = some f
+ok (Err e) = none
+
+pub every_ok : (k : ℕ) (l : List ℕ) → every ok (frames_from k l) ≡ read_frames k l
+every_ok zero [] = refl
+every_ok zero (b ∷ bs) = refl
+every_ok (suc k) [] = refl
+every_ok (suc k) (b ∷ bs) = go (every_ok k) (read_frame (b ∷ bs)) where
+  go : ((l : List ℕ) → every ok (frames_from k l) ≡ read_frames k l) → (m : Option Parsed)
+      → every ok (on_option m (Err NotAnImage ∷ []) (λ p. Ok p.frame ∷ frames_from k p.rest))
+      ≡ and_then m (λ p. and_then (read_frames k p.rest) (λ fs. some (p.frame ∷ fs)))
+  go ih none = refl
+  go ih (some p) = ap (λ (m : Option (List FrameBuilder)). and_then m (λ fs. some (p.frame ∷ fs))) (ih p.rest)
+
+-- added one by one
+abbrev pub pushes : List (Result FrameBuilder Error) → Frames → Option Frames
+pushes [] o = some o
+pushes (Ok f ∷ fs) o = pushes fs (push_item o f)
+pushes (Err e ∷ fs) o = none
+
+pub run_pushes : (k : ℕ) (l : List ℕ) (o : Frames) → pushes (frames_from k l) o ≡ run_frames k l o
+run_pushes zero [] o = refl
+run_pushes zero (b ∷ bs) o = refl
+run_pushes (suc k) [] o = refl
+run_pushes (suc k) (b ∷ bs) o = go (run_pushes k) (read_frame (b ∷ bs)) where
+  go : ((l : List ℕ) (o : Frames) → pushes (frames_from k l) o ≡ run_frames k l o) → (m : Option Parsed)
+      → pushes (on_option m (Err NotAnImage ∷ []) (λ p. Ok p.frame ∷ frames_from k p.rest)) o ≡ and_then m (λ p. run_frames k p.rest (push_item o p.frame))
+  go ih none = refl
+  go ih (some p) = ih p.rest (push_item o p.frame)

@@ -1,24 +1,40 @@
 -- The reader step by step, as the code goes: what the contracts of the private functions and of `scan` cite. proofs/Whole.antt: with the
 -- lists that are kept it is `read_image`, laid out as `reading_of` says.
-use Rattle.std.specs.Prelude.{ℕ, zero, suc, ◌+◌, ◌-◌, ◌≡◌, Result, Ok, Err, cond, ◌&&◌, List, [], ◌∷◌, ltb, leb, eqb, length, take, drop, get_or}
+use Rattle.std.specs.Prelude.{ℕ, zero, suc, ◌+◌, ◌-◌, ◌≡◌, Result, Ok, Err, Bool, cond, ◌&&◌, List, [], ◌∷◌, ltb, leb, eqb, length, take, drop, get_or}
 use Rattle.std.proofs.Math.Option.{Option, none, some}
 use Rattle.errors.specs.declared.Error.{Error}
+use Rattle.frame.specs.declared.FrameBuilder.{FrameBuilder}
 use Rattle.frame.specs.Read.{read_frame}
-use Rattle.content.specs.ReadImage.{and_then, all_zero, counts_fit}
+use Rattle.content.specs.ReadImage.{on_option, and_then, all_zero, counts_fit}
+use Rattle.reader.specs.declared.ReadFrames.{ReadFrames}
 use Rattle.reader.specs.Reading.{Points, Frames}
 use Rattle.reader.specs.Flat.{push_item, push_items, end_run}
 
 -- ---- one item
 
--- at most k frames, up to the end of the bytes
+-- at most k frames, up to the end of the bytes; a refusal in place of what is none, or is one more
+abbrev pub frames_from : ℕ → List ℕ → List (Result FrameBuilder Error)
+frames_from zero [] = []
+frames_from zero (b ∷ bs) = Err Error.NotAnImage ∷ []
+frames_from (suc k) [] = []
+frames_from (suc k) (b ∷ bs) = on_option (read_frame (b ∷ bs)) (Err Error.NotAnImage ∷ []) (λ p. Ok p.frame ∷ frames_from k p.rest)
+
+abbrev pub frames_left : ReadFrames → List (Result FrameBuilder Error)
+frames_left r = frames_from r.left r.rest.now
+
+-- the same frames, added
 abbrev pub run_frames : ℕ → List ℕ → Frames → Option Frames
 run_frames zero [] o = some o
 run_frames zero (b ∷ bs) o = none
 run_frames (suc k) [] o = some o
 run_frames (suc k) (b ∷ bs) o = and_then (read_frame (b ∷ bs)) (λ p. run_frames k p.rest (push_item o p.frame))
 
+-- 1 to 16 points, each a byte
+abbrev pub snippet_fits : List ℕ → Bool
+snippet_fits bs = leb 1 (length bs) && leb (length bs) 16
+
 unfoldable pub push_snippet : List ℕ → Points → Option Points
-push_snippet bs o = cond (leb 1 (length bs) && leb (length bs) 16) (some (end_run (push_items o bs))) none
+push_snippet bs o = cond (snippet_fits bs) (some (end_run (push_items o bs))) none
 
 unfoldable pub push_sequence : List ℕ → Frames → Option Frames
 push_sequence bs o = cond (leb 1 (length bs)) (and_then (run_frames 32 bs o) (λ f. some (end_run f))) none

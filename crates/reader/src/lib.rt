@@ -8,12 +8,13 @@
 pub mod items;
 
 ghost use Rattle.std.specs.Prelude.{◌≡◌, ◌+◌, ◌≤◌, ◌<◌, List, ℕ, length, take, drop};
+ghost use Rattle.std.specs.Iterator.{YieldsFirst, item_count};
 ghost use Rattle.std.proofs.Math.Option.{Option};
 ghost use Rattle.errors.specs.Number.{answer_number};
 ghost use Rattle.content.specs.ReadImage.{on_option, read_image, counts_fit, all_zero};
 ghost use Rattle.reader.specs.Reading.{reading_of, no_runs};
 ghost use Rattle.reader.specs.Flat.{push_item, push_items, end_run};
-ghost use Rattle.reader.specs.Walk.{Stepped, Walks, run_frames, push_snippet, push_sequence, walk, Scans, scan};
+ghost use Rattle.reader.specs.Walk.{Stepped, Walks, frames_from, frames_left, run_frames, snippet_fits, push_snippet, push_sequence, walk, Scans, scan};
 
 use errors::Error;
 use frame::FrameBuilder;
@@ -95,28 +96,74 @@ impl<T: Copy, const MOST: usize> Runs<T, MOST> {
     }
 }
 
+// ---- the frames of a sequence
+
+// The frames that bytes are, one after the other: NotAnImage in place of what is none, or is one more than 32, and nothing behind it.
+#[derive(Drop)]
+pub struct ReadFrames<'a> {
+    rest: &'a [u8],
+    left: u8,
+}
+
+impl<'a> ReadFrames<'a> {
+    #[inline]
+    pub fn new(bytes: &'a [u8]) -> Self
+        ensures { frames_left result ≡ frames_from 32 bytes.now }
+    {
+        ReadFrames {
+            rest: bytes,
+            left: 32,
+        }
+    }
+}
+
+impl<'a> Iterator for ReadFrames<'a> {
+    type Item = Result<FrameBuilder, Error>;
+
+    ghost next_gives = { YieldsFirst frames_left };
+
+    ghost remaining = { item_count frames_left };
+
+    #[inline]
+    fn next(&mut self) -> Option<Result<FrameBuilder, Error>> {
+        if self.rest.is_empty() {
+            return None;
+        }
+        match FrameBuilder::read(self.rest) {
+            Ok((frame, n)) if 0 < self.left => {
+                self.rest = &self.rest[n..];
+                self.left -= 1;
+                Some(Ok(frame))
+            }
+            _ => {
+                self.rest = &self.rest[..0];
+                Some(Err(Error::NotAnImage))
+            }
+        }
+    }
+}
+
 impl Frames {
     // The frames that the bytes are, 32 at most.
     fn push_frames(&mut self, bytes: &[u8]) -> Result<(), Error>
         ensures { Stepped (run_frames 32 bytes.now self.old) result self.new }
     {
-        let mut at = 0usize;
-        for _ in 0..32u8 {
-            if bytes.len() <= at {
-                return Ok(());
-            }
-            let (frame, n) = FrameBuilder::read(&bytes[at..])?;
-            self.push(frame);
-            at += n;
-        }
-        if at < bytes.len() {
-            return Err(Error::NotAnImage);
+        for frame in ReadFrames::new(bytes) {
+            self.push(frame?);
         }
         Ok(())
     }
 }
 
 // ---- the items that end at the pointers
+
+// Whether bytes are a snippet's: 1 to 16 points, each a byte.
+#[inline]
+pub fn snippet_fits(item: &[u8]) -> bool
+    ensures { result ≡ snippet_fits item.now }
+{
+    1 <= item.len() && item.len() <= 16
+}
 
 // What an image's items of one kind are added to.
 pub trait Gather {
@@ -132,7 +179,7 @@ impl Gather for Points {
 
     #[tactic(auto, unfolding(crate::specs::Walk::push_snippet))]
     fn add(&mut self, item: &[u8]) -> Result<(), Error> {
-        if item.len() < 1 || 16 < item.len() {
+        if !snippet_fits(item) {
             return Err(Error::NotAnImage);
         }
         self.push_all(item);
@@ -146,7 +193,7 @@ impl Gather for Frames {
 
     #[tactic(auto, unfolding(crate::specs::Walk::push_sequence))]
     fn add(&mut self, item: &[u8]) -> Result<(), Error> {
-        if item.len() < 1 {
+        if item.is_empty() {
             return Err(Error::NotAnImage);
         }
         self.push_frames(item)?;

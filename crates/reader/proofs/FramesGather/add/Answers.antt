@@ -1,5 +1,5 @@
 -- A sequence is its frames.
-use Rattle.std.proofs.Common.{◌∙◌, Err, ap, arith, refl, sym}
+use Rattle.std.proofs.Common.{◌∙◌, ◌≤◌, Err, length, ap, refl, sym, rules}
 use mathlib.Core.Option.{some}
 use Rattle.reader.specs.Walk.{run_frames}
 use Rattle.reader.proofs.Loops.{sequence_run}
@@ -10,11 +10,13 @@ use Rattle.reader.proofs.FramesGather.add.Goals as goal
 pub returns-in_err-push_frames : goal.returns-in_err-push_frames
 returns-in_err-push_frames c =
     let a = c.args in
+    let h : 1 ≤ length a.item.now = search rules in
     let n = stepped_err (run_frames 32 a.item.now a.self.now) _ c.push_frames.ensures c.in_err-push_frames.was in
-    stepped_none _ _ (sequence_run a.item.now (omega arith) a.self.now _ n.0) (passed _ c.from_residual.ensures.1 ∙ ap Err n.1)
+    stepped_none _ _ (sequence_run a.item.now h a.self.now _ n.0) (passed _ c.from_residual.ensures.1 ∙ ap Err n.1)
 
 pub returns : goal.returns
 returns c =
     let a = c.args in
+    let h : 1 ≤ length a.item.now = search rules in
     let m = stepped_ok (run_frames 32 a.item.now a.self.now) c.push_frames.ensures c.in_ok-push_frames.was in
-    stepped_some _ (sequence_run a.item.now (omega arith) a.self.now _ m ∙ ap some (sym c.end.ensures)) refl
+    stepped_some _ (sequence_run a.item.now h a.self.now _ m ∙ ap some (sym c.end.ensures)) refl
