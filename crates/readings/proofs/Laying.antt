@@ -5,41 +5,15 @@ use mathlib.Core.List.{List, [], ◌∷◌, ◌++◌, append_assoc, append-nil}
 use Prim.Native.Nat.{ℕ, ◌+◌, ◌-◌, ◌*◌, ◌≤◌, ◌<◌}
 use native.Mathlib.Numerals.{add-one}
 use native.Mathlib.Omega.{arith}
-use lib.ListN.{length, take, drop, get_or, replicate, length-append, length-take, length-replicate, drop_of_length-le, replicate-append-replicate}
-use lib.Seq.{take_all, take-suc, take-nil, drop_at}
-use Rattle.laws.specs.Copied.{copied, placed}
+use lib.ListN.{length, take, drop, get_or, replicate, length-append, length-take, length-drop, length-replicate, drop_of_length-le, replicate-append-replicate}
+use lib.Seq.{take-suc}
+use Rattle.laws.specs.Copied.{over}
 use Rattle.frame.specs.declared.FrameBuilder.{FrameBuilder}
 use Rattle.frame.specs.Word.{frame_word}
 use Rattle.reader.specs.Reading.{padded}
 use Rattle.readings.specs.Lists.{word_bytes, words_bytes}
-use Rattle.laws.proofs.Copies.{copied_all}
+use Rattle.laws.proofs.Copies.{over_behind, over_at}
 use Rattle.laws.specs.Lists.{low_bytes}
-
--- ---- one part behind the other
-
-copied_none : (l : List ℕ) → copied l [] ≡ l
-copied_none l = ap (λ (m : List ℕ). m ++ l) (take-nil (length l))
-
-copied_nowhere : (b : List ℕ) → copied [] b ≡ []
-copied_nowhere b = drop_of_length-le [] {i = length b} (omega arith)
-
-placed_next : (a l b : List ℕ) → placed (copied l a) (length a) b ≡ copied l (a ++ b)
-placed_next [] l b = ap (λ (m : List ℕ). copied m b) (copied_none l)
-placed_next (x ∷ a) [] b = copied_nowhere b
-placed_next (x ∷ a) (y ∷ l) b = ap (λ (m : List ℕ). x ∷ m) (placed_next a l b)
-
-pub placed_behind : (m l a b : List ℕ) (n : ℕ) → m ≡ copied l a → n ≡ length a → placed m n b ≡ copied l (a ++ b)
-placed_behind m l a b n e h = (λ i. placed (e i) (h i) b) ∙ placed_next a l b
-
--- laid over zeros, bytes are padded
-pub over_zeros : (b : List ℕ) (n : ℕ) → length b ≤ n → copied (replicate n 0) b ≡ padded n 0 b
-over_zeros b n h =
-    let e : n ≡ length b + (n - length b) = omega arith in
-    let zeros : ℕ → List ℕ = λ k. replicate k 0 in
-    let z : zeros n ≡ zeros (length b) ++ zeros (n - length b) = ap zeros e ∙ sym (replicate-append-replicate (length b) (n - length b) 0) in
-    ap (λ (k : ℕ). take k b ++ drop (length b) (zeros n)) (length-replicate {A = ℕ} n 0)
-    ∙ ap (λ (l : List ℕ). l ++ drop (length b) (zeros n)) (take_all n b h)
-    ∙ ap (λ (l : List ℕ). b ++ l) (ap (drop (length b)) z ∙ drop_at (zeros (length b)) (zeros (n - length b)) (length b) (length-replicate {A = ℕ} (length b) 0))
 
 -- ---- frames
 
@@ -64,26 +38,35 @@ words_next fs d i h =
     ∙ ap (λ (l : List ℕ). words_bytes (take i fs) ++ l) (append-nil (word_bytes (get_or fs i d)))
 
 -- a frame more behind i others
-pub words_placed : (fs : List FrameBuilder) (d : FrameBuilder) (i n : ℕ) (l six m : List ℕ) → i < length fs → 6 * (i + 1) ≤ n
-    → l ≡ padded n 0 (words_bytes (take i fs)) → six ≡ low_bytes 6 (frame_word (get_or fs i d)) → m ≡ placed l (6 * i) six
+pub words_more : (fs : List FrameBuilder) (d : FrameBuilder) (i n : ℕ) (l six m : List ℕ) → i < length fs → 6 * (i + 1) ≤ n
+    → l ≡ padded n 0 (words_bytes (take i fs)) → six ≡ low_bytes 6 (frame_word (get_or fs i d)) → m ≡ over l (6 * i) six
     → m ≡ padded n 0 (words_bytes (take (i + 1) fs))
 unfolding word_bytes
-words_placed fs d i n l six m h g e k p =
+words_more fs d i n l six m h g e k p =
     let b : List ℕ = words_bytes (take i fs) in
-    let o : 6 * i ≡ length b = omega (arith, words_length (take i fs), length-take i fs) in
-    let q : length (words_bytes (take (i + 1) fs)) ≤ n = omega (arith, words_length (take (i + 1) fs), length-take (i + 1) fs) in
-    p ∙ placed_behind l (replicate n 0) b six (6 * i) (e ∙ sym (over_zeros b n (omega arith))) o
-    ∙ ap (λ (x : List ℕ). copied (replicate n 0) (b ++ x)) k
-    ∙ ap (copied (replicate n 0)) (sym (words_next fs d i h))
-    ∙ over_zeros (words_bytes (take (i + 1) fs)) n q
+    let w : List ℕ = word_bytes (get_or fs i d) in
+    let o : length b ≡ 6 * i = omega (arith, words_length (take i fs), length-take i fs) in
+    let z : n - length b ≡ length w + (n - length (b ++ w)) = omega (arith, length-append b w, word_length (get_or fs i d)) in
+    let zeros : ℕ → List ℕ = λ k. replicate k 0 in
+    p ∙ (λ j. over (e j) (6 * i) (k j))
+    ∙ ap (λ (k : ℕ). over (b ++ zeros k) (6 * i) w) z
+    ∙ ap (λ (r : List ℕ). over (b ++ r) (6 * i) w) (sym (replicate-append-replicate (length w) (n - length (b ++ w)) 0))
+    ∙ over_at b (zeros (length w)) (zeros (n - length (b ++ w))) w (6 * i) o (length-replicate {A = ℕ} (length w) 0)
+    ∙ ap (padded n 0) (sym (words_next fs d i h))
 
 -- ---- the four parts
 
 pub laid : (l a b c d m₁ m₂ m₃ m₄ : List ℕ) → length l ≡ 703 → length a ≡ 96 → length b ≡ 15 → length c ≡ 576 → length d ≡ 16
-    → m₁ ≡ placed l 0 a → m₂ ≡ placed m₁ 96 b → m₃ ≡ placed m₂ 111 c → m₄ ≡ placed m₃ 687 d → m₄ ≡ a ++ b ++ c ++ d
+    → m₁ ≡ over l 0 a → m₂ ≡ over m₁ 96 b → m₃ ≡ over m₂ 111 c → m₄ ≡ over m₃ 687 d → m₄ ≡ a ++ b ++ c ++ d
 laid l a b c d m₁ m₂ m₃ m₄ nl na nb nc nd e₁ e₂ e₃ e₄ =
-    let k = length-append a b in
-    let p₂ = e₂ ∙ placed_behind m₁ l a b 96 e₁ (sym na) in
-    let p₃ = e₃ ∙ placed_behind m₂ l (a ++ b) c 111 p₂ (omega arith) in
-    let n = length-append (a ++ b) c in
-    e₄ ∙ placed_behind m₃ l (a ++ b ++ c) d 687 p₃ (omega arith) ∙ copied_all l (a ++ b ++ c ++ d) (omega (arith, length-append (a ++ b ++ c) d))
+    let l₁ : List ℕ = drop (length a) l in
+    let l₂ : List ℕ = drop (length b) l₁ in
+    let l₃ : List ℕ = drop (length c) l₂ in
+    let n : length (a ++ b) ≡ 111 = omega (arith, length-append a b) in
+    let k : length (a ++ b ++ c) ≡ 687 = omega (arith, length-append (a ++ b) c) in
+    let p₁ = e₁ ∙ over_behind [] l a 0 refl in
+    let p₂ = e₂ ∙ ap (λ (m : List ℕ). over m 96 b) p₁ ∙ over_behind a l₁ b 96 na in
+    let p₃ = e₃ ∙ ap (λ (m : List ℕ). over m 111 c) p₂ ∙ over_behind (a ++ b) l₂ c 111 n in
+    let p₄ = e₄ ∙ ap (λ (m : List ℕ). over m 687 d) p₃ ∙ over_behind (a ++ b ++ c) l₃ d 687 k in
+    let r : length l₃ ≤ length d = omega (arith, length-drop (length a) l, length-drop (length b) l₁, length-drop (length c) l₂) in
+    p₄ ∙ ap (λ (x : List ℕ). a ++ b ++ c ++ d ++ x) (drop_of_length-le l₃ {i = length d} r) ∙ append-nil (a ++ b ++ c ++ d)

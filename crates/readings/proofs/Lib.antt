@@ -1,5 +1,4 @@
 pub mod Codes
-pub mod Elements
 pub mod Fitting
 pub mod Laying
 pub mod Listing

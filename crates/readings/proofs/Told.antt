@@ -11,6 +11,7 @@ use native.Mathlib.Omega.{arith}
 use lib.Dec.{leb}
 use lib.ListN.{length, get_or, get_elem?}
 use Rattle.errors.specs.Packed.{packed}
+use Rattle.errors.specs.Told.{gives}
 use Rattle.errors.specs.declared.Error.{Error}
 use Rattle.snippet.proofs.Points.{byte_back}
 use Rattle.frame.specs.declared.FrameBuilder.{FrameBuilder}
@@ -68,35 +69,33 @@ module _ (image : List ℕ) (s q : ℕ) (t : Ok (s, q) ≡ header_of (read_image
     go none e t = ok_err t
     go (some c) e t = let n = ap counted t in f c (known image c e) (ap (λ (x : ℕ × ℕ). x.0) n) (ap (λ (x : ℕ × ℕ). x.1) n)
 
-  pub counts_told : s * 256 + q ≡ packed 16 (counts_answer (read_image image))
-  counts_told =
-      of_content (λ (o : Option Content). s * 256 + q ≡ packed 16 (counts_answer o))
-      (λ c k e f. λ i. e i * 256 + f i)
+  pub counts_told : gives (s * 256 + q) ≡ counts_answer (read_image image)
+  counts_told = of_content (λ (o : Option Content). gives (s * 256 + q) ≡ counts_answer o) (λ c k e f. λ i. gives (e i * 256 + f i))
 
   -- an item of those that were counted
   pub item_stands : (k : ℕ) → k < s + q → Stands image k
   item_stands k h = of_content (λ (o : Option Content). Stands image k) (λ c w e f. w.stands k (omega (arith, w.snippets, w.sequences)))
 
   module _ (i j : ℕ) where
-    pub point_past : s ≤ i → absent_point ≡ packed 16 (point_answer (read_image image) i j)
+    pub point_past : s ≤ i → gives absent_point ≡ point_answer (read_image image) i j
     point_past h =
-        of_content (λ (o : Option Content). absent_point ≡ packed 16 (point_answer o i j))
-        (λ c k e f. ap point_code (no_element c.snippets i j (omega arith)))
+        of_content (λ (o : Option Content). gives absent_point ≡ point_answer o i j)
+        (λ c k e f. ap (λ (p : Option Point). gives (point_code p)) (no_element c.snippets i j (omega arith)))
 
     module _ (h : i < s) where
       point_by : (n : ℕ) → ((ps : List Point) → points_in (item_at image i) ≡ ps → n ≡ point_code (get_elem? ps j))
-          → n ≡ packed 16 (point_answer (read_image image) i j)
+          → gives n ≡ point_answer (read_image image) i j
       point_by n d =
-          of_content (λ (o : Option Content). n ≡ packed 16 (point_answer o i j))
+          of_content (λ (o : Option Content). gives n ≡ point_answer o i j)
           (λ c k e f.
           let g : i < length c.snippets = omega arith in
           let p : read_snippet (item_at image i) ≡ some (get_or c.snippets i []) = sym (k.snippet i (omega (arith, k.snippets))) ∙ elem_some c.snippets i [] g in
-          d (get_or c.snippets i []) (snippet_points (item_at image i) _ p) ∙ ap point_code (sym (an_element c.snippets i j g)))
+          ap gives (d (get_or c.snippets i []) (snippet_points (item_at image i) _ p) ∙ ap point_code (sym (an_element c.snippets i j g))))
 
-      pub point_there : (b : ℕ) → get_elem? (item_at image i) j ≡ some b → b < 256 → b ≡ packed 16 (point_answer (read_image image) i j)
+      pub point_there : (b : ℕ) → get_elem? (item_at image i) j ≡ some b → b < 256 → gives b ≡ point_answer (read_image image) i j
       point_there b d w = point_by b (λ ps p. elem_points (item_at image i) j b d w ∙ ap (λ (l : List Point). point_code (get_elem? l j)) p)
 
-      pub point_absent : get_elem? (item_at image i) j ≡ none → absent_point ≡ packed 16 (point_answer (read_image image) i j)
+      pub point_absent : get_elem? (item_at image i) j ≡ none → gives absent_point ≡ point_answer (read_image image) i j
       point_absent d = point_by absent_point (λ ps p. no_points (item_at image i) j d ∙ ap (λ (l : List Point). point_code (get_elem? l j)) p)
 
     pub frame_past : q ≤ i → absent_frame ≡ packed 56 (frame_answer (read_image image) i j)

@@ -21,8 +21,8 @@ returns c =
     let k = c.args.k in
     let last : c.if-k-eq0.last ≡ before_item image k =
     elim c.if-k-eq0.branch [
-      | then-k-eq0 w ↦ before_first image k _ _ _ w.last-is w.wide.ensures.value w.wide-then-k-eq0.ensures.value w.if-k-eq0.true
-      | else-k-eq0 w ↦ before_next image k _ _ w.last-is w.wide-last.ensures.value w.if-k-eq0.false
+      | then-k-eq0 w ↦ before_first image k _ _ _ w.last-is w.from.ensures w.from-then-k-eq0.ensures w.if-k-eq0.true
+      | else-k-eq0 w ↦ before_next image k _ _ w.last-is w.from-last.ensures w.if-k-eq0.false
     ]
     in
-    item_part image c.if-k-eq0.last c.wide-end.result ∙ (λ i. item image (last i) (c.wide-end.ensures.value i))
+    item_part image c.if-k-eq0.last c.from-end.result ∙ (λ i. item image (last i) (c.from-end.ensures i))

@@ -1,5 +1,5 @@
 -- By what the reader answers, and whether the lists have room.
-use Rattle.std.proofs.Common.{◌+◌, ◌*◌, ◌∙◌, ap}
+use Rattle.std.proofs.Common.{◌∙◌, ap}
 use Rattle.errors.specs.Number.{told}
 use Rattle.errors.specs.Told.{gives, refuses, on_told}
 use Rattle.laws.specs.Whole.{whole, whole_out}
@@ -28,7 +28,7 @@ returns-clause-answer c =
     let o = read_image c.args.image.now in
     let out = c.args.out.now in
     let w = lists_done o _ c.in_ok-lists.ensures.value in
-    (λ i. gives (c.from.ensures i * 256 + c.from-2.ensures i)) ∙ w.1
+    ap gives c.both.ensures ∙ w.1
     ∙ in_room out c.lay.result (counts_answer o) _ c.in_ok-copy_whole.ensures.result_value
     ∙ ap (λ t. on_told (whole out t) (λ b. counts_answer o) refuses) (ap gives c.lay.ensures ∙ w.0)
 

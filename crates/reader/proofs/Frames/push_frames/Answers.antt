@@ -1,5 +1,5 @@
 -- At a refusal, and where no frame is left.
-use Rattle.std.proofs.Common.{◌≡◌, ◌∙◌, ◌∷◌, Err, ap, refl, sym}
+use Rattle.std.proofs.Common.{◌∙◌, ◌∷◌, Err, ap, refl, sym}
 use Rattle.reader.specs.Walk.{frames_left}
 use Rattle.reader.proofs.Running.{pushes, run_pushes, left_error}
 use Rattle.errors.proofs.Passed.{passed}

@@ -1,5 +1,5 @@
 -- One frame more.
-use Rattle.std.proofs.Common.{◌≡◌, ◌<◌, ◌-◌, ◌∙◌, ◌∷◌, Ok, length, ap, arith, sym, rules}
+use Rattle.std.proofs.Common.{◌<◌, ◌-◌, ◌∙◌, ◌∷◌, Ok, length, ap, sym, rules}
 use Rattle.std.proofs.lemmas.List.{take_rest}
 use Rattle.reader.specs.Walk.{frames_from}
 use Rattle.reader.proofs.Running.{left_next}

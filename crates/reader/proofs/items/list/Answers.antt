@@ -1,5 +1,5 @@
 -- The part of the elements between two ends.
-use Rattle.std.proofs.Common.{◌≡◌, ◌≤◌, ◌<◌, ◌∙◌, Option, None, ap, sym, length, get_or, min, take, drop, ◌-◌, rules}
+use Rattle.std.proofs.Common.{◌≡◌, ◌≤◌, ◌<◌, ◌∙◌, None, ap, sym, length, get_or, min, take, drop, ◌-◌, rules}
 use Rattle.std.specs.Option.{option_map}
 use Rattle.std.proofs.Math.Option.{some}
 use Rattle.std.proofs.Math.ListN.{get_elem?}
