@@ -76,11 +76,6 @@ refused l n e = go (read_frame l) refl e where
 
 -- ---- the frames one by one
 
-pub left_none : (k : ℕ) (l : List ℕ) → length l ≡ 0 → frames_from k l ≡ []
-left_none zero [] h = refl
-left_none (suc k) [] h = refl
-left_none k (b ∷ bs) h = absurd (omega arith)
-
 left_one : (k : ℕ) (l : List ℕ) (m : Option Parsed) → 0 < length l → 0 < k → read_frame l ≡ m
     → frames_from k l ≡ on_option m (Err NotAnImage ∷ []) (λ p. Ok p.frame ∷ frames_from (k - 1) p.rest)
 left_one k [] m h g e = absurd (omega arith)
@@ -90,19 +85,9 @@ left_one (suc k) (b ∷ bs) m h g e =
     ap (λ (x : Option Parsed). on_option x (Err NotAnImage ∷ []) (λ p. Ok p.frame ∷ frames_from k p.rest)) e
     ∙ ap (λ (j : ℕ). on_option m (Err NotAnImage ∷ []) (λ p. Ok p.frame ∷ frames_from j p.rest)) j
 
-pub left_full : (l : List ℕ) → 0 < length l → frames_from 0 l ≡ Err NotAnImage ∷ []
-left_full [] h = absurd (omega arith)
-left_full (b ∷ bs) h = refl
-
-module _ (k : ℕ) (l : List ℕ) (h : 0 < length l) where
-  pub left_next : (f : FrameBuilder) (m : ℕ) → 0 < k → gives (record { frame = f; len = m }) ≡ first_frame l → frames_from k l ≡ Ok f ∷ frames_from (k - 1) (drop m l)
-  left_next f m g e = left_one k l _ h g (took l f m e)
-
-  pub left_refused : (n : ℕ) → refuses n ≡ first_frame l → frames_from k l ≡ Err NotAnImage ∷ []
-  left_refused n e = go k refl where
-    go : (j : ℕ) → k ≡ j → frames_from j l ≡ Err NotAnImage ∷ []
-    go zero d = left_full l h
-    go (suc j) d = left_one (suc j) l none h (omega arith) (refused l n e)
+pub left_next : (k : ℕ) (l : List ℕ) (f : FrameBuilder) (m : ℕ) → 0 < length l → 0 < k → gives (record { frame = f; len = m }) ≡ first_frame l
+    → frames_from k l ≡ Ok f ∷ frames_from (k - 1) (drop m l)
+left_next k l f m h g e = left_one k l _ h g (took l f m e)
 
 -- what refuses has its number
 pub left_error : (k : ℕ) (l : List ℕ) (e : Error) (r : List (Result FrameBuilder Error)) → frames_from k l ≡ Err e ∷ r → e ≡ NotAnImage

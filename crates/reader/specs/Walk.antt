@@ -39,10 +39,14 @@ push_snippet bs o = cond (snippet_fits bs) (some (end_run (push_items o bs))) no
 unfoldable pub push_sequence : List ℕ → Frames → Option Frames
 push_sequence bs o = cond (leb 1 (length bs)) (and_then (run_frames 32 bs o) (λ f. some (end_run f))) none
 
--- how the code answers: what a step made of the lists, or 18
+-- how the code answers: 18, or a value and what is left of what was made
+abbrev pub Tells : {M V S : Type 0} → (M → V) → (M → S) → Option M → Result V Error → S → Type 0
+Tells value after none answer state = answer ≡ Err Error.NotAnImage
+Tells value after (some m) answer state = (answer ≡ Ok (value m)) × (state ≡ after m)
+
+-- .. what a step made of the lists
 abbrev pub Stepped : {S : Type 0} → Option S → Result Unit Error → S → Type 0
-Stepped none answer state = answer ≡ Err Error.NotAnImage
-Stepped (some s) answer state = (answer ≡ Ok tt) × (state ≡ s)
+Stepped m answer state = Tells (λ s. tt) (λ s. s) m answer state
 
 -- ---- the items that end at the pointers
 
@@ -60,10 +64,9 @@ module _ {S : Type 0} (step : List ℕ → S → Option S) (image : List ℕ) wh
   walk p [] o = some (record { state = o; last = p })
   walk p (e ∷ es) o = cond (ltb p e) (cond (ltb e (length image)) (and_then (step (item image p e) o) (λ o'. walk e es o')) none) none
 
--- how the code answers: the state and the last index, or 18
+-- .. the state and the last index
 abbrev pub Walks : {S : Type 0} → Option (Walked S) → Result ℕ Error → S → Type 0
-Walks none answer state = answer ≡ Err Error.NotAnImage
-Walks (some w) answer state = (answer ≡ Ok w.last) × (state ≡ w.state)
+Walks m answer state = Tells (λ w. w.last) (λ w. w.state) m answer state
 
 -- ---- the image
 
@@ -97,7 +100,7 @@ module _ {S Q : Type 0} (one : List ℕ → S → Option S) (many : List ℕ →
       (cond (counts_fit (get_or image 0 0) (get_or image 1 0)) (after_counts (get_or image 0 0) (get_or image 1 0)) none)
       none
 
--- how the code answers: the states and the image's counts, or 18
+-- .. the states and the image's counts
 abbrev pub Scans : {S Q : Type 0} → List ℕ → Option (Scan S Q) → Result (ℕ × ℕ) Error → S → Q → Type 0
-Scans image none answer snippets sequences = answer ≡ Err Error.NotAnImage
-Scans image (some r) answer snippets sequences = (answer ≡ Ok (get_or image 0 0, get_or image 1 0)) × (snippets ≡ r.snippets) × (sequences ≡ r.sequences)
+Scans image m answer snippets sequences =
+    Tells (λ r. (get_or image 0 0, get_or image 1 0)) (λ r. r) m answer (record { snippets = snippets; sequences = sequences })

@@ -1,22 +1,23 @@
 -- A sequence is its frames.
-use Rattle.std.proofs.Common.{◌∙◌, ◌≤◌, Err, length, ap, refl, sym, rules}
+use Rattle.std.proofs.Common.{◌∙◌, ◌≤◌, Err, length, ap, refl, rules}
 use mathlib.Core.Option.{some}
+use Rattle.reader.specs.Flat.{end_run}
 use Rattle.reader.specs.Walk.{run_frames}
 use Rattle.reader.proofs.Loops.{sequence_run}
 use Rattle.errors.proofs.Passed.{passed}
-use Rattle.reader.proofs.Steps.{stepped_ok, stepped_err, stepped_none, stepped_some}
+use Rattle.reader.proofs.Steps.{tells_ok, tells_err, tells_none, tells_some}
 use Rattle.reader.proofs.FramesGather.add.Goals as goal
 
 pub returns-in_err-push_frames : goal.returns-in_err-push_frames
 returns-in_err-push_frames c =
     let a = c.args in
     let h : 1 ≤ length a.item.now = search rules in
-    let n = stepped_err (run_frames 32 a.item.now a.self.now) _ c.push_frames.ensures c.in_err-push_frames.was in
-    stepped_none _ _ (sequence_run a.item.now h a.self.now _ n.0) (passed _ c.from_residual.ensures.1 ∙ ap Err n.1)
+    let n = tells_err _ _ (run_frames 32 a.item.now a.self.now) _ c.push_frames.ensures c.in_err-push_frames.was in
+    tells_none _ _ _ _ (sequence_run a.item.now h a.self.now _ n.0) (passed _ c.from_residual.ensures.1 ∙ ap Err n.1)
 
 pub returns : goal.returns
 returns c =
     let a = c.args in
     let h : 1 ≤ length a.item.now = search rules in
-    let m = stepped_ok (run_frames 32 a.item.now a.self.now) c.push_frames.ensures c.in_ok-push_frames.was in
-    stepped_some _ (sequence_run a.item.now h a.self.now _ m ∙ ap some (sym c.end.ensures)) refl
+    let m = tells_ok _ _ (run_frames 32 a.item.now a.self.now) c.push_frames.ensures c.in_ok-push_frames.was in
+    tells_some _ _ _ (sequence_run a.item.now h a.self.now _ m.is ∙ (λ i. some (end_run (m.left i)))) refl c.end.ensures

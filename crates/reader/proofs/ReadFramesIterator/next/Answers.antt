@@ -12,7 +12,7 @@ returns-in-Ok-clause-steps c =
     let f = c.in-Ok.frame in
     let n = c.in-Ok.n in
     let h : 0 < length l = search rules in
-    left_next s.left l h f n c.if-self-gt0.true c.in-Ok.ensures.value ∙ ap (λ r. Ok f ∷ frames_from (s.left - 1) r) (sym (take_rest l n))
+    left_next s.left l f n h c.if-self-gt0.true c.in-Ok.ensures.value ∙ ap (λ r. Ok f ∷ frames_from (s.left - 1) r) (sym (take_rest l n))
 
 pub returns-in-Ok-clause-goes : goal.returns-in-Ok-clause-goes
 returns-in-Ok-clause-goes c = let e = ap length (returns-in-Ok-clause-steps c) in search (rules, e)
