@@ -3,18 +3,14 @@
 use mathlib.Core.Path.{◌≡◌, refl, sym, ap, ◌∙◌}
 use mathlib.Core.List.{List, [], ◌∷◌}
 use mathlib.Core.Option.{none, some}
-use Prim.Native.Nat.{ℕ, zero, suc, ◌+◌, ◌-◌, ◌≤◌, ◌<◌, min}
-use native.Mathlib.Decide.{dec_le}
+use Prim.Native.Nat.{ℕ, zero, suc, ◌+◌, ◌≤◌, ◌<◌}
 use native.Mathlib.Omega.{arith}
-use lib.ListN.{length, take, drop, get_or, get_elem?, length-drop}
-use Rattle.laws.proofs.Lists.{take_shown}
+use lib.ListN.{length, take, drop, get_or, get_elem?}
 use Rattle.std.proofs.Common.{Bor, Some, None}
 use Rattle.std.specs.declared.option.Option as rust
 use Rattle.std.specs.Option.{option_copied}
 use Rattle.std.specs.Slice.{IsItemAt}
-use Rattle.reader.specs.Reading.{parts}
 use Rattle.reader.specs.Items.{at_told}
-use Rattle.reader.specs.Places.{start_in}
 
 module _ {A : Type 0} where
   -- an index past the end is that of no element
@@ -52,29 +48,3 @@ module _ {A : Type 0} where
   pub got : (l : List A) (i : ℕ) (r : rust.Option (Bor A)) → IsItemAt l i r → at_told (option_copied r) ≡ get_elem? l i
   got l i (Some x) h = ap some h.1 ∙ sym (elem_some l i x.now h.3.0)
   got l i None h = sym (elem_none l i h.3)
-
-  -- the i-th of the parts, which are as many as the ends
-  pub part_at : (es : List ℕ) (from i : ℕ) (l : List A) → i < length es
-      → get_elem? (parts from es l) i ≡ some (take (get_or es i 0 - start_in from es i) (drop (start_in from es i) l))
-  part_at [] from i l h = absurd (omega arith)
-  part_at (e ∷ es) from zero l h = refl
-  part_at (e ∷ es) from (suc zero) l h = part_at es e zero l (omega arith)
-  part_at (e ∷ es) from (suc (suc i)) l h = part_at es e (suc i) l (omega arith)
-
-  pub part_none : (es : List ℕ) (from i : ℕ) (l : List A) → length es ≤ i → get_elem? (parts from es l) i ≡ none
-  part_none [] from i l h = refl
-  part_none (e ∷ es) from zero l h = absurd (omega arith)
-  part_none (e ∷ es) from (suc i) l h = part_none es e i l (omega arith)
-
-  -- a part shows no more than there is
-  pub part_shown : (l : List A) (from to a b : ℕ) → b ≡ min to (length l) → a ≡ min from b → take (b - a) (drop a l) ≡ take (to - from) (drop from l)
-  part_shown l from to a b eb ea = go (dec_le from b) where
-    go : Dec (from ≤ b) → take (b - a) (drop a l) ≡ take (to - from) (drop from l)
-    go (yes h) =
-        let k : a ≡ from = omega arith in
-        let m : b - from ≡ min (to - from) (length (drop from l)) = simp length-drop (omega arith) in
-        ap (λ (i : ℕ). take (b - i) (drop i l)) k ∙ take_shown (drop from l) (to - from) (b - from) m
-    go (no h) =
-        let k : b - a ≡ 0 = omega arith in
-        let m : 0 ≡ min (to - from) (length (drop from l)) = simp length-drop (omega arith) in
-        ap (λ (i : ℕ). take i (drop a l)) k ∙ take_shown (drop from l) (to - from) 0 m

@@ -10,9 +10,9 @@ use native.Mathlib.Omega.{arith}
 use lib.Dec.{ltb}
 use lib.ListN.{length, drop, length-append}
 use lib.Seq.{drop_at}
-use Rattle.errors.specs.Told.{gives, refuses}
+use Rattle.errors.specs.Told.{gives}
 use Rattle.frame.specs.declared.FrameBuilder.{FrameBuilder}
-use Rattle.frame.specs.Read.{two_bytes, Parsed, parsed, read_third, read_second, read_after, read_frame, first_frame, one_byte, Taken, taken_from}
+use Rattle.frame.specs.Read.{two_bytes, Parsed, parsed, read_third, read_second, read_after, read_frame, one_byte, Taken, taken_from}
 use Rattle.errors.specs.declared.Error.{Error}
 use Rattle.errors.specs.declared.Error.TheVariants.{NotAnImage}
 use Rattle.content.specs.ReadImage.{on_option, and_then, every, read_frames}
@@ -62,32 +62,13 @@ pub took : (l : List ℕ) (f : FrameBuilder) (m : ℕ) → gives (record { frame
     → read_frame l ≡ parsed f (drop m l)
 took l f m e = go (read_frame l) refl e where
   go : (o : Option Parsed) → read_frame l ≡ o → gives (record { frame = f; len = m }) ≡ taken_from (length l) o → read_frame l ≡ parsed f (drop m l)
-  go none d e = let z : ◌≡◌ {A = ℕ} 0 1 = cc in absurd (omega arith)
+  go none d e = cc
   go (some p) d e =
       let t : ◌≡◌ {A = Taken} (record { frame = f; len = m }) (record { frame = p.frame; len = length l - length p.rest }) = cc in
       let r : p.rest ≡ drop m l = sym (rest l p d).behind ∙ ap (λ (x : Taken). drop x.len l) (sym t) in
       d ∙ (λ i. parsed (sym t i).frame (r i))
 
-pub refused : (l : List ℕ) (n : ℕ) → refuses n ≡ taken_from (length l) (read_frame l) → read_frame l ≡ none
-refused l n e = go (read_frame l) refl e where
-  go : (o : Option Parsed) → read_frame l ≡ o → refuses n ≡ taken_from (length l) o → read_frame l ≡ none
-  go none d e = d
-  go (some p) d e = let z : ◌≡◌ {A = ℕ} 0 1 = cc in absurd (omega arith)
-
 -- ---- the frames one by one
-
-left_one : (k : ℕ) (l : List ℕ) (m : Option Parsed) → 0 < length l → 0 < k → read_frame l ≡ m
-    → frames_from k l ≡ on_option m (Err NotAnImage ∷ []) (λ p. Ok p.frame ∷ frames_from (k - 1) p.rest)
-left_one k [] m h g e = absurd (omega arith)
-left_one zero (b ∷ bs) m h g e = absurd (omega arith)
-left_one (suc k) (b ∷ bs) m h g e =
-    let j : k ≡ suc k - 1 = omega arith in
-    ap (λ (x : Option Parsed). on_option x (Err NotAnImage ∷ []) (λ p. Ok p.frame ∷ frames_from k p.rest)) e
-    ∙ ap (λ (j : ℕ). on_option m (Err NotAnImage ∷ []) (λ p. Ok p.frame ∷ frames_from j p.rest)) j
-
-pub left_next : (k : ℕ) (l : List ℕ) (f : FrameBuilder) (m : ℕ) → 0 < length l → 0 < k → gives (record { frame = f; len = m }) ≡ first_frame l
-    → frames_from k l ≡ Ok f ∷ frames_from (k - 1) (drop m l)
-left_next k l f m h g e = left_one k l _ h g (took l f m e)
 
 -- what refuses has its number
 pub left_error : (k : ℕ) (l : List ℕ) (e : Error) (r : List (Result FrameBuilder Error)) → frames_from k l ≡ Err e ∷ r → e ≡ NotAnImage

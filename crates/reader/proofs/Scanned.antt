@@ -15,9 +15,11 @@ use Rattle.errors.specs.declared.Error.TheVariants.{NotAnImage}
 use Rattle.content.specs.ReadImage.{all_zero, counts_fit}
 use Rattle.content.proofs.Codec.{some_inj, cond_some, then_some}
 use Rattle.content.proofs.Items.{counts_sound}
-use Rattle.reader.proofs.Loops.{part}
 use Rattle.reader.proofs.Steps.{tells_ok, tells_err}
 use Rattle.reader.specs.Walk.{Walked, Walks, item, walk, finished, sequences_then, after_snippets, snippets_then, after_counts, scan}
+
+part : (l : List ℕ) (a n : ℕ) → take (a + n - a) (drop a l) ≡ take n (drop a l)
+part l a n = let k : a + n - a ≡ n = omega arith in ap (λ (m : ℕ). take m (drop a l)) k
 
 -- the last index is one of the image
 pub walk_last : {S : Type 0} (step : List ℕ → S → Option S) (image es : List ℕ) (p : ℕ) (o : S) (w : Walked S) → p < length image

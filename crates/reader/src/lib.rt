@@ -19,7 +19,8 @@ ghost use Rattle.reader.specs.Walk.{Stepped, Walks, frames_from, frames_left, ru
 use errors::Error;
 use frame::FrameBuilder;
 
-// Lists end to end, 96 elements and MOST lists at most: a list's end before the index in `ends`, and the first `count` are in use.
+// Lists end to end, 96 elements and MOST lists at most: a list's end before the index in `ends`, and the first `count` are in use. Each is
+// an array beside its count, since no library crate has a heap.
 #[derive(Debug, Clone, Copy)]
 pub struct Runs<T: Copy, const MOST: usize> {
     pub items: [T; 96],
@@ -61,7 +62,7 @@ impl<T: Copy, const MOST: usize> Runs<T, MOST> {
         ensures { self.new ≡ push_item self.old item }
     {
         if self.len < 96 {
-            self.items[self.len as usize] = item;
+            self.items[usize::from(self.len)] = item;
             self.len += 1;
         }
     }
@@ -81,8 +82,8 @@ impl<T: Copy, const MOST: usize> Runs<T, MOST> {
         requires { MOST < 256 }
         ensures { self.new ≡ end_run self.old }
     {
-        if (self.count as usize) < MOST {
-            self.ends[self.count as usize] = self.len;
+        if usize::from(self.count) < MOST {
+            self.ends[usize::from(self.count)] = self.len;
             self.count += 1;
         }
     }

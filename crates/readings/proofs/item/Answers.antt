@@ -1,10 +1,12 @@
 -- The bytes behind the item before, up to the pointer.
-use Rattle.std.proofs.Common.{◌≡◌, ◌+◌, ◌∙◌, List, ℕ, zero, suc, ap, refl, arith, get_or}
+use Rattle.std.proofs.Common.{◌-◌, take, drop, ◌≡◌, ◌+◌, ◌∙◌, List, ℕ, zero, suc, ap, refl, arith, get_or}
 use Rattle.reader.specs.Walk.{item}
-use Rattle.reader.proofs.Loops.{item_part}
 use Rattle.readings.specs.InPlace.{before_item, item_at}
 use Rattle.readings.proofs.item.Goals as goal
 use Rattle.readings.proofs.item.Goals.{then-k-eq0, else-k-eq0}
+
+item_part : (image : List ℕ) (p e : ℕ) → take (e + 1 - (p + 1)) (drop (p + 1) image) ≡ item image p e
+item_part image p e = let k : e + 1 - (p + 1) ≡ e - p = omega arith in ap (λ (n : ℕ). take n (drop (p + 1) image)) k
 
 before_first : (image : List ℕ) (k last a b : ℕ) → last ≡ 1 + a + b → a ≡ get_or image 0 0 → b ≡ get_or image 1 0 → k ≡ 0 → last ≡ before_item image k
 before_first image zero last a b d e f h = d ∙ (λ i. 1 + e i + f i)
