@@ -6,7 +6,6 @@ use mathlib.Core.Bool.{Bool, true, false, cond, ◌&&◌}
 use mathlib.Core.List.{List, [], ◌∷◌}
 use mathlib.Core.Option.{Option, none, some}
 use Prim.Native.Nat.{ℕ, zero, suc, ◌+◌, ◌≤◌}
-use native.Mathlib.Omega.{arith}
 use borrow.Author.Tests.{le-leb}
 use lib.Dec.{ltb, leb, eqb}
 use lib.ListN.{length, take, drop, get_or}
@@ -23,9 +22,6 @@ use Rattle.reader.proofs.Running.{ok, every_ok}
 use Rattle.reader.proofs.Whole.{no_points, no_frames, reading_from, whole}
 use Rattle.readings.specs.InPlace.{present, sequence_fits, kept, header_of}
 use Rattle.readings.proofs.Standing.{known}
-
-pub false_true : {X : Type 0} → false ≡ true → X
-false_true e = let z : ◌≡◌ {A = ℕ} 0 1 = cc in absurd (omega arith)
 
 -- ---- one item
 
@@ -79,8 +75,8 @@ module _ {S T : Type 0} (f : List ℕ → S → Option S) (g : List ℕ → T �
       go ih false u m n h = refl
       go ih true false m n h = refl
       go ih true true none none h = refl
-      go ih true true none (some p') h = false_true h
-      go ih true true (some o') none h = false_true (sym h)
+      go ih true true none (some p') h = cc
+      go ih true true (some o') none h = cc
       go ih true true (some o') (some p') h = ih o' p'
 
 -- ---- the image
@@ -160,8 +156,8 @@ module _ (image : List ℕ) (small : Bytes image) where
   header_by m r x y h e = go m (read_image image) refl h e where
     go : (m : Option (Scan _ _)) (o : Option Content) → read_image image ≡ o → Scans image m r x y → present m ≡ present o → r ≡ header_of o
     go none none n h e = h
-    go none (some c) n h e = false_true e
-    go (some w) none n h e = false_true (sym e)
+    go none (some c) n h e = cc
+    go (some w) none n h e = cc
     go (some w) (some c) n h e = let k = known image c n in h.0 ∙ (λ i. Ok (sym k.snippets i, sym k.sequences i))
 
   -- snippets and sequences that are not kept

@@ -1,6 +1,6 @@
 -- What the functions answer, by what is known of an image's content.
 -- Assumes nothing.
-use Rattle.std.specs.Prelude.{Result, Ok, Err}
+use Rattle.std.specs.Prelude.{Ok}
 use Rattle.std.specs.declared.option.Option as rust
 use mathlib.Core.Path.{◌≡◌, refl, sym, ap, ◌∙◌}
 use mathlib.Core.Bool.{◌&&◌}
@@ -12,7 +12,6 @@ use lib.Dec.{leb}
 use lib.ListN.{length, get_or, get_elem?}
 use Rattle.errors.specs.Packed.{packed}
 use Rattle.errors.specs.Told.{gives}
-use Rattle.errors.specs.declared.Error.{Error}
 use Rattle.snippet.proofs.Points.{byte_back}
 use Rattle.frame.specs.declared.FrameBuilder.{FrameBuilder}
 use Rattle.content.specs.Content.{Point, Content}
@@ -25,16 +24,6 @@ use Rattle.readings.specs.InPlace.{header_of, item_at, Stands, NthFrame}
 use Rattle.readings.specs.Readings.{counts_answer, point_answer, frame_answer}
 use Rattle.readings.proofs.Codes.{absent_point, point_code, absent_frame, frame_code}
 use Rattle.readings.proofs.Standing.{Known, known}
-
-abbrev counted : Result (ℕ × ℕ) Error → ℕ × ℕ
-counted (Ok n) = n
-counted (Err e) = (0, 0)
-
-pub ok_err : {A X : Type 0} {a : A} {e : Error} → Ok a ≡ Err e → X
-ok_err {A} p = let z : ◌≡◌ {A = ℕ} 1 0 = ap go p in absurd (omega arith) where
-  go : Result A Error → ℕ
-  go (Ok a) = 1
-  go (Err e) = 0
 
 -- the bytes of a snippet and its points
 elem_points : (bs : List ℕ) (j b : ℕ) → get_elem? bs j ≡ some b → b < 256 → b ≡ point_code (get_elem? (points_in bs) j)
@@ -66,8 +55,10 @@ module _ (image : List ℕ) (s q : ℕ) (t : Ok (s, q) ≡ header_of (read_image
   of_content : (P : Option Content → Type 0) → ((c : Content) → Known image c → s ≡ length c.snippets → q ≡ length c.sequences → P (some c)) → P (read_image image)
   of_content P f = go (read_image image) refl t where
     go : (o : Option Content) → read_image image ≡ o → Ok (s, q) ≡ header_of o → P o
-    go none e t = ok_err t
-    go (some c) e t = let n = ap counted t in f c (known image c e) (ap (λ (x : ℕ × ℕ). x.0) n) (ap (λ (x : ℕ × ℕ). x.1) n)
+    go none e t = cc
+    go (some c) e t =
+        let n : ◌≡◌ {A = ℕ × ℕ} (s, q) (length c.snippets, length c.sequences) = cc in
+        f c (known image c e) (ap (λ (x : ℕ × ℕ). x.0) n) (ap (λ (x : ℕ × ℕ). x.1) n)
 
   pub counts_told : gives (s * 256 + q) ≡ counts_answer (read_image image)
   counts_told = of_content (λ (o : Option Content). gives (s * 256 + q) ≡ counts_answer o) (λ c k e f. λ i. gives (e i * 256 + f i))

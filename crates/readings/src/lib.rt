@@ -94,6 +94,7 @@ fn read_counts(image: &[u8]) -> Result<u32, Error>
     Ok(both(s, q))
 }
 
+// The two numbers in one.
 fn both(s: u8, q: u8) -> u32
     ensures { result ≡ s * 256 + q }
 {
@@ -142,6 +143,7 @@ fn frame_bytes(frames: &[FrameBuilder]) -> [u8; FRAMES_SIZE]
     ensures { result ≡ padded 576 0 (words_bytes frames.now) }
 {
     let mut out = [0u8; FRAMES_SIZE];
+    // As `chunks_exact_mut(6).zip(frames)` it was tried: what the bytes are after the loop stayed open.
     for (i, frame) in frames.iter().enumerate() {
         let six = low_bytes(frame.word());
         laws::lay(&mut out, 6 * i, &six);
