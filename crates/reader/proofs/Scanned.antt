@@ -2,12 +2,12 @@
 -- Assumes nothing.
 use Rattle.std.proofs.Common.{Result, Ok, Err}
 use mathlib.Core.Path.{◌≡◌, sym, ap, ◌∙◌, subst}
-use mathlib.Core.Bool.{Bool, true, false, cond}
+use mathlib.Core.Bool.{Bool, true, cond}
 use mathlib.Core.List.{List, [], ◌∷◌}
 use mathlib.Core.Option.{Option, none, some}
 use Prim.Native.Nat.{ℕ, ◌+◌, ◌-◌, ◌<◌}
 use native.Mathlib.Omega.{arith}
-use borrow.Author.Tests.{eq-eqb, ne_eqb, ltb-true}
+use borrow.Author.Tests.{eq-eqb, ltb-true}
 use lib.Dec.{ltb}
 use lib.ListN.{length, take, drop, get_or}
 use Rattle.errors.specs.declared.Error.{Error}
@@ -32,21 +32,15 @@ walk_last step image (x ∷ es) p o w h e =
     walk_last step image es x o' w (ltb-true x (length image) u) e₄
 
 module _ {S Q : Type 0} (one : List ℕ → S → Option S) (many : List ℕ → Q → Option Q) (image : List ℕ) (a : S) (b : Q) where
-  pub not_hundred : (length image ≡ 100 → ⊥) → scan one many image a b ≡ none
-  not_hundred d = simp (ne_eqb (length image) 100 d)
-
   module _ (h : length image ≡ 100) (s q : ℕ) (es : s ≡ get_or image 0 0) (eq : q ≡ get_or image 1 0) where
-    counts_are : (t : Bool) → counts_fit s q ≡ t → counts_fit (get_or image 0 0) (get_or image 1 0) ≡ t
-    counts_are t k = (λ i. counts_fit (sym es i) (sym eq i)) ∙ k
-
-    pub not_counts : counts_fit s q ≡ false → scan one many image a b ≡ none
-    not_counts k = simp (eq-eqb (length image) 100 h, counts_are false k)
+    counts_are : counts_fit s q ≡ true → counts_fit (get_or image 0 0) (get_or image 1 0) ≡ true
+    counts_are k = (λ i. counts_fit (sym es i) (sym eq i)) ∙ k
 
     -- what the walk over the snippets answered
     module _ (r : Result ℕ Error) (x : S) (w : Walks (walk one image (1 + s + q) (take (2 + s - 2) (drop 2 image)) a) r x) (fits : counts_fit s q ≡ true) where
       counted : scan one many image a b ≡ snippets_then one many image a b s q (walk one image (1 + s + q) (take s (drop 2 image)) a)
       unfolding after_counts
-      counted = simp (eq-eqb (length image) 100 h, counts_are true fits) (λ i. after_counts one many image a b (sym es i) (sym eq i))
+      counted = simp (eq-eqb (length image) 100 h, counts_are fits) (λ i. after_counts one many image a b (sym es i) (sym eq i))
 
       taken : walk one image (1 + s + q) (take s (drop 2 image)) a ≡ walk one image (1 + s + q) (take (2 + s - 2) (drop 2 image)) a
       taken = λ i. walk one image (1 + s + q) (sym (part image 2 s) i) a

@@ -6,7 +6,7 @@ use mathlib.Core.Path.{◌≡◌, refl, sym, ap, ◌∙◌}
 use mathlib.Core.Bool.{◌&&◌}
 use mathlib.Core.List.{List, [], ◌∷◌}
 use mathlib.Core.Option.{Option, none, some}
-use Prim.Native.Nat.{ℕ, zero, suc, ◌*◌, ◌+◌, ◌≤◌, ◌<◌}
+use Prim.Native.Nat.{ℕ, zero, suc, ◌+◌, ◌≤◌, ◌<◌}
 use native.Mathlib.Omega.{arith}
 use lib.Dec.{leb}
 use lib.ListN.{length, get_or, get_elem?}
@@ -21,7 +21,7 @@ use Rattle.content.proofs.Codec.{none_some, some_inj, cond_some}
 use Rattle.reader.specs.Items.{element, at_told}
 use Rattle.reader.proofs.Placed.{elem_some, elem_none}
 use Rattle.readings.specs.InPlace.{header_of, item_at, Stands, NthFrame}
-use Rattle.readings.specs.Readings.{counts_answer, point_answer, frame_answer}
+use Rattle.readings.specs.Readings.{point_answer, frame_answer}
 use Rattle.readings.proofs.Codes.{absent_point, point_code, absent_frame, frame_code}
 use Rattle.readings.proofs.Standing.{Known, known}
 
@@ -59,9 +59,6 @@ module _ (image : List ℕ) (s q : ℕ) (t : Ok (s, q) ≡ header_of (read_image
     go (some c) e t =
         let n : ◌≡◌ {A = ℕ × ℕ} (s, q) (length c.snippets, length c.sequences) = cc in
         f c (known image c e) (ap (λ (x : ℕ × ℕ). x.0) n) (ap (λ (x : ℕ × ℕ). x.1) n)
-
-  pub counts_told : gives (s * 256 + q) ≡ counts_answer (read_image image)
-  counts_told = of_content (λ (o : Option Content). gives (s * 256 + q) ≡ counts_answer o) (λ c k e f. λ i. gives (e i * 256 + f i))
 
   -- an item of those that were counted
   pub item_stands : (k : ℕ) → k < s + q → Stands image k

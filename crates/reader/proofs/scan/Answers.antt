@@ -1,16 +1,9 @@
--- By the tests of the length, of the counts and of the zeros, and by what each walk gave.
+-- By what each walk gave, and whether the rest is zero.
 use Rattle.std.proofs.Common.{◌∙◌, Err, true, false, ap, arith, refl, rules}
 use Rattle.errors.proofs.Passed.{passed}
-use Rattle.reader.proofs.Scanned.{not_hundred, not_counts, not_snippets, not_sequences, within, ended}
+use Rattle.reader.proofs.Scanned.{not_snippets, not_sequences, within, ended}
 use Rattle.reader.proofs.Steps.{tells_none, tells_some}
 use Rattle.reader.proofs.scan.Goals as goal
-
-pub returns-then-image-ne100 : goal.returns-then-image-ne100
-returns-then-image-ne100 g c = tells_none _ _ _ _ (not_hundred _ _ c.args.image.now _ _ c.if-image-ne100.true) refl
-
-pub returns-then-not-counts_fit : goal.returns-then-not-counts_fit
-returns-then-not-counts_fit g c =
-    tells_none _ _ _ _ (not_counts _ _ c.args.image.now _ _ (omega arith) _ _ c.from-s.ensures c.from-q.ensures (search rules)) refl
 
 pub returns-in_err-last : goal.returns-in_err-last
 returns-in_err-last g c =
