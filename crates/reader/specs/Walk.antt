@@ -1,5 +1,5 @@
--- The reader step by step, as the code goes: what the contracts of the private functions and of `scan` cite. proofs/Whole.antt: with the
--- lists that are kept it is `read_image`, laid out as `reading_of` says.
+-- The reader step by step, as the code goes: what the contracts of the private functions, of `scan` and of `ReadFrames` cite.
+-- proofs/Whole.antt: with the lists that are kept it is `read_image`, laid out as `reading_of` says.
 use Rattle.std.specs.Prelude.{ℕ, zero, suc, ◌+◌, ◌-◌, ◌≡◌, Result, Ok, Err, Bool, cond, ◌&&◌, List, [], ◌∷◌, ltb, leb, eqb, length, take, drop, get_or}
 use Rattle.std.proofs.Math.Option.{Option, none, some}
 use Rattle.errors.specs.declared.Error.{Error}
@@ -19,6 +19,7 @@ frames_from zero (b ∷ bs) = Err Error.NotAnImage ∷ []
 frames_from (suc k) [] = []
 frames_from (suc k) (b ∷ bs) = on_option (read_frame (b ∷ bs)) (Err Error.NotAnImage ∷ []) (λ p. Ok p.frame ∷ frames_from k p.rest)
 
+-- what an iterator over them has left
 abbrev pub frames_left : ReadFrames → List (Result FrameBuilder Error)
 frames_left r = frames_from r.left r.rest.now
 

@@ -41,6 +41,7 @@ fn list<T: Copy, const MOST: usize>(runs: &Runs<T, MOST>, i: usize) -> Option<&[
     let ends = laws::shown(&runs.ends, runs.count);
     let to = usize::from(*ends.get(i)?).min(96);
     let from = start(ends, i).min(to);
+    // Of an array of any T the check knows no part with a start: of a slice of all it does.
     let items = &runs.items[..];
     Some(&items[from..to])
 }
