@@ -1,7 +1,6 @@
 pub mod Capacity
 pub mod Cuts
 pub mod Flats
-pub mod Loops
 pub mod Placed
 pub mod Running
 pub mod Scanned

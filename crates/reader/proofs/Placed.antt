@@ -1,20 +1,16 @@
--- An element of a list of lists, by its place in the flat list.
+-- The elements of a list, and the lists in a flat list.
 -- Assumes nothing.
 use mathlib.Core.Path.{◌≡◌, refl, sym, ap, ◌∙◌}
-use mathlib.Core.Bool.{cond}
 use mathlib.Core.List.{List, [], ◌∷◌}
-use mathlib.Core.Option.{Option, none, some}
-use Prim.Native.Nat.{ℕ, zero, suc, ◌+◌, ◌-◌, ◌≤◌, ◌<◌}
-use native.Mathlib.Decide.{dec_le}
+use mathlib.Core.Option.{none, some}
+use Prim.Native.Nat.{ℕ, zero, suc, ◌+◌, ◌≤◌, ◌<◌}
 use native.Mathlib.Omega.{arith}
-use borrow.Author.Tests.{lt-ltb, le-ltb}
-use lib.Dec.{ltb}
-use lib.ListN.{length, take, drop, get_or, get_elem?, length-take}
-use lib.Seq.{get_or-take}
-use Rattle.content.specs.ReadImage.{and_then}
-use Rattle.reader.specs.Reading.{parts}
-use Rattle.reader.specs.Items.{element}
-use Rattle.reader.specs.Places.{start_in, place_in}
+use lib.ListN.{length, take, drop, get_or, get_elem?}
+use Rattle.std.proofs.Common.{Bor, Some, None}
+use Rattle.std.specs.declared.option.Option as rust
+use Rattle.std.specs.Option.{option_copied}
+use Rattle.std.specs.Slice.{IsItemAt}
+use Rattle.reader.specs.Items.{at_told}
 
 module _ {A : Type 0} where
   -- an index past the end is that of no element
@@ -48,64 +44,7 @@ module _ {A : Type 0} where
     next : (i : ℕ) → get_elem? (x ∷ l) (suc n + i) ≡ get_elem? l (n + i)
     next i = let e : suc n + i ≡ suc (n + i) = omega arith in ap (get_elem? (x ∷ l)) e
 
-  pub one_part : (l : List A) (from k j : ℕ) → get_elem? (take k (drop from l)) j ≡ and_then (cond (ltb j k) (some (from + j)) none) (get_elem? l)
-  one_part l from k j = go (dec_le (suc j) k) where
-    go : Dec (suc j ≤ k) → get_elem? (take k (drop from l)) j ≡ and_then (cond (ltb j k) (some (from + j)) none) (get_elem? l)
-    go (yes h) = simp (lt-ltb j k h) (elem_take (drop from l) k j h ∙ elem_drop l from j)
-    go (no h) = let g : k ≤ j = omega arith in simp (le-ltb j k g) (elem_past (drop from l) k j g)
-
-  pub element_placed : (es : List ℕ) (from i j : ℕ) (l : List A) → element (parts from es l) i j ≡ and_then (place_in from es i j) (get_elem? l)
-  element_placed [] from i j l = refl
-  element_placed (e ∷ es) from zero j l = one_part l from (e - from) j
-  element_placed (e ∷ es) from (suc i) j l = element_placed es e i j l
-
--- ---- the place, by the tests that the code makes
-
-pub place_none : (es : List ℕ) (from i j : ℕ) → length es ≤ i → place_in from es i j ≡ none
-place_none [] from i j h = refl
-place_none (e ∷ es) from zero j h = absurd (omega arith)
-place_none (e ∷ es) from (suc i) j h = place_none es e i j (omega arith)
-
-pub place_some : (es : List ℕ) (from i j : ℕ) → i < length es
-    → place_in from es i j ≡ cond (ltb j (get_or es i 0 - start_in from es i)) (some (start_in from es i + j)) none
-place_some [] from i j h = absurd (omega arith)
-place_some (e ∷ es) from zero j h = refl
-place_some (e ∷ es) from (suc zero) j h = place_some es e zero j (omega arith)
-place_some (e ∷ es) from (suc (suc i)) j h = place_some es e (suc i) j (omega arith)
-
-start_take : (ends : List ℕ) (count i : ℕ) → i < count → start_in 0 (take count ends) i ≡ start_in 0 ends i
-start_take ends count zero h = refl
-start_take ends count (suc i) h = get_or-take count ends i 0 (omega arith)
-
-module _ (ends : List ℕ) (count i j : ℕ) where
-  pub place_out : length ends ≤ i → none ≡ place_in 0 (take count ends) i j
-  place_out h = sym (place_none (take count ends) 0 i j (simp length-take (omega arith)))
-
-  pub place_unused : count ≤ i → none ≡ place_in 0 (take count ends) i j
-  place_unused h = sym (place_none (take count ends) 0 i j (simp length-take (omega arith)))
-
-  module _ (h : i < length ends) (k : i < count) (from to : ℕ) (ef : from ≡ start_in 0 ends i) (et : to ≡ get_or ends i 0) where
-    place_is : place_in 0 (take count ends) i j ≡ cond (ltb j (to - from)) (some (from + j)) none
-    place_is =
-        place_some (take count ends) 0 i j (simp length-take (omega arith))
-        ∙ rw (get_or-take count ends i 0 k, start_take ends count i k, ef, et)
-
-    pub place_short : to - from ≤ j → none ≡ place_in 0 (take count ends) i j
-    place_short g = sym (place_is ∙ simp (le-ltb j (to - from) g))
-
-    pub place_there : j < to - from → some (from + j) ≡ place_in 0 (take count ends) i j
-    place_there g = sym (place_is ∙ simp (lt-ltb j (to - from) g))
-
--- an element by a place that was found, in a list of n
-module _ {A : Type 0} (es : List ℕ) (l : List A) (i j n : ℕ) (h : length l ≡ n) where
-  element_by : (o : Option ℕ) → o ≡ place_in 0 es i j → and_then o (get_elem? l) ≡ element (parts 0 es l) i j
-  element_by o e = sym (element_placed es 0 i j l ∙ ap (λ (o : Option ℕ). and_then o (get_elem? l)) (sym e))
-
-  pub element_past : (k : ℕ) → some k ≡ place_in 0 es i j → n ≤ k → none ≡ element (parts 0 es l) i j
-  element_past k e g = sym (elem_none l k (omega arith)) ∙ element_by (some k) e
-
-  pub element_there : (k : ℕ) (d : A) → some k ≡ place_in 0 es i j → k < n → some (get_or l k d) ≡ element (parts 0 es l) i j
-  element_there k d e g = sym (elem_some l k d (omega arith)) ∙ element_by (some k) e
-
-  pub element_absent : none ≡ place_in 0 es i j → none ≡ element (parts 0 es l) i j
-  element_absent e = element_by none e
+  -- an element that was looked up
+  pub got : (l : List A) (i : ℕ) (r : rust.Option (Bor A)) → IsItemAt l i r → at_told (option_copied r) ≡ get_elem? l i
+  got l i (Some x) h = ap some h.1 ∙ sym (elem_some l i x.now h.3.0)
+  got l i None h = sym (elem_none l i h.3)

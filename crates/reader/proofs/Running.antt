@@ -1,23 +1,25 @@
--- The loop over the frames of a sequence: a frame that was read at an index, and what is left behind it.
+-- The frames of a sequence: one that was read, and what is left behind it.
 -- Assumes nothing.
+use Rattle.std.proofs.Common.{Result, Ok, Err}
 use mathlib.Core.Path.{◌≡◌, refl, sym, ap, ◌∙◌, subst}
 use mathlib.Core.Bool.{Bool, true, false, cond}
 use mathlib.Core.List.{List, [], ◌∷◌, ◌++◌}
 use mathlib.Core.Option.{Option, none, some}
-use Prim.Native.Nat.{ℕ, zero, suc, ◌+◌, ◌-◌, ◌/◌, ◌%◌, ◌≤◌, ◌<◌}
+use Prim.Native.Nat.{ℕ, zero, suc, ◌-◌, ◌/◌, ◌%◌, ◌≤◌, ◌<◌}
 use native.Mathlib.Omega.{arith}
 use lib.Dec.{ltb}
-use lib.ListN.{length, drop, length-append, drop_of_length-le}
-use lib.Seq.{drop-drop, drop_at}
-use Rattle.errors.specs.Told.{gives, refuses}
+use lib.ListN.{length, drop, length-append}
+use lib.Seq.{drop_at}
+use Rattle.errors.specs.Told.{gives}
 use Rattle.frame.specs.declared.FrameBuilder.{FrameBuilder}
 use Rattle.frame.specs.Read.{two_bytes, Parsed, parsed, read_third, read_second, read_after, read_frame, one_byte, Taken, taken_from}
-use Rattle.content.specs.ReadImage.{and_then}
+use Rattle.errors.specs.declared.Error.{Error}
+use Rattle.errors.specs.declared.Error.TheVariants.{NotAnImage}
+use Rattle.content.specs.ReadImage.{on_option, and_then, every, read_frames}
 use Rattle.content.proofs.Codec.{none_some, some_inj, cond_some}
 use Rattle.reader.specs.Reading.{Frames}
 use Rattle.reader.specs.Flat.{push_item}
-use Rattle.reader.specs.Walk.{run_frames}
-use Rattle.reader.proofs.Loops.{drop_one}
+use Rattle.reader.specs.Walk.{frames_from, run_frames}
 
 -- ---- a frame leaves a shorter end of the bytes
 
@@ -60,46 +62,53 @@ pub took : (l : List ℕ) (f : FrameBuilder) (m : ℕ) → gives (record { frame
     → read_frame l ≡ parsed f (drop m l)
 took l f m e = go (read_frame l) refl e where
   go : (o : Option Parsed) → read_frame l ≡ o → gives (record { frame = f; len = m }) ≡ taken_from (length l) o → read_frame l ≡ parsed f (drop m l)
-  go none d e = let z : ◌≡◌ {A = ℕ} 0 1 = cc in absurd (omega arith)
+  go none d e = cc
   go (some p) d e =
       let t : ◌≡◌ {A = Taken} (record { frame = f; len = m }) (record { frame = p.frame; len = length l - length p.rest }) = cc in
       let r : p.rest ≡ drop m l = sym (rest l p d).behind ∙ ap (λ (x : Taken). drop x.len l) (sym t) in
       d ∙ (λ i. parsed (sym t i).frame (r i))
 
-pub refused : (l : List ℕ) (n : ℕ) → refuses n ≡ taken_from (length l) (read_frame l) → read_frame l ≡ none
-refused l n e = go (read_frame l) refl e where
-  go : (o : Option Parsed) → read_frame l ≡ o → refuses n ≡ taken_from (length l) o → read_frame l ≡ none
-  go none d e = d
-  go (some p) d e = let z : ◌≡◌ {A = ℕ} 0 1 = cc in absurd (omega arith)
+-- ---- the frames one by one
 
--- ---- the loop
+-- what refuses has its number
+pub left_error : (k : ℕ) (l : List ℕ) (e : Error) (r : List (Result FrameBuilder Error)) → frames_from k l ≡ Err e ∷ r → e ≡ NotAnImage
+left_error zero [] e r d = absurd (omega (arith, ap length d))
+left_error zero (b ∷ bs) e r d = cc
+left_error (suc k) [] e r d = absurd (omega (arith, ap length d))
+left_error (suc k) (b ∷ bs) e r d = go (read_frame (b ∷ bs)) d where
+  go : (m : Option Parsed) → on_option m (Err NotAnImage ∷ []) (λ p. Ok p.frame ∷ frames_from k p.rest) ≡ Err e ∷ r → e ≡ NotAnImage
+  go none d = cc
+  go (some p) d = cc
 
-pub run_nil : (k : ℕ) (o : Frames) → run_frames k [] o ≡ some o
-run_nil zero o = refl
-run_nil (suc k) o = refl
+-- ---- all of them
 
-pub run_end : (k : ℕ) (s : List ℕ) (at : ℕ) (o : Frames) → length s ≤ at → run_frames k (drop at s) o ≡ some o
-run_end k s at o h = ap (λ (l : List ℕ). run_frames k l o) (drop_of_length-le s h) ∙ run_nil k o
+abbrev pub ok : Result FrameBuilder Error → Option FrameBuilder
+ok (Ok f) = some f
+ok (Err e) = none
 
-module _ (s : List ℕ) (at k : ℕ) (o : Frames) (h : at < length s) where
-  run_one : k < 32 → (m : Option Parsed) → read_frame (drop at s) ≡ m
-      → run_frames (32 - k) (drop at s) o ≡ and_then m (λ p. run_frames (32 - (k + 1)) p.rest (push_item o p.frame))
-  run_one g m e =
-      let n : 32 - k ≡ suc (32 - (k + 1)) = omega arith in
-      let d = drop_one s at h in
-      ap (λ (j : ℕ). run_frames j (drop at s) o) n
-      ∙ ap (λ (l : List ℕ). run_frames (suc (32 - (k + 1))) l o) d
-      ∙ ap (λ (x : Option Parsed). and_then x (λ p. run_frames (32 - (k + 1)) p.rest (push_item o p.frame))) (ap read_frame (sym d) ∙ e)
+pub every_ok : (k : ℕ) (l : List ℕ) → every ok (frames_from k l) ≡ read_frames k l
+every_ok zero [] = refl
+every_ok zero (b ∷ bs) = refl
+every_ok (suc k) [] = refl
+every_ok (suc k) (b ∷ bs) = go (every_ok k) (read_frame (b ∷ bs)) where
+  go : ((l : List ℕ) → every ok (frames_from k l) ≡ read_frames k l) → (m : Option Parsed)
+      → every ok (on_option m (Err NotAnImage ∷ []) (λ p. Ok p.frame ∷ frames_from k p.rest))
+      ≡ and_then m (λ p. and_then (read_frames k p.rest) (λ fs. some (p.frame ∷ fs)))
+  go ih none = refl
+  go ih (some p) = ap (λ (m : Option (List FrameBuilder)). and_then m (λ fs. some (p.frame ∷ fs))) (ih p.rest)
 
-  pub run_step : (f : FrameBuilder) (m : ℕ) → k < 32 → gives (record { frame = f; len = m }) ≡ taken_from (length (drop at s)) (read_frame (drop at s))
-      → run_frames (32 - k) (drop at s) o ≡ run_frames (32 - (k + 1)) (drop (at + m) s) (push_item o f)
-  run_step f m g e =
-      run_one g _ (took (drop at s) f m e) ∙ ap (λ (l : List ℕ). run_frames (32 - (k + 1)) l (push_item o f)) (drop-drop m at s)
+-- added one by one
+abbrev pub pushes : List (Result FrameBuilder Error) → Frames → Option Frames
+pushes [] o = some o
+pushes (Ok f ∷ fs) o = pushes fs (push_item o f)
+pushes (Err e ∷ fs) o = none
 
-  pub run_stop : (n : ℕ) → k < 32 → refuses n ≡ taken_from (length (drop at s)) (read_frame (drop at s)) → run_frames (32 - k) (drop at s) o ≡ none
-  run_stop n g e = run_one g _ (refused (drop at s) n e)
-
-  pub run_full : 32 ≤ k → run_frames (32 - k) (drop at s) o ≡ none
-  run_full g =
-      let z : 32 - k ≡ 0 = omega arith in
-      ap (λ (n : ℕ). run_frames n (drop at s) o) z ∙ ap (λ (l : List ℕ). run_frames 0 l o) (drop_one s at h)
+pub run_pushes : (k : ℕ) (l : List ℕ) (o : Frames) → pushes (frames_from k l) o ≡ run_frames k l o
+run_pushes zero [] o = refl
+run_pushes zero (b ∷ bs) o = refl
+run_pushes (suc k) [] o = refl
+run_pushes (suc k) (b ∷ bs) o = go (run_pushes k) (read_frame (b ∷ bs)) where
+  go : ((l : List ℕ) (o : Frames) → pushes (frames_from k l) o ≡ run_frames k l o) → (m : Option Parsed)
+      → pushes (on_option m (Err NotAnImage ∷ []) (λ p. Ok p.frame ∷ frames_from k p.rest)) o ≡ and_then m (λ p. run_frames k p.rest (push_item o p.frame))
+  go ih none = refl
+  go ih (some p) = ih p.rest (push_item o p.frame)

@@ -1,10 +1,12 @@
 // The points and the frames in what the reader answers, one by one (added; no Rust file; document 01, 'The hundred bytes').
 // Proved: the j-th point of the i-th snippet and the j-th frame of the i-th sequence are those of the lists that the reader's contract
 // speaks of (specs/Items.antt), for any indexes.
-ghost use Rattle.std.specs.Prelude.{◌≡◌, ◌<◌, take, length};
+ghost use Rattle.std.specs.Prelude.{◌≡◌};
+ghost use Rattle.std.specs.Option.{option_map};
+ghost use Rattle.std.proofs.Math.ListN.{get_elem?};
 ghost use Rattle.reader.specs.Items.{element, at_told, point_at_told};
 ghost use Rattle.reader.specs.Reading.{runs_in};
-ghost use Rattle.reader.specs.Places.{start_in, place_in};
+ghost use Rattle.reader.specs.Places.{start_in};
 
 use crate::{Frames, Points, Runs};
 use frame::FrameBuilder;
@@ -29,35 +31,27 @@ pub fn frame_at(frames: &Frames, i: usize, j: usize) -> Option<FrameBuilder>
 fn at<T: Copy, const MOST: usize>(runs: &Runs<T, MOST>, i: usize, j: usize) -> Option<T>
     ensures { at_told result ≡ element (runs_in runs.now) i j }
 {
-    match find(&runs.ends, runs.count as usize, i, j) {
-        Some(k) if k < 96 => Some(runs.items[k]),
-        _ => None,
-    }
+    list(runs, i)?.get(j).copied()
 }
 
-// Where the j-th element of the i-th list stands in the flat list, by the ends of the first `count` lists.
-fn find(ends: &[u8], count: usize, i: usize, j: usize) -> Option<usize>
-    ensures { at_told result ≡ place_in 0 (take count ends.now) i j }
+// The i-th list.
+fn list<T: Copy, const MOST: usize>(runs: &Runs<T, MOST>, i: usize) -> Option<&[T]>
+    ensures { at_told (option_map (λ l. l.now) result) ≡ get_elem? (runs_in runs.now) i }
 {
-    if ends.len() <= i || count <= i {
-        return None;
-    }
-    let from = start(ends, i);
-    let to = ends[i] as usize;
-    if to <= from || to - from <= j {
-        return None;
-    }
-    Some(from + j)
+    let ends = laws::shown(&runs.ends, runs.count);
+    let to = usize::from(*ends.get(i)?).min(96);
+    let from = start(ends, i).min(to);
+    // Of an array of any T the check knows no part with a start: of a slice of all it does.
+    let items = &runs.items[..];
+    Some(&items[from..to])
 }
 
 // Where the i-th list starts: at the end of the one before.
 fn start(ends: &[u8], i: usize) -> usize
-    requires { i < length ends.now }
-    ensures value { result ≡ start_in 0 ends.now i }
-    ensures upper_bound { result < 256 }
+    ensures { result ≡ start_in 0 ends.now i }
 {
-    if i == 0 {
-        return 0;
+    match i {
+        0 => 0,
+        _ => usize::from(laws::byte_at(ends, i - 1)),
     }
-    ends[i - 1] as usize
 }

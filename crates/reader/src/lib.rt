@@ -8,17 +8,19 @@
 pub mod items;
 
 ghost use Rattle.std.specs.Prelude.{◌≡◌, ◌+◌, ◌≤◌, ◌<◌, List, ℕ, length, take, drop};
+ghost use Rattle.std.specs.Iterator.{YieldsFirst, item_count};
 ghost use Rattle.std.proofs.Math.Option.{Option};
 ghost use Rattle.errors.specs.Number.{answer_number};
 ghost use Rattle.content.specs.ReadImage.{on_option, read_image, counts_fit, all_zero};
 ghost use Rattle.reader.specs.Reading.{reading_of, no_runs};
 ghost use Rattle.reader.specs.Flat.{push_item, push_items, end_run};
-ghost use Rattle.reader.specs.Walk.{Stepped, Walks, run_frames, push_snippet, push_sequence, walk, Scans, scan};
+ghost use Rattle.reader.specs.Walk.{Stepped, Walks, frames_from, frames_left, run_frames, snippet_fits, push_snippet, push_sequence, walk, Scans, scan};
 
 use errors::Error;
 use frame::FrameBuilder;
 
-// Lists end to end, 96 elements and MOST lists at most: a list's end before the index in `ends`, and the first `count` are in use.
+// Lists end to end, 96 elements and MOST lists at most: a list's end before the index in `ends`, and the first `count` are in use. Each is
+// an array beside its count, since no library crate has a heap.
 #[derive(Debug, Clone, Copy)]
 pub struct Runs<T: Copy, const MOST: usize> {
     pub items: [T; 96],
@@ -60,7 +62,7 @@ impl<T: Copy, const MOST: usize> Runs<T, MOST> {
         ensures { self.new ≡ push_item self.old item }
     {
         if self.len < 96 {
-            self.items[self.len as usize] = item;
+            self.items[usize::from(self.len)] = item;
             self.len += 1;
         }
     }
@@ -80,8 +82,8 @@ impl<T: Copy, const MOST: usize> Runs<T, MOST> {
         requires { MOST < 256 }
         ensures { self.new ≡ end_run self.old }
     {
-        if (self.count as usize) < MOST {
-            self.ends[self.count as usize] = self.len;
+        if usize::from(self.count) < MOST {
+            self.ends[usize::from(self.count)] = self.len;
             self.count += 1;
         }
     }
@@ -91,8 +93,54 @@ impl<T: Copy, const MOST: usize> Runs<T, MOST> {
         ensures value { result.now ≡ take self.now.len self.now.items }
         ensures upper_bound { length result.now ≤ 96 }
     {
-        let n = laws::wide(self.len).min(96);
-        &self.items[..n]
+        laws::shown(&self.items, self.len)
+    }
+}
+
+// ---- the frames of a sequence
+
+// The frames that bytes are, one after the other: NotAnImage in place of what is none, or is one more than 32, and nothing behind it.
+#[derive(Drop)]
+pub struct ReadFrames<'a> {
+    rest: &'a [u8],
+    left: u8,
+}
+
+impl<'a> ReadFrames<'a> {
+    #[inline]
+    pub fn new(bytes: &'a [u8]) -> Self
+        ensures { frames_left result ≡ frames_from 32 bytes.now }
+    {
+        ReadFrames {
+            rest: bytes,
+            left: 32,
+        }
+    }
+}
+
+impl<'a> Iterator for ReadFrames<'a> {
+    type Item = Result<FrameBuilder, Error>;
+
+    ghost next_gives = { YieldsFirst frames_left };
+
+    ghost remaining = { item_count frames_left };
+
+    #[inline]
+    fn next(&mut self) -> Option<Result<FrameBuilder, Error>> {
+        if self.rest.is_empty() {
+            return None;
+        }
+        match FrameBuilder::read(self.rest) {
+            Ok((frame, n)) if 0 < self.left => {
+                self.rest = &self.rest[n..];
+                self.left -= 1;
+                Some(Ok(frame))
+            }
+            _ => {
+                self.rest = &self.rest[..0];
+                Some(Err(Error::NotAnImage))
+            }
+        }
     }
 }
 
@@ -101,23 +149,22 @@ impl Frames {
     fn push_frames(&mut self, bytes: &[u8]) -> Result<(), Error>
         ensures { Stepped (run_frames 32 bytes.now self.old) result self.new }
     {
-        let mut at = 0usize;
-        for _ in 0..32u8 {
-            if bytes.len() <= at {
-                return Ok(());
-            }
-            let (frame, n) = FrameBuilder::read(&bytes[at..])?;
-            self.push(frame);
-            at += n;
-        }
-        if at < bytes.len() {
-            return Err(Error::NotAnImage);
+        for frame in ReadFrames::new(bytes) {
+            self.push(frame?);
         }
         Ok(())
     }
 }
 
 // ---- the items that end at the pointers
+
+// Whether bytes are a snippet's: 1 to 16 points, each a byte.
+#[inline]
+pub fn snippet_fits(item: &[u8]) -> bool
+    ensures { result ≡ snippet_fits item.now }
+{
+    1 <= item.len() && item.len() <= 16
+}
 
 // What an image's items of one kind are added to.
 pub trait Gather {
@@ -133,7 +180,7 @@ impl Gather for Points {
 
     #[tactic(auto, unfolding(crate::specs::Walk::push_snippet))]
     fn add(&mut self, item: &[u8]) -> Result<(), Error> {
-        if item.len() < 1 || 16 < item.len() {
+        if !snippet_fits(item) {
             return Err(Error::NotAnImage);
         }
         self.push_all(item);
@@ -147,7 +194,7 @@ impl Gather for Frames {
 
     #[tactic(auto, unfolding(crate::specs::Walk::push_sequence))]
     fn add(&mut self, item: &[u8]) -> Result<(), Error> {
-        if item.len() < 1 {
+        if item.is_empty() {
             return Err(Error::NotAnImage);
         }
         self.push_frames(item)?;
@@ -163,7 +210,7 @@ fn walk<T: Gather>(image: &[u8], ends: &[u8], first: usize, items: &mut T) -> Re
 {
     let mut last = first;
     for end in ends {
-        let end = laws::wide(*end);
+        let end = usize::from(*end);
         if end <= last || image.len() <= end {
             return Err(Error::NotAnImage);
         }
@@ -179,15 +226,7 @@ fn walk<T: Gather>(image: &[u8], ends: &[u8], first: usize, items: &mut T) -> Re
 pub fn zero_from(image: &[u8], at: usize) -> bool
     ensures { result ≡ all_zero (drop at image.now) }
 {
-    if image.len() <= at {
-        return true;
-    }
-    for byte in &image[at..] {
-        if 0 < *byte {
-            return false;
-        }
-    }
-    true
+    image[at.min(image.len())..].iter().all(|byte| *byte < 1)
 }
 
 // 1 to 15 snippets, 1 to 16 sequences.
@@ -208,8 +247,8 @@ pub fn scan<S: Gather, Q: Gather>(
     if image.len() != 100 {
         return Err(Error::NotAnImage);
     }
-    let s = laws::wide(image[0]);
-    let q = laws::wide(image[1]);
+    let s = usize::from(image[0]);
+    let q = usize::from(image[1]);
     if !counts_fit(s, q) {
         return Err(Error::NotAnImage);
     }

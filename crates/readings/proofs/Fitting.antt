@@ -5,27 +5,23 @@ use mathlib.Core.Path.{◌≡◌, refl, sym, ap, ◌∙◌}
 use mathlib.Core.Bool.{Bool, true, false, cond, ◌&&◌}
 use mathlib.Core.List.{List, [], ◌∷◌}
 use mathlib.Core.Option.{Option, none, some}
-use Prim.Native.Nat.{ℕ, zero, suc, ◌+◌, ◌-◌, ◌≤◌, ◌<◌}
-use native.Mathlib.Omega.{arith}
+use Prim.Native.Nat.{ℕ, zero, suc, ◌+◌, ◌≤◌}
+use borrow.Author.Tests.{le-leb}
 use lib.Dec.{ltb, leb, eqb}
 use lib.ListN.{length, take, drop, get_or}
 use Rattle.laws.specs.Bytes.{Bytes}
-use Rattle.errors.specs.Told.{gives, refuses}
 use Rattle.errors.specs.declared.Error.{Error}
 use Rattle.frame.specs.declared.FrameBuilder.{FrameBuilder}
-use Rattle.frame.specs.Read.{Parsed, read_frame, first_frame}
+use Rattle.frame.specs.Read.{Parsed, read_frame}
 use Rattle.content.specs.Content.{Content}
-use Rattle.content.specs.ReadImage.{and_then, read_frames, all_zero, counts_fit, read_image}
+use Rattle.content.specs.ReadImage.{and_then, every, read_frames, all_zero, counts_fit, read_image}
 use Rattle.reader.specs.Reading.{Reading, Points, Frames, reading_of}
 use Rattle.reader.specs.Flat.{push_item, push_items, end_run}
-use Rattle.reader.specs.Walk.{run_frames, push_snippet, push_sequence, Walked, item, walk, Scan, sequences_then, after_snippets, snippets_then, after_counts, scan, Scans}
-use Rattle.reader.proofs.Running.{took, refused}
+use Rattle.reader.specs.Walk.{frames_from, run_frames, snippet_fits, push_snippet, push_sequence, Walked, item, walk, Scan, sequences_then, after_snippets, snippets_then, after_counts, scan, Scans}
+use Rattle.reader.proofs.Running.{ok, every_ok}
 use Rattle.reader.proofs.Whole.{no_points, no_frames, reading_from, whole}
-use Rattle.readings.specs.InPlace.{present, snippet_fits, sequence_fits, kept, header_of}
+use Rattle.readings.specs.InPlace.{present, sequence_fits, kept, header_of}
 use Rattle.readings.proofs.Standing.{known}
-
-pub false_true : {X : Type 0} → false ≡ true → X
-false_true e = let z : ◌≡◌ {A = ℕ} 0 1 = cc in absurd (omega arith)
 
 -- ---- one item
 
@@ -79,8 +75,8 @@ module _ {S T : Type 0} (f : List ℕ → S → Option S) (g : List ℕ → T �
       go ih false u m n h = refl
       go ih true false m n h = refl
       go ih true true none none h = refl
-      go ih true true none (some p') h = false_true h
-      go ih true true (some o') none h = false_true (sym h)
+      go ih true true none (some p') h = cc
+      go ih true true (some o') none h = cc
       go ih true true (some o') (some p') h = ih o' p'
 
 -- ---- the image
@@ -160,8 +156,8 @@ module _ (image : List ℕ) (small : Bytes image) where
   header_by m r x y h e = go m (read_image image) refl h e where
     go : (m : Option (Scan _ _)) (o : Option Content) → read_image image ≡ o → Scans image m r x y → present m ≡ present o → r ≡ header_of o
     go none none n h e = h
-    go none (some c) n h e = false_true e
-    go (some w) none n h e = false_true (sym e)
+    go none (some c) n h e = cc
+    go (some w) none n h e = cc
     go (some w) (some c) n h e = let k = known image c n in h.0 ∙ (λ i. Ok (sym k.snippets i, sym k.sequences i))
 
   -- snippets and sequences that are not kept
@@ -171,29 +167,20 @@ module _ (image : List ℕ) (small : Bytes image) where
       header_by _ r x y h
       (scan_found _ _ image a b (λ bs o. some_found (snippet_fits bs) o) (λ bs o. some_found (sequence_fits bs) o) ∙ sym image_found)
 
--- ---- the loop over the frames
+-- ---- the frames of a sequence, one by one
 
-module _ (l : List ℕ) (k : ℕ) (h : 0 < length l) where
-  frames_one : k < 32 → (m : Option Parsed) → read_frame l ≡ m → read_frames (32 - k) l ≡ and_then m (λ p. and_then (read_frames (32 - (k + 1)) p.rest) (λ fs. some (p.frame ∷ fs)))
-  frames_one g m e = go l h e where
-    go : (l : List ℕ) → 0 < length l → read_frame l ≡ m → read_frames (32 - k) l ≡ and_then m (λ p. and_then (read_frames (32 - (k + 1)) p.rest) (λ fs. some (p.frame ∷ fs)))
-    go [] h e = absurd (omega arith)
-    go (b ∷ bs) h e =
-        let n : 32 - k ≡ suc (32 - (k + 1)) = omega arith in
-        ap (λ (j : ℕ). read_frames j (b ∷ bs)) n ∙ ap (λ (x : Option Parsed). and_then x (λ p. and_then (read_frames (32 - (k + 1)) p.rest) (λ fs. some (p.frame ∷ fs)))) e
+abbrev pub all_ok : List (Result FrameBuilder Error) → Bool
+all_ok [] = true
+all_ok (Ok f ∷ fs) = all_ok fs
+all_ok (Err e ∷ fs) = false
 
-  pub frames_stop : (n : ℕ) → k < 32 → refuses n ≡ first_frame l → present (read_frames (32 - k) l) ≡ false
-  frames_stop n g e = ap present (frames_one g none (refused l n e))
+ok_found : (fs : List (Result FrameBuilder Error)) → all_ok fs ≡ present (every ok fs)
+ok_found [] = refl
+ok_found (Ok f ∷ fs) = ok_found fs ∙ more_found f (every ok fs)
+ok_found (Err e ∷ fs) = refl
 
-  pub frames_on : (f : FrameBuilder) (m : ℕ) → k < 32 → gives (record { frame = f; len = m }) ≡ first_frame l
-      → present (read_frames (32 - (k + 1)) (drop m l)) ≡ present (read_frames (32 - k) l)
-  frames_on f m g e = more_found f (read_frames (32 - (k + 1)) (drop m l)) ∙ sym (ap present (frames_one g _ (took l f m e)))
+pub frames_ok : (l : List ℕ) → all_ok (frames_from 32 l) ≡ present (read_frames 32 l)
+frames_ok l = ok_found (frames_from 32 l) ∙ ap present (every_ok 32 l)
 
-pub frames_full : (l : List ℕ) (k : ℕ) → 0 < length l → 32 ≤ k → present (read_frames (32 - k) l) ≡ false
-frames_full [] k h g = absurd (omega arith)
-frames_full (b ∷ bs) k h g = let z : 32 - k ≡ 0 = omega arith in ap (λ (n : ℕ). present (read_frames n (b ∷ bs))) z
-
-pub frames_end : (l : List ℕ) (k : ℕ) → length l ≡ 0 → present (read_frames k l) ≡ true
-frames_end [] zero h = refl
-frames_end [] (suc k) h = refl
-frames_end (b ∷ bs) k h = absurd (omega arith)
+pub sequence_kept : {S : Type 0} (l : List ℕ) (o : S) (t : Bool) → 1 ≤ length l → all_ok (frames_from 32 l) ≡ t → kept (sequence_fits l) o ≡ kept t o
+sequence_kept l o t h e = ap (λ (u : Bool). kept (u && present (read_frames 32 l)) o) (le-leb 1 (length l) h) ∙ ap (λ (u : Bool). kept u o) (sym (frames_ok l) ∙ e)

@@ -1,8 +1,5 @@
 pub mod Codes
-pub mod Elements
 pub mod Fitting
-pub mod Laying
-pub mod Listing
 pub mod Standing
 pub mod Told
 pub mod Words

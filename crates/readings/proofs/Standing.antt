@@ -40,7 +40,7 @@ module _ {A B : Type 0} (f : A → Option B) where
   every_length [] ys e = ap length (sym (some_inj e))
   every_length (x ∷ xs) ys e = let d = first x xs ys e in ap length (sym d.cons) ∙ ap suc (every_length xs d.more d.rest)
 
-  every_at : (xs : List A) (ys : List B) (i : ℕ) → every f xs ≡ some ys → get_elem? ys i ≡ and_then (get_elem? xs i) f
+  pub every_at : (xs : List A) (ys : List B) (i : ℕ) → every f xs ≡ some ys → get_elem? ys i ≡ and_then (get_elem? xs i) f
   every_at [] ys i e = ap (λ (l : List B). get_elem? l i) (sym (some_inj e))
   every_at (x ∷ xs) ys zero e = let d = first x xs ys e in ap (λ (l : List B). get_elem? l 0) (sym d.cons) ∙ sym d.read
   every_at (x ∷ xs) ys (suc i) e =

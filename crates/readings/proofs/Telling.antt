@@ -38,8 +38,7 @@ use Rattle.readings.specs.Readings.{counts_answer, point_answer, frame_answer}
 use Rattle.readings.proofs.Codes.{point_code, byte_code, frame_code}
 use Rattle.readings.specs.Lists.{words_bytes, lists_of, lists_item, lists_answer}
 use Rattle.readings.specs.Telling.{Alike, ReadingsTold}
-use Rattle.readings.proofs.Laying.{words_length}
-use Rattle.readings.proofs.Words.{word_small, word_told, words_told}
+use Rattle.readings.proofs.Words.{words_length, word_small, word_told, words_told}
 
 -- ---- an element of a list of lists
 
@@ -150,7 +149,7 @@ same_counts l k c d a b e =
 not_refused : {X : Type 0} (l : List ℕ) (c : Content) → Held l c → packed 16 (counts_answer none) ≡ packed 16 (counts_answer (some c)) → X
 not_refused l c a e =
     let w : counts_answer none ≡ counts_answer (some c) = packed_apart 16 (counts_answer none) (counts_answer (some c)) (omega arith) (counts_room l c a) e in
-    let z : ◌≡◌ {A = ℕ} 0 1 = cc in absurd (omega arith)
+    cc
 
 -- ---- item by item
 

@@ -1,17 +1,17 @@
 -- What the functions answer, by what is known of an image's content.
 -- Assumes nothing.
-use Rattle.std.specs.Prelude.{Result, Ok, Err}
+use Rattle.std.specs.Prelude.{Ok}
 use Rattle.std.specs.declared.option.Option as rust
 use mathlib.Core.Path.{◌≡◌, refl, sym, ap, ◌∙◌}
 use mathlib.Core.Bool.{◌&&◌}
 use mathlib.Core.List.{List, [], ◌∷◌}
 use mathlib.Core.Option.{Option, none, some}
-use Prim.Native.Nat.{ℕ, zero, suc, ◌*◌, ◌+◌, ◌≤◌, ◌<◌}
+use Prim.Native.Nat.{ℕ, zero, suc, ◌+◌, ◌≤◌, ◌<◌}
 use native.Mathlib.Omega.{arith}
 use lib.Dec.{leb}
 use lib.ListN.{length, get_or, get_elem?}
 use Rattle.errors.specs.Packed.{packed}
-use Rattle.errors.specs.declared.Error.{Error}
+use Rattle.errors.specs.Told.{gives}
 use Rattle.snippet.proofs.Points.{byte_back}
 use Rattle.frame.specs.declared.FrameBuilder.{FrameBuilder}
 use Rattle.content.specs.Content.{Point, Content}
@@ -21,19 +21,9 @@ use Rattle.content.proofs.Codec.{none_some, some_inj, cond_some}
 use Rattle.reader.specs.Items.{element, at_told}
 use Rattle.reader.proofs.Placed.{elem_some, elem_none}
 use Rattle.readings.specs.InPlace.{header_of, item_at, Stands, NthFrame}
-use Rattle.readings.specs.Readings.{counts_answer, point_answer, frame_answer}
+use Rattle.readings.specs.Readings.{point_answer, frame_answer}
 use Rattle.readings.proofs.Codes.{absent_point, point_code, absent_frame, frame_code}
 use Rattle.readings.proofs.Standing.{Known, known}
-
-abbrev counted : Result (ℕ × ℕ) Error → ℕ × ℕ
-counted (Ok n) = n
-counted (Err e) = (0, 0)
-
-pub ok_err : {A X : Type 0} {a : A} {e : Error} → Ok a ≡ Err e → X
-ok_err {A} p = let z : ◌≡◌ {A = ℕ} 1 0 = ap go p in absurd (omega arith) where
-  go : Result A Error → ℕ
-  go (Ok a) = 1
-  go (Err e) = 0
 
 -- the bytes of a snippet and its points
 elem_points : (bs : List ℕ) (j b : ℕ) → get_elem? bs j ≡ some b → b < 256 → b ≡ point_code (get_elem? (points_in bs) j)
@@ -65,38 +55,35 @@ module _ (image : List ℕ) (s q : ℕ) (t : Ok (s, q) ≡ header_of (read_image
   of_content : (P : Option Content → Type 0) → ((c : Content) → Known image c → s ≡ length c.snippets → q ≡ length c.sequences → P (some c)) → P (read_image image)
   of_content P f = go (read_image image) refl t where
     go : (o : Option Content) → read_image image ≡ o → Ok (s, q) ≡ header_of o → P o
-    go none e t = ok_err t
-    go (some c) e t = let n = ap counted t in f c (known image c e) (ap (λ (x : ℕ × ℕ). x.0) n) (ap (λ (x : ℕ × ℕ). x.1) n)
-
-  pub counts_told : s * 256 + q ≡ packed 16 (counts_answer (read_image image))
-  counts_told =
-      of_content (λ (o : Option Content). s * 256 + q ≡ packed 16 (counts_answer o))
-      (λ c k e f. λ i. e i * 256 + f i)
+    go none e t = cc
+    go (some c) e t =
+        let n : ◌≡◌ {A = ℕ × ℕ} (s, q) (length c.snippets, length c.sequences) = cc in
+        f c (known image c e) (ap (λ (x : ℕ × ℕ). x.0) n) (ap (λ (x : ℕ × ℕ). x.1) n)
 
   -- an item of those that were counted
   pub item_stands : (k : ℕ) → k < s + q → Stands image k
   item_stands k h = of_content (λ (o : Option Content). Stands image k) (λ c w e f. w.stands k (omega (arith, w.snippets, w.sequences)))
 
   module _ (i j : ℕ) where
-    pub point_past : s ≤ i → absent_point ≡ packed 16 (point_answer (read_image image) i j)
+    pub point_past : s ≤ i → gives absent_point ≡ point_answer (read_image image) i j
     point_past h =
-        of_content (λ (o : Option Content). absent_point ≡ packed 16 (point_answer o i j))
-        (λ c k e f. ap point_code (no_element c.snippets i j (omega arith)))
+        of_content (λ (o : Option Content). gives absent_point ≡ point_answer o i j)
+        (λ c k e f. ap (λ (p : Option Point). gives (point_code p)) (no_element c.snippets i j (omega arith)))
 
     module _ (h : i < s) where
       point_by : (n : ℕ) → ((ps : List Point) → points_in (item_at image i) ≡ ps → n ≡ point_code (get_elem? ps j))
-          → n ≡ packed 16 (point_answer (read_image image) i j)
+          → gives n ≡ point_answer (read_image image) i j
       point_by n d =
-          of_content (λ (o : Option Content). n ≡ packed 16 (point_answer o i j))
+          of_content (λ (o : Option Content). gives n ≡ point_answer o i j)
           (λ c k e f.
           let g : i < length c.snippets = omega arith in
           let p : read_snippet (item_at image i) ≡ some (get_or c.snippets i []) = sym (k.snippet i (omega (arith, k.snippets))) ∙ elem_some c.snippets i [] g in
-          d (get_or c.snippets i []) (snippet_points (item_at image i) _ p) ∙ ap point_code (sym (an_element c.snippets i j g)))
+          ap gives (d (get_or c.snippets i []) (snippet_points (item_at image i) _ p) ∙ ap point_code (sym (an_element c.snippets i j g))))
 
-      pub point_there : (b : ℕ) → get_elem? (item_at image i) j ≡ some b → b < 256 → b ≡ packed 16 (point_answer (read_image image) i j)
+      pub point_there : (b : ℕ) → get_elem? (item_at image i) j ≡ some b → b < 256 → gives b ≡ point_answer (read_image image) i j
       point_there b d w = point_by b (λ ps p. elem_points (item_at image i) j b d w ∙ ap (λ (l : List Point). point_code (get_elem? l j)) p)
 
-      pub point_absent : get_elem? (item_at image i) j ≡ none → absent_point ≡ packed 16 (point_answer (read_image image) i j)
+      pub point_absent : get_elem? (item_at image i) j ≡ none → gives absent_point ≡ point_answer (read_image image) i j
       point_absent d = point_by absent_point (λ ps p. no_points (item_at image i) j d ∙ ap (λ (l : List Point). point_code (get_elem? l j)) p)
 
     pub frame_past : q ≤ i → absent_frame ≡ packed 56 (frame_answer (read_image image) i j)

@@ -5,7 +5,7 @@ use mathlib.Core.Path.{◌≡◌, refl, sym, ap, ◌∙◌}
 use mathlib.Core.List.{List, [], ◌∷◌}
 use Prim.Native.Nat.{ℕ, zero, suc, ◌+◌, ◌*◌, ◌/◌, ◌^◌, ◌<◌}
 use native.Mathlib.Omega.{arith}
-use lib.ListN.{length, take, drop}
+use lib.ListN.{length, take, drop, length-append}
 use lib.Seq.{take_at, drop_at}
 use Rattle.laws.specs.Bytes.{All}
 use Rattle.laws.specs.Lists.{low_bytes}
@@ -18,7 +18,16 @@ use Rattle.frame.specs.Word.{frame_word}
 use Rattle.frame.proofs.Reading.{gain_back, timebase_back}
 use Rattle.content.proofs.Codec.{cons_eq}
 use Rattle.readings.specs.Lists.{word_bytes, words_bytes}
-use Rattle.readings.proofs.Laying.{word_length}
+
+-- ---- how long they are
+
+pub word_length : (f : FrameBuilder) → length (word_bytes f) ≡ 6
+unfolding word_bytes
+word_length f = refl
+
+pub words_length : (fs : List FrameBuilder) → length (words_bytes fs) ≡ 6 * length fs
+words_length [] = refl
+words_length (f ∷ fs) = let n = words_length fs in omega (arith, length-append (word_bytes f) (words_bytes fs), word_length f)
 
 -- ---- the fields
 

@@ -18,21 +18,13 @@ present (some a) = true
 
 -- ---- whether bytes are an image
 
--- the bytes of a snippet, and of a sequence
-abbrev pub snippet_fits : List ℕ → Bool
-snippet_fits bs = leb 1 (length bs) && leb (length bs) 16
-
+-- the bytes of a sequence
 abbrev pub sequence_fits : List ℕ → Bool
 sequence_fits bs = leb 1 (length bs) && present (read_frames 32 bs)
 
 -- the same state, where an item fits
 abbrev pub kept : {S : Type 0} → Bool → S → Option S
 kept fits o = cond fits (some o) none
-
--- how the code answers whether something fits
-abbrev pub fits_answer : Bool → Result Unit Error
-fits_answer true = Ok tt
-fits_answer false = Err Error.NotAnImage
 
 -- the numbers of snippets and sequences, or NotAnImage
 abbrev pub header_of : Option Content → Result (ℕ × ℕ) Error

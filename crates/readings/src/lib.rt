@@ -5,39 +5,36 @@
 // specs/InPlace.antt and specs/Laying.antt.
 #![tactic(auto)]
 
-ghost use Rattle.std.specs.Prelude.{◌≡◌, ◌≤◌, length};
+ghost use Rattle.std.specs.Prelude.{◌≡◌, ◌+◌, ◌*◌, ◌≤◌, length};
 ghost use Rattle.laws.specs.Whole.{whole_out};
 ghost use Rattle.laws.specs.Lists.{low_bytes};
 ghost use Rattle.errors.specs.Number.{told};
 ghost use Rattle.errors.specs.Packed.{packed};
-ghost use Rattle.content.specs.ReadImage.{read_image, read_frames};
+ghost use Rattle.content.specs.ReadImage.{read_image};
 ghost use Rattle.reader.specs.Reading.{padded};
-ghost use Rattle.readings.specs.InPlace.{present, snippet_fits, sequence_fits, kept, fits_answer, header_of, Stands, item_at, NthFrame};
+ghost use Rattle.reader.specs.Walk.{snippet_fits};
+ghost use Rattle.readings.specs.InPlace.{sequence_fits, kept, header_of, Stands, item_at, NthFrame};
 ghost use Rattle.readings.specs.Readings.{counts_answer, point_answer, frame_answer};
 ghost use Rattle.readings.specs.Lists.{words_bytes, lists_item, lists_answer};
 ghost use Rattle.readings.specs.Laying.{laid_bytes};
 
 use errors::Error;
 use frame::FrameBuilder;
-use reader::{Gather, Lists};
+use reader::{Gather, Lists, ReadFrames};
 
 // How many bytes all lists of an image are.
 pub const LISTS_SIZE: usize = 703;
 
-// What a refusal's number is multiplied by beside the 16 bits of counts or of a point.
-const REFUSED: u32 = 65536;
-
-const NO_IMAGE: u32 = 18 << 16;
-
-// The refusal 18 above the 56 bits of a frame.
-const NO_IMAGE_WORD: u64 = 18 << 56;
-
 // Where an image has no such point.
-const NO_POINT: u32 = 256;
+pub const NO_POINT: u32 = 256;
 
 // Where an image has no such frame.
-const NO_FRAME: u64 = 1 << 48;
+pub const NO_FRAME: u64 = 1 << 48;
 
+// A refusal stands above the 56 bits of a frame; here alone, since no other answer has as many.
+const NO_IMAGE: u64 = 18 << 56;
+
+// C reads all lists at fixed places, so that it can lay a struct over their bytes: the offsets stay.
 // In the bytes of all lists, behind the points: the ends of the snippets.
 const POINT_ENDS: usize = 96;
 
@@ -54,24 +51,14 @@ const FRAME_ENDS: usize = 687;
 pub fn counts(image: &[u8]) -> u32
     ensures { result ≡ packed 16 (counts_answer (read_image image.now)) }
 {
-    match header(image) {
-        Ok((s, q)) => u32::from(s) * 256 + u32::from(q),
-        Err(_) => NO_IMAGE,
-    }
+    errors::word(read_counts(image))
 }
 
 // The byte of the j-th point of the i-th snippet, both counted from 0, or 256 where there is none; 18 * 65536 for what is no image.
 pub fn point(image: &[u8], i: usize, j: usize) -> u32
     ensures { result ≡ packed 16 (point_answer (read_image image.now) i j) }
 {
-    match header(image) {
-        Ok((s, _)) if i < laws::wide(s) => match item(image, i).get(j) {
-            Some(byte) => u32::from(*byte),
-            None => NO_POINT,
-        },
-        Ok(_) => NO_POINT,
-        Err(_) => NO_IMAGE,
-    }
+    errors::word(read_point(image, i, j))
 }
 
 // The fields of the j-th frame of the i-th sequence as one number, or 2 to the power of 48 where there is none; 18 times 2 to the power
@@ -80,12 +67,12 @@ pub fn frame(image: &[u8], i: usize, j: usize) -> u64
     ensures { result ≡ packed 56 (frame_answer (read_image image.now) i j) }
 {
     match header(image) {
-        Ok((s, q)) if i < laws::wide(q) => match nth_frame(item(image, laws::wide(s) + i), j) {
+        Ok((s, q)) if i < usize::from(q) => match nth_frame(item(image, usize::from(s) + i), j) {
             Some(frame) => frame.word(),
             None => NO_FRAME,
         },
         Ok(_) => NO_FRAME,
-        Err(_) => NO_IMAGE_WORD,
+        Err(_) => NO_IMAGE,
     }
 }
 
@@ -95,9 +82,35 @@ pub fn lists(image: &[u8], out: &mut [u8]) -> u32
     ensures answer { result ≡ packed 16 (lists_answer out.old (read_image image.now)) }
     ensures buffer { out.new ≡ whole_out out.old (lists_item (read_image image.now)) }
 {
-    match write_lists(image, out) {
-        Ok(counts) => counts,
-        Err(e) => u32::from(e.number()) * REFUSED,
+    errors::word(write_lists(image, out))
+}
+
+// ---- the counts and a point, or a refusal
+
+fn read_counts(image: &[u8]) -> Result<u32, Error>
+    ensures { told result ≡ counts_answer (read_image image.now) }
+{
+    let (s, q) = header(image)?;
+    Ok(both(s, q))
+}
+
+// The two numbers in one.
+fn both(s: u8, q: u8) -> u32
+    ensures { result ≡ s * 256 + q }
+{
+    u32::from(s) * 256 + u32::from(q)
+}
+
+fn read_point(image: &[u8], i: usize, j: usize) -> Result<u32, Error>
+    ensures { told result ≡ point_answer (read_image image.now) i j }
+{
+    let (s, _) = header(image)?;
+    if usize::from(s) <= i {
+        return Ok(NO_POINT);
+    }
+    match item(image, i).get(j) {
+        Some(byte) => Ok(u32::from(*byte)),
+        None => Ok(NO_POINT),
     }
 }
 
@@ -110,17 +123,17 @@ fn write_lists(image: &[u8], out: &mut [u8]) -> Result<u32, Error>
 {
     let lists = reader::read(image)?;
     laws::copy_whole(out, &lay(&lists))?;
-    Ok(u32::from(lists.snippets.count) * 256 + u32::from(lists.sequences.count))
+    Ok(both(lists.snippets.count, lists.sequences.count))
 }
 
 fn lay(lists: &Lists) -> [u8; LISTS_SIZE]
     ensures { result ≡ laid_bytes lists.now.snippets lists.now.sequences }
 {
     let mut out = [0u8; LISTS_SIZE];
-    laws::copy_at(&mut out, 0, &lists.snippets.items);
-    laws::copy_at(&mut out, POINT_ENDS, &lists.snippets.ends);
-    laws::copy_at(&mut out, FRAMES, &frame_bytes(lists.sequences.as_slice()));
-    laws::copy_at(&mut out, FRAME_ENDS, &lists.sequences.ends);
+    laws::lay(&mut out, 0, &lists.snippets.items);
+    laws::lay(&mut out, POINT_ENDS, &lists.snippets.ends);
+    laws::lay(&mut out, FRAMES, &frame_bytes(lists.sequences.as_slice()));
+    laws::lay(&mut out, FRAME_ENDS, &lists.sequences.ends);
     out
 }
 
@@ -130,9 +143,10 @@ fn frame_bytes(frames: &[FrameBuilder]) -> [u8; FRAMES_SIZE]
     ensures { result ≡ padded 576 0 (words_bytes frames.now) }
 {
     let mut out = [0u8; FRAMES_SIZE];
+    // As `chunks_exact_mut(6).zip(frames)` it was tried: what the bytes are after the loop stayed open.
     for (i, frame) in frames.iter().enumerate() {
         let six = low_bytes(frame.word());
-        laws::copy_at(&mut out, 6 * i, &six);
+        laws::lay(&mut out, 6 * i, &six);
     }
     out
 }
@@ -162,10 +176,11 @@ impl Gather for Snippets {
     ghost step = { λ bytes o. kept (snippet_fits bytes) o };
 
     fn add(&mut self, item: &[u8]) -> Result<(), Error> {
-        if item.is_empty() || 16 < item.len() {
-            return Err(Error::NotAnImage);
+        if reader::snippet_fits(item) {
+            Ok(())
+        } else {
+            Err(Error::NotAnImage)
         }
-        Ok(())
     }
 }
 
@@ -180,26 +195,10 @@ impl Gather for Sequences {
         if item.is_empty() {
             return Err(Error::NotAnImage);
         }
-        read_frames(item)
-    }
-}
-
-// At most 32 frames, up to the end of the bytes.
-fn read_frames(bytes: &[u8]) -> Result<(), Error>
-    ensures { result ≡ fits_answer (present (read_frames 32 bytes.now)) }
-{
-    let mut rest = bytes;
-    for _ in 0..32u8 {
-        if rest.is_empty() {
-            return Ok(());
+        for frame in ReadFrames::new(item) {
+            frame?;
         }
-        let (_, n) = FrameBuilder::read(rest)?;
-        rest = &rest[n..];
-    }
-    if rest.is_empty() {
         Ok(())
-    } else {
-        Err(Error::NotAnImage)
     }
 }
 
@@ -211,11 +210,11 @@ fn item(image: &[u8], k: usize) -> &[u8]
     ensures { result.now ≡ item_at image.now k }
 {
     let last = if k == 0 {
-        1 + laws::wide(image[0]) + laws::wide(image[1])
+        1 + usize::from(image[0]) + usize::from(image[1])
     } else {
-        laws::wide(image[1 + k])
+        usize::from(image[1 + k])
     };
-    let end = laws::wide(image[2 + k]);
+    let end = usize::from(image[2 + k]);
     &image[last + 1..end + 1]
 }
 
@@ -223,15 +222,5 @@ fn item(image: &[u8], k: usize) -> &[u8]
 fn nth_frame(bytes: &[u8], j: usize) -> Option<FrameBuilder>
     ensures { NthFrame bytes.now j result }
 {
-    let mut rest = bytes;
-    for _ in 0..j {
-        match FrameBuilder::read(rest) {
-            Ok((_, n)) => rest = &rest[n..],
-            Err(_) => return None,
-        }
-    }
-    match FrameBuilder::read(rest) {
-        Ok((frame, _)) => Some(frame),
-        Err(_) => None,
-    }
+    ReadFrames::new(bytes).nth(j)?.ok()
 }

@@ -10,7 +10,7 @@ use Rattle.frame.specs.Builder.{silent_frame}
 use Rattle.reader.specs.Reading.{Reading, Points, Frames, no_runs, reading_of}
 use Rattle.reader.specs.Walk.{push_snippet, push_sequence, Scan, scan}
 use Rattle.errors.proofs.Passed.{passed}
-use Rattle.reader.proofs.Steps.{scans_ok, scans_err}
+use Rattle.reader.proofs.Steps.{tells_ok, tells_err}
 use Rattle.reader.proofs.Whole.{reading_from, whole}
 use Rattle.reader.proofs.read.Goals as goal
 
@@ -26,7 +26,7 @@ scanned_as image small a b ea eb m e =
 pub returns-in_err-scan-clause-value : goal.returns-in_err-scan-clause-value
 returns-in_err-scan-clause-value c =
     let image = c.args.image.now in
-    let n = scans_err image _ _ _ c.scan.ensures c.in_err-scan.was in
+    let n = tells_err _ _ _ _ c.scan.ensures c.in_err-scan.was in
     passed _ c.from_residual.ensures.1 ∙ ap Err n.1
     ∙ scanned_as image (bytes_of image (λ i. (c.type_inv.image i).fits)) _ _ c.new-snippets.ensures (c.new-sequences.ensures ∙ ap (no_runs 16) c.silence.ensures) none n.0
 
@@ -37,8 +37,9 @@ returns-in_err-scan-clause-answer_value c =
 pub returns-clause-value : goal.returns-clause-value
 returns-clause-value c =
     let image = c.args.image.now in
+    let m = tells_ok _ _ _ c.scan.ensures c.in_ok-scan.was in
     scanned_as image (bytes_of image (λ i. (c.type_inv.image i).fits)) _ _ c.new-snippets.ensures (c.new-sequences.ensures ∙ ap (no_runs 16) c.silence.ensures) _
-    (scans_ok image _ c.scan.ensures c.in_ok-scan.was)
+    (m.is ∙ ap some m.left)
 
 pub returns-clause-answer_value : goal.returns-clause-answer_value
 returns-clause-answer_value c = ap (λ (r : Reading). answer_number r) (returns-clause-value c) ∙ numbered (read_image c.args.image.now)

@@ -6,14 +6,14 @@ use Rattle.readings.proofs.frame.Goals as goal
 
 pub item-requires : goal.item-requires
 item-requires c =
-    let k : c.in-Ok.s + c.args.i ≡ c.wide-in-Ok.result + c.args.i = omega (arith, c.wide-in-Ok.ensures.value) in
+    let k : c.in-Ok.s + c.args.i ≡ c.from-in-Ok.result + c.args.i = omega (arith, c.from-in-Ok.ensures) in
     subst (λ (n : ℕ). Stands c.args.image.now n) k (item_stands c.args.image.now _ _ c.in-Ok.ensures (c.in-Ok.s + c.args.i) (omega arith))
 
 pub returns-in-Some : goal.returns-in-Some
 returns-in-Some c =
     let j = c.args.j in
     let f = c.in-Some.frame in
-    let k : c.wide-in-Ok.result + c.args.i ≡ c.in-Ok.s + c.args.i = omega (arith, c.wide-in-Ok.ensures.value) in
+    let k : c.from-in-Ok.result + c.args.i ≡ c.in-Ok.s + c.args.i = omega (arith, c.from-in-Ok.ensures) in
     c.word.ensures.value
     ∙ frame_there c.args.image.now _ _ c.in-Ok.ensures c.args.i j (omega arith) (Some f)
     (subst (λ n. NthFrame (item_at c.args.image.now n) j (Some f)) k (subst (λ l. NthFrame l j (Some f)) c.item.ensures c.in-Some.ensures))
@@ -21,7 +21,7 @@ returns-in-Some c =
 pub returns-in-None : goal.returns-in-None
 returns-in-None c =
     let j = c.args.j in
-    let k : c.wide-in-Ok.result + c.args.i ≡ c.in-Ok.s + c.args.i = omega (arith, c.wide-in-Ok.ensures.value) in
+    let k : c.from-in-Ok.result + c.args.i ≡ c.in-Ok.s + c.args.i = omega (arith, c.from-in-Ok.ensures) in
     frame_there c.args.image.now _ _ c.in-Ok.ensures c.args.i j (omega arith) None
     (subst (λ n. NthFrame (item_at c.args.image.now n) j None) k (subst (λ l. NthFrame l j None) c.item.ensures c.in-None.ensures))
 

@@ -1,10 +1,12 @@
 -- The bytes behind the item before, up to the pointer.
-use Rattle.std.proofs.Common.{◌≡◌, ◌+◌, ◌∙◌, List, ℕ, zero, suc, ap, refl, arith, get_or}
+use Rattle.std.proofs.Common.{◌-◌, take, drop, ◌≡◌, ◌+◌, ◌∙◌, List, ℕ, zero, suc, ap, refl, arith, get_or}
 use Rattle.reader.specs.Walk.{item}
-use Rattle.reader.proofs.Loops.{item_part}
 use Rattle.readings.specs.InPlace.{before_item, item_at}
 use Rattle.readings.proofs.item.Goals as goal
 use Rattle.readings.proofs.item.Goals.{then-k-eq0, else-k-eq0}
+
+item_part : (image : List ℕ) (p e : ℕ) → take (e + 1 - (p + 1)) (drop (p + 1) image) ≡ item image p e
+item_part image p e = let k : e + 1 - (p + 1) ≡ e - p = omega arith in ap (λ (n : ℕ). take n (drop (p + 1) image)) k
 
 before_first : (image : List ℕ) (k last a b : ℕ) → last ≡ 1 + a + b → a ≡ get_or image 0 0 → b ≡ get_or image 1 0 → k ≡ 0 → last ≡ before_item image k
 before_first image zero last a b d e f h = d ∙ (λ i. 1 + e i + f i)
@@ -21,8 +23,8 @@ returns c =
     let k = c.args.k in
     let last : c.if-k-eq0.last ≡ before_item image k =
     elim c.if-k-eq0.branch [
-      | then-k-eq0 w ↦ before_first image k _ _ _ w.last-is w.wide.ensures.value w.wide-then-k-eq0.ensures.value w.if-k-eq0.true
-      | else-k-eq0 w ↦ before_next image k _ _ w.last-is w.wide-last.ensures.value w.if-k-eq0.false
+      | then-k-eq0 w ↦ before_first image k _ _ _ w.last-is w.from.ensures w.from-then-k-eq0.ensures w.if-k-eq0.true
+      | else-k-eq0 w ↦ before_next image k _ _ w.last-is w.from-last.ensures w.if-k-eq0.false
     ]
     in
-    item_part image c.if-k-eq0.last c.wide-end.result ∙ (λ i. item image (last i) (c.wide-end.ensures.value i))
+    item_part image c.if-k-eq0.last c.from-end.result ∙ (λ i. item image (last i) (c.from-end.ensures i))

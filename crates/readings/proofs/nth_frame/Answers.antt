@@ -1,29 +1,45 @@
--- By what one frame more, or none, says of the rest.
-use Rattle.std.proofs.Common.{◌≡◌, ◌-◌, ◌+◌, drop, arith, subst, sym}
-use Rattle.std.proofs.lemmas.List.{take_rest}
-use Rattle.readings.proofs.Elements.{Left, left_all, left_stop, left_here, left_on}
+-- What comes at the j-th place is that frame, if all are frames.
+use Rattle.std.proofs.Common.{◌≡◌, ◌∙◌, Option, Result, Some, None, Ok, Err, List, ℕ, [], ◌∷◌, zero, suc, ap, refl, sym}
+use Rattle.std.specs.List.{slice_get}
+use Rattle.std.specs.Option.{option_map}
+use Rattle.std.specs.Result.{result_ok}
+use Rattle.std.proofs.Math.Option.{some}
+use Rattle.std.proofs.Math.ListN.{get_elem?}
+use Rattle.std.proofs.lemmas.Iterator.Consumers.{YieldsList-from_first, nth_from_yields_List}
+use Rattle.errors.specs.declared.Error.{Error}
+use Rattle.frame.specs.declared.FrameBuilder.{FrameBuilder}
+use Rattle.content.specs.ReadImage.{and_then, read_frames}
+use Rattle.reader.specs.Items.{at_told}
+use Rattle.reader.specs.Walk.{frames_from, frames_left}
+use Rattle.reader.proofs.Running.{ok, every_ok}
+use Rattle.readings.proofs.Standing.{every_at}
 use Rattle.readings.proofs.nth_frame.Goals as goal
 
-pub loop-init : goal.loop-init
-loop-init c fs e =
-    let j = c.args.j in
-    let k : j ≡ j - 0 = omega arith in
-    subst (λ n. Left fs c.args.bytes.now j n) k (left_all fs c.args.bytes.now j e)
+looked : (l : List (Result FrameBuilder Error)) (j : ℕ) → at_told (slice_get l j) ≡ get_elem? l j
+looked [] j = refl
+looked (x ∷ l) zero = refl
+looked (x ∷ l) (suc j) = looked l j
 
-pub returns-in-Err : goal.returns-in-Err
-returns-in-Err c fs e = left_stop fs _ _ _ (c.loop.invariant fs e) _ c.in-Err.ensures.value
+got : (l : List (Result FrameBuilder Error)) (j : ℕ) (r : Option (Result FrameBuilder Error)) → option_map (λ x. x) r ≡ slice_get l j → at_told r ≡ get_elem? l j
+got l j None e = ap at_told e ∙ looked l j
+got l j (Some x) e = ap at_told e ∙ looked l j
 
-pub loop-preserved : goal.loop-preserved
-loop-preserved c fs e =
-    let j = c.args.j in
-    let l = c.loop.rest.now in
-    let n = c.in-Ok.n in
-    let k : j - c.loop.counter - 1 ≡ j - (c.loop.counter + 1) = omega arith in
-    let left = left_on fs l j (j - c.loop.counter) (c.loop.invariant fs e) _ n c.in-Ok.ensures.value (omega arith) in
-    subst (λ r. Left fs r j (j - (c.loop.counter + 1))) (sym (take_rest l n)) (subst (λ m. Left fs (drop n l) j m) k left)
+told_ok : (r : Result FrameBuilder Error) → at_told (result_ok r) ≡ ok r
+told_ok (Ok f) = refl
+told_ok (Err e) = refl
 
-pub returns-in-Ok-read : goal.returns-in-Ok-read
-returns-in-Ok-read c fs e = left_here fs _ _ _ (c.loop.invariant fs e) _ _ c.in-Ok-read.ensures.value (omega arith)
+frame_at : (l : List ℕ) (fs : List FrameBuilder) (j : ℕ) (r : Option (Result FrameBuilder Error)) → read_frames 32 l ≡ some fs
+    → option_map (λ x. x) r ≡ slice_get (frames_from 32 l) j → and_then (at_told r) ok ≡ get_elem? fs j
+frame_at l fs j r e t = ap (λ o. and_then o ok) (got (frames_from 32 l) j r t) ∙ sym (every_at ok (frames_from 32 l) fs j (every_ok 32 l ∙ e))
 
-pub returns-in-Err-read : goal.returns-in-Err-read
-returns-in-Err-read c fs e = left_stop fs _ _ _ (c.loop.invariant fs e) _ c.in-Err-read.ensures.value
+pub returns-in_err-nth : goal.returns-in_err-nth
+returns-in_err-nth c fs e =
+    let l = c.args.bytes.now in
+    let t = nth_from_yields_List c.nth.result c.nth.new.self c.args.j c.nth.ensures.ran (YieldsList-from_first (λ x. x) frames_left (frames_from 32 l) c.new.ensures) in
+    ap at_told c.from_residual.ensures ∙ ap (λ r. and_then (at_told r) ok) (sym c.in_err-nth.was) ∙ frame_at l fs c.args.j c.nth.result e t
+
+pub returns : goal.returns
+returns c fs e =
+    let l = c.args.bytes.now in
+    let t = nth_from_yields_List c.nth.result c.nth.new.self c.args.j c.nth.ensures.ran (YieldsList-from_first (λ x. x) frames_left (frames_from 32 l) c.new.ensures) in
+    ap at_told c.ok.ensures.value ∙ told_ok c.in_ok-nth.field-0 ∙ ap (λ r. and_then (at_told r) ok) (sym c.in_ok-nth.was) ∙ frame_at l fs c.args.j c.nth.result e t

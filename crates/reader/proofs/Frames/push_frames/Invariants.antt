@@ -1,7 +1,8 @@
--- Reading the rest gives what reading the whole gives.
-use Rattle.std.proofs.Common.{◌≡◌, ◌-◌, drop}
-use Rattle.reader.specs.Walk.{run_frames}
+-- Adding those that are left gives what adding all gives.
+use Rattle.std.proofs.Common.{◌≡◌}
+use Rattle.reader.specs.Walk.{frames_from, frames_left}
+use Rattle.reader.proofs.Running.{pushes}
 use Rattle.reader.proofs.Frames.push_frames.Given as goal
 
-abbrev pub invariant-loop : goal.invariant-loop
-invariant-loop l = run_frames (32 - l.counter) (drop l.at l.bytes) l.self ≡ run_frames 32 l.bytes l.fn.self
+abbrev pub invariant-loop-frame : goal.invariant-loop-frame
+invariant-loop-frame l = pushes (frames_left l.frame-iterator) l.self ≡ pushes (frames_from 32 l.bytes) l.fn.self

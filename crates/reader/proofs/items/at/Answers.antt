@@ -1,21 +1,13 @@
--- By the place that was found.
-use Rattle.std.proofs.Common.{◌≡◌, length, take, rules}
-use Rattle.laws.proofs.Lists.{length_of_map}
-use Rattle.reader.proofs.Placed.{element_past, element_there, element_absent}
+-- The element of the list that was found.
+use Rattle.std.proofs.Common.{◌∙◌, ap}
+use Rattle.std.proofs.Math.ListN.{get_elem?}
+use Rattle.content.specs.ReadImage.{and_then}
+use Rattle.reader.specs.Items.{at_told}
+use Rattle.reader.proofs.Placed.{got}
 use Rattle.reader.proofs.items.at.Goals as goal
-use Rattle.reader.proofs.items.at.Goals.{in_default-via-in-Some+else-k-lt96, in_default-via-in_default}
 
-pub returns-in-Some : goal.returns-in-Some
-returns-in-Some g c =
-    let r = c.args.runs.now in
-    let h : length r.items ≡ 96 = search (rules, length_of_map) in
-    element_there (take r.count r.ends) r.items c.args.i c.args.j 96 h _ _ c.in-Some.ensures c.if-k-lt96.true
-
-pub returns-in_default : goal.returns-in_default
-returns-in_default g c =
-    let r = c.args.runs.now in
-    let h : length r.items ≡ 96 = search (rules, length_of_map) in
-    elim c.in_default.branch [
-      | in_default-via-in-Some+else-k-lt96 w ↦ element_past (take r.count r.ends) r.items c.args.i c.args.j 96 h _ w.in-Some.ensures w.if-k-lt96.false
-      | in_default-via-in_default w ↦ element_absent (take r.count r.ends) r.items c.args.i c.args.j 96 h w.in_default.ensures
-    ]
+pub returns : goal.returns
+returns g c =
+    let l = c.in_ok-list.field-0.now in
+    let j = c.args.j in
+    ap at_told c.copied.ensures ∙ got l j _ c.get.ensures.lookup ∙ ap (λ o. and_then o (λ l. get_elem? l j)) c.in_ok-list.ensures
