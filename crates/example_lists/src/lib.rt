@@ -5,13 +5,9 @@ mod text;
 
 use reader::{Frames, Points, items};
 use show::Refusal;
+use snippet::PwlPoint;
 use std::io;
 use text::{FrameText, PointText};
-
-// How many points a snippet has at most, and frames a sequence.
-const POINTS: usize = 16;
-
-const FRAMES: usize = 32;
 
 /// The parts of the image of so many snippets and sequences, by its end pointers.
 pub fn layout(rt: &impl Print, image: &[u8], snippets: u8, sequences: u8) -> io::Result<()> {
@@ -43,21 +39,18 @@ pub fn read(rt: &impl Print, image: &[u8]) -> io::Result<()> {
 
 fn snippet(rt: &impl Print, points: &Points, i: u8) -> io::Result<()> {
     print!(rt; "  snippet {} ", u16::from(i) + 1)?;
-    for j in 0..POINTS {
-        if let Some(point) = items::point_at(points, usize::from(i), j) {
-            let before = if j == 0 { "  " } else { ", " };
-            print!(rt; "{before}{}", PointText(point))?;
-        }
+    let points = items::list(points, usize::from(i)).unwrap_or(&[]);
+    for (j, byte) in points.iter().enumerate() {
+        let before = if j == 0 { "  " } else { ", " };
+        print!(rt; "{before}{}", PointText(PwlPoint::from_byte(*byte)))?;
     }
     println!(rt)
 }
 
 fn sequence(rt: &impl Print, frames: &Frames, i: u8) -> io::Result<()> {
     print!(rt; "  sequence {i}")?;
-    for j in 0..FRAMES {
-        if let Some(frame) = items::frame_at(frames, usize::from(i), j) {
-            print!(rt; "\n    {}", FrameText(frame))?;
-        }
+    for frame in items::list(frames, usize::from(i)).unwrap_or(&[]) {
+        print!(rt; "\n    {}", FrameText(*frame))?;
     }
     println!(rt)
 }

@@ -1,6 +1,6 @@
-// The points and the frames in what the reader answers, one by one (added; no Rust file; document 01, 'The hundred bytes').
-// Proved: the j-th point of the i-th snippet and the j-th frame of the i-th sequence are those of the lists that the reader's contract
-// speaks of (specs/Items.antt), for any indexes.
+// The points and the frames in what the reader answers, list by list and one by one (added; no Rust file; document 01, 'The hundred bytes').
+// Proved: the i-th list, the j-th point of the i-th snippet and the j-th frame of the i-th sequence are those of the lists that the reader's
+// contract speaks of (specs/Items.antt), for any indexes.
 ghost use Rattle.std.specs.Prelude.{◌≡◌};
 ghost use Rattle.std.specs.Option.{option_map};
 ghost use Rattle.std.proofs.Math.ListN.{get_elem?};
@@ -34,8 +34,8 @@ fn at<T: Copy, const MOST: usize>(runs: &Runs<T, MOST>, i: usize, j: usize) -> O
     list(runs, i)?.get(j).copied()
 }
 
-// The i-th list.
-fn list<T: Copy, const MOST: usize>(runs: &Runs<T, MOST>, i: usize) -> Option<&[T]>
+// The i-th list, counted from 0, if there is one.
+pub fn list<T: Copy, const MOST: usize>(runs: &Runs<T, MOST>, i: usize) -> Option<&[T]>
     ensures { at_told (option_map (λ l. l.now) result) ≡ get_elem? (runs_in runs.now) i }
 {
     let ends = laws::shown(&runs.ends, runs.count);

@@ -26,10 +26,10 @@ use reader::{Gather, Lists, ReadFrames};
 pub const LISTS_SIZE: usize = 703;
 
 // Where an image has no such point.
-pub const NO_POINT: u32 = 256;
+const NO_POINT: u32 = 256;
 
 // Where an image has no such frame.
-pub const NO_FRAME: u64 = 1 << 48;
+const NO_FRAME: u64 = 1 << 48;
 
 // A refusal stands above the 56 bits of a frame; here alone, since no other answer has as many.
 const NO_IMAGE: u64 = 18 << 56;

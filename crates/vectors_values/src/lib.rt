@@ -14,7 +14,7 @@ use snippet::SnippetBuilder;
 // How many bytes the record of a call has.
 const RECORD: usize = 4;
 
-/// The word of no point.
+/// The word of no point. As that of no frame, told here and not by `readings`, with which what stands here is compared.
 pub const NO_POINT: u64 = 1 << 8;
 
 /// The word of no frame.
