@@ -21,12 +21,6 @@ take_shown {A} l n k e = ap (λ (m : ℕ). take m l) e ∙ go (dec_le n (length 
 
 -- a count n of what a list shows, k of its elements or all where it has fewer
 module _ {A : Type 0} (l : List A) (k n : ℕ) (e : n ≡ length (take k l)) where
-  pub shown_fits : n ≤ length l
-  shown_fits = omega (arith, e ∙ length-take k l)
-
-  pub shown_length : n ≡ length (take n l)
-  shown_length = simp length-take (omega (arith, e ∙ length-take k l))
-
   pub shown_part : take n l ≡ take k l
   shown_part = take_shown l k n (e ∙ length-take k l)
 

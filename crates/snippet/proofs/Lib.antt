@@ -1,3 +1,2 @@
 pub mod Packed
 pub mod Points
-pub mod Sizes
