@@ -4,27 +4,15 @@ use mathlib.Core.Path.{◌≡◌, refl, ap, ◌∙◌}
 use mathlib.Core.List.{List, [], ◌++◌}
 use lib.ListN.{length}
 use Rattle.exchange.specs.declared.Step.{Step}
-use Rattle.exchange.specs.State.{Begun, begun_in, pushed, pushed_all}
+use Rattle.exchange.specs.State.{Begun, begun_in, pushed_all}
 use Rattle.exchange.proofs.Pushes.{pushes}
 use Rattle.da728x.specs.declared.DA728x.{DA728x}
 use Rattle.da728x.proofs.Kept.{record_length}
 use Rattle.sessions.specs.Sessions.{no_image, blank_record, blank, carrying}
 
--- ---- one after another
-
--- a step behind those that are known
-pub on : {s t u : List ℕ} {x y : Step} → u ≡ pushed t x → t ≡ s → x ≡ y → u ≡ pushed s y
-on e h k = e ∙ (λ i. pushed (h i) (k i))
-
--- all, behind a beginning that is known
-pub onto : {s t u : List ℕ} (xs : List Step) → u ≡ pushed_all t xs → t ≡ s → u ≡ pushed_all s xs
-onto xs e h = e ∙ ap (λ (l : List ℕ). pushed_all l xs) h
-
--- ---- those of a session
-
 pub ran : (st : List ℕ) {s u : List ℕ} (b : Begun) (xs ys : List Step) → length b.image ≡ 100 → length b.«record» ≡ 38 → length (xs ++ ys) ≤ 25 → s ≡ begun_in st b xs → u ≡ pushed_all s ys →
     u ≡ begun_in st b (xs ++ ys)
-ran st b xs ys image kept few h k = onto ys k h ∙ pushes st b xs ys image kept few
+ran st b xs ys image kept few h k = k ∙ ap (λ (l : List ℕ). pushed_all l ys) h ∙ pushes st b xs ys image kept few
 
 pub ran_blank : (st : List ℕ) {s u : List ℕ} (purpose address : ℕ) (xs ys : List Step) → length (xs ++ ys) ≤ 25 → s ≡ begun_in st (blank purpose address) xs → u ≡ pushed_all s ys →
     u ≡ begun_in st (blank purpose address) (xs ++ ys)
