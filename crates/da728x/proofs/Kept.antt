@@ -2,7 +2,7 @@
 use mathlib.Core.Path.{◌≡◌, refl, sym, ap, ◌∙◌}
 use mathlib.Core.Bool.{Bool, true, false}
 use mathlib.Core.List.{List, [], ◌∷◌, ◌++◌, append_assoc}
-use Prim.Native.Nat.{ℕ, suc, ◌+◌, ◌*◌, ◌/◌, ◌%◌}
+use Prim.Native.Nat.{ℕ, suc, ◌+◌, ◌*◌, ◌/◌, ◌%◌, ◌<◌}
 use native.Mathlib.Omega.{arith}
 use Rattle.std.specs.Prelude.{Option, Some, None}
 use lib.Dec.{ltb}
@@ -68,6 +68,9 @@ flag_kept false = refl
 
 two_kept : (n : ℕ) → n % 256 + 256 * (n / 256) ≡ n
 two_kept n = omega arith
+
+pub high_byte : (n : ℕ) → n < 65536 → n / 256 % 256 ≡ n / 256
+high_byte n h = omega arith
 
 -- ---- the parts, and what stands after them
 

@@ -4,7 +4,8 @@
 // Left out: the bus, which stays the caller's; the operations are in `driver`.
 #![tactic(auto)]
 
-ghost use Rattle.std.specs.Prelude.{◌≡◌, [], ◌∷◌, ◌++◌, ◌<◌, ◌+◌, ◌*◌, ◌/◌, ◌%◌, get_or, replicate};
+ghost use Rattle.std.specs.Prelude.{◌≡◌, ◌<◌, ◌+◌, ltb, None};
+ghost use Rattle.laws.specs.Lists.{at};
 ghost use Rattle.da728x.specs.Record.{record_bytes, record_at, chip_at, actuator_bytes, device_bytes, two, pid_bytes, trigger_bytes, settings_at, actuator_config_at, device_config_at, pid_at, trigger_at, two_at};
 
 use config::{ActuatorConfig, DeviceConfig, TriggerConfig, Variant};
@@ -21,6 +22,20 @@ pub struct DA728x {
 }
 
 impl DA728x {
+    // A chip of which nothing is known but its address and its variant.
+    pub fn new(address: u8, variant: Variant) -> DA728x
+        ensures { result ≡ record { address = address; variant = variant; settings = None; sequences = 0 } }
+    {
+        DA728x {
+            address,
+            variant,
+            settings: None,
+            sequences: 0,
+        }
+    }
+
+    // `to_bytes` and `from_bytes` and no `From`: std's numbers have `to_le_bytes` and `from_le_bytes`, and `into` would not say which bytes
+    // are no record.
     #[tactic(auto, unfolding(crate::specs::Record::record_bytes))]
     pub fn to_bytes(self) -> [u8; RECORD_SIZE]
         ensures { result ≡ record_bytes self }
@@ -49,29 +64,22 @@ impl DA728x {
         };
         DA728x {
             settings,
-            ..chip(bytes)
+            ..DA728x::chip_from_bytes(bytes)
         }
     }
-}
 
-// All but the settings of a record's bytes, for what looks at none.
-#[tactic(auto, unfolding(crate::specs::Record::record_at))]
-pub fn chip(bytes: &[u8]) -> DA728x
-    ensures { result ≡ chip_at bytes.now }
-{
-    if bytes.len() == RECORD_SIZE {
-        DA728x {
-            address: bytes[0],
-            variant: bytes[1].into(),
-            settings: None,
-            sequences: bytes[37],
-        }
-    } else {
-        DA728x {
-            address: 0,
-            variant: Variant::DA7280,
-            settings: None,
-            sequences: 0,
+    // All but the settings, beside `from_bytes` for `configure` and an answer, which look at none: they need not be decoded.
+    #[tactic(auto, unfolding(crate::specs::Record::record_at))]
+    pub fn chip_from_bytes(bytes: &[u8]) -> DA728x
+        ensures { result ≡ chip_at bytes.now }
+    {
+        if bytes.len() == RECORD_SIZE {
+            DA728x {
+                sequences: bytes[37],
+                ..DA728x::new(bytes[0], bytes[1].into())
+            }
+        } else {
+            DA728x::new(0, Variant::DA7280)
         }
     }
 }
@@ -80,28 +88,30 @@ pub fn chip(bytes: &[u8]) -> DA728x
 pub fn actuator_config(bytes: &[u8]) -> ActuatorConfig
     ensures { result ≡ actuator_config_at bytes.now 0 }
 {
-    actuator_at(bytes, 0)
+    Cursor { bytes, at: 0 }.actuator()
 }
 
 pub fn device_config(bytes: &[u8]) -> DeviceConfig
     ensures { result ≡ device_config_at bytes.now 18 }
 {
-    device_at(bytes, 18)
+    Cursor { bytes, at: 18 }.device()
 }
 
 // ---- to bytes
 
+// Each field is laid by a line of its own: gone through by a loop, each would need a line in the loop's list.
+#[tactic(auto, using(crate::proofs::Kept::high_byte))]
 fn actuator_bytes(a: ActuatorConfig) -> [u8; 18]
     ensures { result ≡ actuator_bytes a }
 {
     let mut bytes = [0u8; 18];
     bytes[0] = a.actuator_type.into();
-    bytes[1..3].copy_from_slice(&two(a.nominal_max_mV));
-    bytes[3..5].copy_from_slice(&two(a.absolute_max_mV));
-    bytes[5..7].copy_from_slice(&two(a.max_current_mA));
-    bytes[7..9].copy_from_slice(&two(a.impedance_mOhm));
-    bytes[9..11].copy_from_slice(&two(a.inductance_uH));
-    bytes[11..13].copy_from_slice(&two(a.frequency_Hz));
+    bytes[1..3].copy_from_slice(&a.nominal_max_mV.to_le_bytes());
+    bytes[3..5].copy_from_slice(&a.absolute_max_mV.to_le_bytes());
+    bytes[5..7].copy_from_slice(&a.max_current_mA.to_le_bytes());
+    bytes[7..9].copy_from_slice(&a.impedance_mOhm.to_le_bytes());
+    bytes[9..11].copy_from_slice(&a.inductance_uH.to_le_bytes());
+    bytes[11..13].copy_from_slice(&a.frequency_Hz.to_le_bytes());
     bytes[13..18].copy_from_slice(&pid_bytes(a.pid_Kp_Ki));
     bytes
 }
@@ -123,13 +133,14 @@ fn device_bytes(d: DeviceConfig) -> [u8; 16]
 fn pid_bytes(pid: Option<(u16, u16)>) -> [u8; 5]
     ensures { result ≡ pid_bytes pid }
 {
-    let mut bytes = [0u8; 5];
-    if let Some((kp, ki)) = pid {
-        bytes[0] = 1;
-        bytes[1..3].copy_from_slice(&two(kp));
-        bytes[3..5].copy_from_slice(&two(ki));
+    match pid {
+        None => [0; 5],
+        Some((kp, ki)) => {
+            let [kp_low, kp_high] = kp.to_le_bytes();
+            let [ki_low, ki_high] = ki.to_le_bytes();
+            [1, kp_low, kp_high, ki_low, ki_high]
+        }
     }
-    bytes
 }
 
 fn trigger_bytes(trigger: Option<TriggerConfig>) -> [u8; 4]
@@ -141,97 +152,123 @@ fn trigger_bytes(trigger: Option<TriggerConfig>) -> [u8; 4]
     }
 }
 
-// The least byte first.
-fn two(n: u16) -> [u8; 2]
-    ensures { result ≡ two n }
-{
-    n.to_le_bytes()
-}
-
 // ---- from bytes
 
 fn settings_at(bytes: &[u8]) -> Option<(ActuatorConfig, DeviceConfig)>
     ensures { result ≡ settings_at bytes.now }
 {
-    if 1 < byte_at(bytes, 2) {
-        Some((actuator_at(bytes, 3), device_at(bytes, 21)))
+    if 1 < laws::byte_at(bytes, 2) {
+        let mut settings = Cursor { bytes, at: 3 };
+        Some((settings.actuator(), settings.device()))
     } else {
         None
     }
 }
 
-fn actuator_at(bytes: &[u8], i: usize) -> ActuatorConfig
-    requires { i < 64 }
-    ensures { result ≡ actuator_config_at bytes.now i }
-{
-    ActuatorConfig {
-        actuator_type: byte_at(bytes, i).into(),
-        nominal_max_mV: two_at(bytes, i + 1),
-        absolute_max_mV: two_at(bytes, i + 3),
-        max_current_mA: two_at(bytes, i + 5),
-        impedance_mOhm: two_at(bytes, i + 7),
-        inductance_uH: two_at(bytes, i + 9),
-        frequency_Hz: two_at(bytes, i + 11),
-        pid_Kp_Ki: pid_at(bytes, i + 13),
-    }
+// Bytes that are read one after the other; those that are missing count as 0.
+#[derive(Drop)]
+struct Cursor<'a> {
+    bytes: &'a [u8],
+    at: usize,
 }
 
-fn device_at(bytes: &[u8], i: usize) -> DeviceConfig
-    requires { i < 64 }
-    ensures { result ≡ device_config_at bytes.now i }
-{
-    DeviceConfig {
-        operation_mode: byte_at(bytes, i).into(),
-        driving_mode: byte_at(bytes, i + 1).into(),
-        gpi_trigger_0: trigger_at(bytes, i + 2),
-        gpi_trigger_1: trigger_at(bytes, i + 6),
-        gpi_trigger_2: trigger_at(bytes, i + 10),
-        acceleration: 0 < byte_at(bytes, i + 14),
-        rapid_stop: 0 < byte_at(bytes, i + 15),
+impl Cursor<'_> {
+    // Inlined, as `device` is, so that no place is counted when it runs.
+    #[inline(always)]
+    fn actuator(&mut self) -> ActuatorConfig
+        requires { self.old.at < 64 }
+        ensures value { result ≡ actuator_config_at self.old.bytes.now self.old.at }
+        ensures bytes_after { self.new.bytes.now ≡ self.old.bytes.now }
+        ensures at_after { self.new.at ≡ self.old.at + 18 }
+    {
+        ActuatorConfig {
+            actuator_type: self.byte().into(),
+            nominal_max_mV: self.two(),
+            absolute_max_mV: self.two(),
+            max_current_mA: self.two(),
+            impedance_mOhm: self.two(),
+            inductance_uH: self.two(),
+            frequency_Hz: self.two(),
+            pid_Kp_Ki: self.pid(),
+        }
     }
-}
 
-fn pid_at(bytes: &[u8], i: usize) -> Option<(u16, u16)>
-    requires { i < 128 }
-    ensures { result ≡ pid_at bytes.now i }
-{
-    if 0 < byte_at(bytes, i) {
-        Some((two_at(bytes, i + 1), two_at(bytes, i + 3)))
-    } else {
-        None
+    #[inline(always)]
+    fn device(&mut self) -> DeviceConfig
+        requires { self.old.at < 64 }
+        ensures { result ≡ device_config_at self.old.bytes.now self.old.at }
+    {
+        DeviceConfig {
+            operation_mode: self.byte().into(),
+            driving_mode: self.byte().into(),
+            gpi_trigger_0: self.trigger(),
+            gpi_trigger_1: self.trigger(),
+            gpi_trigger_2: self.trigger(),
+            acceleration: self.flag(),
+            rapid_stop: self.flag(),
+        }
     }
-}
 
-fn trigger_at(bytes: &[u8], i: usize) -> Option<TriggerConfig>
-    requires { i < 128 }
-    ensures { result ≡ trigger_at bytes.now i }
-{
-    if 0 < byte_at(bytes, i) {
-        Some(TriggerConfig {
-            sequence_id: byte_at(bytes, i + 1),
-            polarity: byte_at(bytes, i + 2).into(),
-            mode: byte_at(bytes, i + 3).into(),
-        })
-    } else {
-        None
+    fn pid(&mut self) -> Option<(u16, u16)>
+        requires { self.old.at < 128 }
+        ensures value { result ≡ pid_at self.old.bytes.now self.old.at }
+        ensures bytes_after { self.new.bytes.now ≡ self.old.bytes.now }
+        ensures at_after { self.new.at ≡ self.old.at + 5 }
+    {
+        let given = self.flag();
+        let words = (self.two(), self.two());
+        if given { Some(words) } else { None }
     }
-}
 
-fn two_at(bytes: &[u8], i: usize) -> u16
-    requires { i < 256 }
-    ensures { result ≡ two_at bytes.now i }
-{
-    // one test of the length instead of two, where it costs less
-    if i + 1 < bytes.len() {
-        u16::from_le_bytes([bytes[i], bytes[i + 1]])
-    } else {
-        u16::from_le_bytes([byte_at(bytes, i), byte_at(bytes, i + 1)])
+    fn trigger(&mut self) -> Option<TriggerConfig>
+        requires { self.old.at < 128 }
+        ensures value { result ≡ trigger_at self.old.bytes.now self.old.at }
+        ensures bytes_after { self.new.bytes.now ≡ self.old.bytes.now }
+        ensures at_after { self.new.at ≡ self.old.at + 4 }
+    {
+        let given = self.flag();
+        let trigger = TriggerConfig {
+            sequence_id: self.byte(),
+            polarity: self.byte().into(),
+            mode: self.byte().into(),
+        };
+        if given { Some(trigger) } else { None }
     }
-}
 
-// A byte past the end counts as 0.
-fn byte_at(bytes: &[u8], i: usize) -> u8
-    ensures { result ≡ get_or bytes.now i 0 }
-{
-    bytes.get(i).copied().unwrap_or(0)
+    // Any byte but 0 sets it.
+    fn flag(&mut self) -> bool
+        requires { self.old.at < 512 }
+        ensures value { result ≡ ltb 0 (at self.old.bytes.now self.old.at) }
+        ensures bytes_after { self.new.bytes.now ≡ self.old.bytes.now }
+        ensures at_after { self.new.at ≡ self.old.at + 1 }
+    {
+        0 < self.byte()
+    }
+
+    fn two(&mut self) -> u16
+        requires { self.old.at < 256 }
+        ensures value { result ≡ two_at self.old.bytes.now self.old.at }
+        ensures bytes_after { self.new.bytes.now ≡ self.old.bytes.now }
+        ensures at_after { self.new.at ≡ self.old.at + 2 }
+    {
+        let (low, high) = (self.at, self.at + 1);
+        self.at += 2;
+        // one test of the length instead of two, where it costs less
+        if high < self.bytes.len() {
+            u16::from_le_bytes([self.bytes[low], self.bytes[high]])
+        } else {
+            laws::byte_at(self.bytes, low).into()
+        }
+    }
+
+    fn byte(&mut self) -> u8
+        requires { self.old.at < 512 }
+        ensures value { result ≡ at self.old.bytes.now self.old.at }
+        ensures bytes_after { self.new.bytes.now ≡ self.old.bytes.now }
+        ensures at_after { self.new.at ≡ self.old.at + 1 }
+    {
+        let byte = laws::byte_at(self.bytes, self.at);
+        self.at += 1;
+        byte
+    }
 }

@@ -14,18 +14,21 @@
 // of the buffer.
 #![tactic(auto)]
 
-ghost use Rattle.std.specs.Prelude.{◌≡◌, ◌&&◌, ◌∷◌, eqb, length};
+ghost use Rattle.std.specs.Prelude.{◌≡◌, [], ◌∷◌, length};
+ghost use Rattle.std.specs.Option.{ok_or};
+ghost use Rattle.std.specs.Result.{result_ok};
 ghost use Rattle.laws.specs.Lists.{at};
 ghost use Rattle.errors.specs.Number.{answer_number};
+ghost use Rattle.errors.specs.declared.Error.TheVariants.{NotConfigured};
 ghost use Rattle.registers.specs.Table.{address_of};
 ghost use Rattle.config.specs.Codes.{operation_code};
 ghost use Rattle.checks.specs.Checks.{first_failing};
 ghost use Rattle.config.specs.declared.OperationMode.TheVariants.{DRO_MODE};
-ghost use Rattle.exchange.specs.declared.Step.TheVariants.{Write};
+ghost use Rattle.exchange.specs.declared.Step.TheVariants.{Read, Write};
 ghost use Rattle.exchange.specs.State.{begun_in};
 ghost use Rattle.exchange.specs.Turn.{state_after, buffer_after, report_of, turn_report};
 ghost use Rattle.sessions.specs.Sessions.{blank, start_steps};
-ghost use Rattle.outcome.specs.Outcome.{record_by};
+ghost use Rattle.outcome.specs.Outcome.{record_by, purpose_code};
 ghost use Rattle.driver.specs.Operations as spec;
 
 use config::{ActuatorConfig, DeviceConfig, DrivingMode, OperationMode, Variant};
@@ -43,12 +46,7 @@ pub fn new(address: u8, variant: Variant, session: &mut [u8]) -> Result<(), Erro
     ensures result_value { answer_number result ≡ spec.start_number (spec.new address variant).start }
     ensures session_after { session.new ≡ spec.started_in session.old (spec.new address variant).start }
 {
-    let next = DA728x {
-        address,
-        variant,
-        settings: None,
-        sequences: 0,
-    };
+    let next = DA728x::new(address, variant);
     sessions::begin_with(session, Purpose::New.into(), next);
     exchange::push(
         session,
@@ -78,10 +76,8 @@ pub fn configure(
 {
     checks::configure_checks(driver.variant, a, d)?;
     let next = DA728x {
-        address: driver.address,
-        variant: driver.variant,
         settings: Some((a, d)),
-        sequences: 0,
+        ..DA728x::new(driver.address, driver.variant)
     };
     sessions::begin_with(session, Purpose::Settings.into(), next);
     plans::configure(session, a, d);
@@ -94,12 +90,7 @@ pub fn get_chip_rev(driver: &DA728x, session: &mut [u8]) -> Result<(), Error>
     ensures result_value { answer_number result ≡ spec.start_number (spec.get_chip_rev driver.now).start }
     ensures session_after { session.new ≡ spec.started_in session.old (spec.get_chip_rev driver.now).start }
 {
-    sessions::run(
-        session,
-        driver.address,
-        Purpose::Byte.into(),
-        Step::Read(Register::CHIP_REV.address()),
-    );
+    read(session, driver, Purpose::Byte, Register::CHIP_REV);
     Ok(())
 }
 
@@ -108,12 +99,7 @@ pub fn get_events(driver: &DA728x, session: &mut [u8]) -> Result<(), Error>
     ensures result_value { answer_number result ≡ spec.start_number (spec.get_events driver.now).start }
     ensures session_after { session.new ≡ spec.started_in session.old (spec.get_events driver.now).start }
 {
-    sessions::run(
-        session,
-        driver.address,
-        Purpose::ThreeBytes.into(),
-        Step::Read(Register::IRQ_EVENT1.address()),
-    );
+    read(session, driver, Purpose::ThreeBytes, Register::IRQ_EVENT1);
     exchange::push(
         session,
         Step::Read(Register::IRQ_EVENT_WARNING_DIAG.address()),
@@ -127,12 +113,7 @@ pub fn get_status(driver: &DA728x, session: &mut [u8]) -> Result<(), Error>
     ensures result_value { answer_number result ≡ spec.start_number (spec.get_status driver.now).start }
     ensures session_after { session.new ≡ spec.started_in session.old (spec.get_status driver.now).start }
 {
-    sessions::run(
-        session,
-        driver.address,
-        Purpose::Byte.into(),
-        Step::Read(Register::IRQ_STATUS1.address()),
-    );
+    read(session, driver, Purpose::Byte, Register::IRQ_STATUS1);
     Ok(())
 }
 
@@ -142,11 +123,12 @@ pub fn set_frequency(driver: &DA728x, frequency_hz: u16, session: &mut [u8]) -> 
     ensures result_value { answer_number result ≡ spec.start_number (spec.set_frequency driver.now frequency_hz).start }
     ensures session_after { session.new ≡ spec.started_in session.old (spec.set_frequency driver.now frequency_hz).start }
 {
-    let (_, d) = driver.settings.ok_or(Error::NotConfigured)?;
+    let (_, d) = settings(driver)?;
     if checks::outside_band(d.driving_mode, frequency_hz) {
         return Err(Error::InvalidDriveFrequency);
     }
-    sessions::begin(session, driver.address, Purpose::Command.into());
+    let opening = sessions::opening(driver.address, Purpose::Command.into());
+    exchange::begin(session, opening);
     plans::frequency(session, frequency_hz);
     Ok(())
 }
@@ -155,18 +137,18 @@ pub fn set_override_value(driver: &DA728x, value: i8, session: &mut [u8]) -> Res
     ensures result_value { answer_number result ≡ spec.start_number (spec.set_override_value driver.now value).start }
     ensures session_after { session.new ≡ spec.started_in session.old (spec.set_override_value driver.now value).start }
 {
-    let (_, d) = driver.settings.ok_or(Error::NotConfigured)?;
+    let (_, d) = settings(driver)?;
     if d.acceleration && value < 0 {
         return Err(Error::InvalidValue);
     }
     if d.operation_mode != OperationMode::DRO_MODE {
         return Err(Error::WrongMode);
     }
-    sessions::run(
+    write(
         session,
-        driver.address,
-        Purpose::Command.into(),
-        Step::Write(Register::TOP_CTL2.address(), convert::override_byte(value)),
+        driver,
+        Register::TOP_CTL2,
+        convert::override_byte(value),
     );
     Ok(())
 }
@@ -176,15 +158,12 @@ pub fn enable(driver: &DA728x, session: &mut [u8]) -> Result<(), Error>
     ensures result_value { answer_number result ≡ spec.start_number (spec.enable driver.now).start }
     ensures session_after { session.new ≡ spec.started_in session.old (spec.enable driver.now).start }
 {
-    let (_, d) = driver.settings.ok_or(Error::NotConfigured)?;
-    sessions::run(
+    let (_, d) = settings(driver)?;
+    write(
         session,
-        driver.address,
-        Purpose::Command.into(),
-        Step::Write(
-            Register::TOP_CTL1.address(),
-            sessions::enabled(d.operation_mode),
-        ),
+        driver,
+        Register::TOP_CTL1,
+        sessions::enabled(d.operation_mode),
     );
     Ok(())
 }
@@ -193,7 +172,7 @@ pub fn disable(driver: &DA728x, session: &mut [u8]) -> Result<(), Error>
     ensures result_value { answer_number result ≡ spec.start_number (spec.disable driver.now).start }
     ensures session_after { session.new ≡ spec.started_in session.old (spec.disable driver.now).start }
 {
-    driver.settings.ok_or(Error::NotConfigured)?;
+    settings(driver)?;
     sessions::update(
         session,
         driver.address,
@@ -215,26 +194,23 @@ pub fn set_custom_drive_waveform(
     ensures session_after { session.new
         ≡ spec.started_in session.old (spec.set_custom_drive_waveform driver.now (at points 0) (at points 1) (at points 2)).start }
 {
-    let (_, d) = driver.settings.ok_or(Error::NotConfigured)?;
+    let (_, d) = settings(driver)?;
     if d.driving_mode != DrivingMode::CUSTOM_WAVEFORM {
         return Err(Error::WrongMode);
     }
-    drive_points(session, driver.address, points[0], points[1], points[2]);
+    drive_points(session, driver, points);
     Ok(())
 }
 
-fn drive_points(session: &mut [u8], address: u8, p1: u8, p2: u8, p3: u8)
-    ensures { session.new ≡ begun_in session.old (blank 0 address) (spec.drive_point_steps p1 p2 p3) }
+fn drive_points(session: &mut [u8], driver: &DA728x, points: [u8; 3])
+    ensures { session.new
+        ≡ begun_in session.old (blank 0 driver.now.address) (spec.drive_point_steps (at points 0) (at points 1) (at points 2)) }
 {
+    let [p1, p2, p3] = points;
     let swg_c1 = SWG_C1::new().with_CUSTOM_WAVE_GEN_COEFF1(p1);
     let swg_c2 = SWG_C2::new().with_CUSTOM_WAVE_GEN_COEFF2(p2);
     let swg_c3 = SWG_C3::new().with_CUSTOM_WAVE_GEN_COEFF3(p3);
-    sessions::run(
-        session,
-        address,
-        Purpose::Command.into(),
-        Step::Write(Register::SWG_C1.address(), swg_c1.into()),
-    );
+    write(session, driver, Register::SWG_C1, swg_c1.into());
     exchange::push(
         session,
         Step::Write(Register::SWG_C2.address(), swg_c2.into()),
@@ -269,11 +245,11 @@ pub fn unlock_waveform_memory(driver: &DA728x, session: &mut [u8]) -> Result<(),
     ensures result_value { answer_number result ≡ spec.start_number (spec.unlock_waveform_memory driver.now).start }
     ensures session_after { session.new ≡ spec.started_in session.old (spec.unlock_waveform_memory driver.now).start }
 {
-    sessions::run(
+    write(
         session,
-        driver.address,
-        Purpose::Command.into(),
-        Step::Write(Register::MEM_CTL2.address(), sessions::mem_ctl2(true)),
+        driver,
+        Register::MEM_CTL2,
+        sessions::mem_ctl2(true),
     );
     Ok(())
 }
@@ -282,11 +258,11 @@ pub fn lock_waveform_memory(driver: &DA728x, session: &mut [u8]) -> Result<(), E
     ensures result_value { answer_number result ≡ spec.start_number (spec.lock_waveform_memory driver.now).start }
     ensures session_after { session.new ≡ spec.started_in session.old (spec.lock_waveform_memory driver.now).start }
 {
-    sessions::run(
+    write(
         session,
-        driver.address,
-        Purpose::Command.into(),
-        Step::Write(Register::MEM_CTL2.address(), sessions::mem_ctl2(false)),
+        driver,
+        Register::MEM_CTL2,
+        sessions::mem_ctl2(false),
     );
     Ok(())
 }
@@ -303,21 +279,16 @@ pub fn upload_waveform_memory(
     ensures session_after { session.new ≡ spec.started_in session.old (spec.upload_waveform_memory driver.old memory.now lock_after).start }
 {
     let next = DA728x {
-        address: driver.address,
-        variant: driver.variant,
-        settings: None,
         sequences: memory.num_sequences(),
+        ..DA728x::new(driver.address, driver.variant)
     };
     *driver = outcome::changed(*driver, outcome::zeroing(session));
     exchange::begin(
         session,
         Opening {
-            address: next.address,
-            reads: 0,
-            room: 0,
-            purpose: Purpose::Upload.into(),
             image: memory.bytes(),
             record: &next.to_bytes(),
+            ..sessions::opening(next.address, Purpose::Upload.into())
         },
     );
     sessions::send(session, sessions::shown(memory.len()), lock_after);
@@ -338,12 +309,9 @@ pub fn read_waveform_memory(
     exchange::begin(
         session,
         Opening {
-            address: driver.address,
             reads: sessions::reads(len, buffer_len),
             room: buffer_len,
-            purpose: Purpose::Length.into(),
-            image: &[0; 100],
-            record: &[0; da728x::RECORD_SIZE],
+            ..sessions::opening(driver.address, Purpose::Length.into())
         },
     );
     Ok(())
@@ -361,14 +329,11 @@ pub fn select_sequence(
     ensures session_after { session.new ≡ spec.started_in session.old (spec.select_sequence driver.now sequence_id loops).start }
 {
     sequence_checks(driver.sequences, sequence_id, loops)?;
-    sessions::run(
+    write(
         session,
-        driver.address,
-        Purpose::Command.into(),
-        Step::Write(
-            Register::SEQ_CTL2.address(),
-            sessions::seq_ctl2(sequence_id, loops),
-        ),
+        driver,
+        Register::SEQ_CTL2,
+        sessions::seq_ctl2(sequence_id, loops),
     );
     Ok(())
 }
@@ -410,23 +375,14 @@ pub fn play_sequence(
     ensures session_after { session.new ≡ spec.started_in session.old (spec.play_sequence driver.now sequence_id loops).start }
 {
     sequence_checks(driver.sequences, sequence_id, loops)?;
-    play(
-        session,
-        driver.address,
-        sessions::seq_ctl2(sequence_id, loops),
-    );
+    play(session, driver, sessions::seq_ctl2(sequence_id, loops));
     Ok(())
 }
 
-fn play(session: &mut [u8], address: u8, value: u8)
-    ensures { session.new ≡ begun_in session.old (blank 0 address) (Write (address_of "SEQ_CTL2") value ∷ start_steps) }
+fn play(session: &mut [u8], driver: &DA728x, value: u8)
+    ensures { session.new ≡ begun_in session.old (blank 0 driver.now.address) (Write (address_of "SEQ_CTL2") value ∷ start_steps) }
 {
-    sessions::run(
-        session,
-        address,
-        Purpose::Command.into(),
-        Step::Write(Register::SEQ_CTL2.address(), value),
-    );
+    write(session, driver, Register::SEQ_CTL2, value);
     exchange::push(session, Step::Read(Register::TOP_CTL1.address()));
     exchange::push(
         session,
@@ -437,6 +393,32 @@ fn play(session: &mut [u8], address: u8, value: u8)
             1,
         ),
     );
+}
+
+// ---- what several operations do
+
+// The settings stored last, for what needs some.
+fn settings(driver: &DA728x) -> Result<(ActuatorConfig, DeviceConfig), Error>
+    ensures value { result ≡ ok_or driver.now.settings NotConfigured }
+    ensures ok_part { driver.now.settings ≡ result_ok result }
+{
+    driver.settings.ok_or(Error::NotConfigured)
+}
+
+// Begins a session, for this purpose, that reads a register.
+fn read(session: &mut [u8], driver: &DA728x, purpose: Purpose, register: Register)
+    ensures { session.new ≡ begun_in session.old (blank (purpose_code purpose) driver.now.address) (Read register.0 ∷ []) }
+{
+    let step = Step::Read(register.address());
+    sessions::run(session, driver.address, purpose.into(), step);
+}
+
+// Begins a session that writes a register.
+fn write(session: &mut [u8], driver: &DA728x, register: Register, value: u8)
+    ensures { session.new ≡ begun_in session.old (blank 0 driver.now.address) (Write register.0 value ∷ []) }
+{
+    let step = Step::Write(register.address(), value);
+    sessions::run(session, driver.address, Purpose::Command.into(), step);
 }
 
 // ---- what an answer gives

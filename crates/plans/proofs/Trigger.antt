@@ -155,39 +155,9 @@ elsewhere_driving FREQUENCY_TRACK = refl
 elsewhere_driving WIDEBAND = refl
 elsewhere_driving CUSTOM_WAVEFORM = refl
 
-elsewhere_features : (a : ActuatorConfig) (d : DeviceConfig) → filter to_gpi (feature_steps a d) ≡ []
-unfolding feature_steps
-elsewhere_features a d = refl
-
-elsewhere_limits : (a : ActuatorConfig) → filter to_gpi (limit_steps a) ≡ []
-unfolding limit_steps
-elsewhere_limits a = refl
-
-elsewhere_calibration : (a : ActuatorConfig) → filter to_gpi (calibration_steps a) ≡ []
-unfolding calibration_steps
-elsewhere_calibration a = refl
-
-elsewhere_frequency : (hz : ℕ) → filter to_gpi (frequency_steps hz) ≡ []
-unfolding frequency_steps
-elsewhere_frequency hz = refl
-
-elsewhere_rapid : filter to_gpi rapid_stop_steps ≡ []
-unfolding rapid_stop_steps
-elsewhere_rapid = refl
-
 only : (a : ActuatorConfig) (d : DeviceConfig) → filter to_gpi (configure_steps a (untriggered d)) ≡ []
-only a d =
-    simp (
-      filter-append,
-      elsewhere_features a (untriggered d),
-      elsewhere_limits a,
-      elsewhere_calibration a,
-      elsewhere_pid,
-      elsewhere_frequency a.frequency_Hz,
-      elsewhere_rapid,
-      elsewhere_driving,
-      none d,
-    )
+unfolding feature_steps limit_steps calibration_steps frequency_steps rapid_stop_steps
+only a d = simp (filter-append, elsewhere_pid, elsewhere_driving, none d)
 
 code : (byte : ℕ) → mode_bit (trigger_mode_at byte) ≡ min byte 1
 code zero = refl

@@ -175,6 +175,7 @@ fn phase(session: &mut [u8])
 fn triggers(session: &mut [u8], d: DeviceConfig)
     ensures { session.new ≡ pushed_all session.old (trigger_steps d) }
 {
+    // Three calls and no loop: each is at a type of its own.
     if checks::is_etwm(d.operation_mode) {
         gpi::<GPI_0_CTL>(session, d.gpi_trigger_0);
         gpi::<GPI_1_CTL>(session, d.gpi_trigger_1);

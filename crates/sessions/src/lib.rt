@@ -4,7 +4,7 @@
 
 ghost use Rattle.std.specs.Prelude.{◌≡◌, [], ◌∷◌, min};
 ghost use Rattle.exchange.specs.declared.Step.TheVariants.{Read, Update};
-ghost use Rattle.exchange.specs.State.{begun_in, pushed_all};
+ghost use Rattle.exchange.specs.State.{begun_with, begun_in, pushed_all};
 ghost use Rattle.sessions.specs.Sessions as spec;
 
 use config::OperationMode;
@@ -16,46 +16,42 @@ use registers::Register;
 use registers_control::TOP_CTL1;
 use registers_trigger::{MEM_CTL2, SEQ_CTL2};
 
-// Begins a session on the chip's registers alone.
+// What a session on the chip's registers alone is begun with; one for a record, an image or a memory read says its own in place of the
+// blank. The purpose is any byte here and below, as a session may hold any: `Purpose` would ask more of the caller.
+#[inline]
 #[tactic(auto, unfolding(crate::specs::Sessions::no_image, crate::specs::Sessions::blank_record))]
-pub fn begin(session: &mut [u8], address: u8, purpose: u8)
-    ensures { session.new ≡ begun_in session.old (spec.blank purpose address) [] }
+pub fn opening<'a>(address: u8, purpose: u8) -> Opening<'a>
+    ensures { begun_with result.address result.reads result.room result.purpose result.image.now result.«record».now ≡ spec.blank purpose address }
 {
-    exchange::begin(
-        session,
-        Opening {
-            address,
-            reads: 0,
-            room: 0,
-            purpose,
-            image: &[0; 100],
-            record: &[0; exchange::RECORD_SIZE],
-        },
-    );
+    Opening {
+        address,
+        reads: 0,
+        room: 0,
+        purpose,
+        image: &[0; 100],
+        record: &[0; exchange::RECORD_SIZE],
+    }
 }
 
-// Begins a session for a record.
-#[tactic(auto, unfolding(crate::specs::Sessions::no_image))]
+// Begins a session for a record. It gives no `Opening`, which would borrow the record's bytes from here.
+#[tactic(auto, unfolding(crate::specs::Sessions::no_image, crate::specs::Sessions::blank_record))]
 pub fn begin_with(session: &mut [u8], purpose: u8, next: DA728x)
     ensures { session.new ≡ begun_in session.old (spec.carrying purpose next) [] }
 {
     exchange::begin(
         session,
         Opening {
-            address: next.address,
-            reads: 0,
-            room: 0,
-            purpose,
-            image: &[0; 100],
             record: &next.to_bytes(),
+            ..opening(next.address, purpose)
         },
     );
 }
 
+// Begins a session on the chip's registers alone, with its first step. Over an `Opening` it was tried: the lengths of what that borrows stayed open.
 pub fn run(session: &mut [u8], address: u8, purpose: u8, step: Step)
     ensures { session.new ≡ begun_in session.old (spec.blank purpose address) (step ∷ []) }
 {
-    begin(session, address, purpose);
+    exchange::begin(session, opening(address, purpose));
     exchange::push(session, step);
 }
 
@@ -63,8 +59,12 @@ pub fn run(session: &mut [u8], address: u8, purpose: u8, step: Step)
 pub fn update(session: &mut [u8], address: u8, register: u8, place: Place, value: u8)
     ensures { session.new ≡ begun_in session.old (spec.blank 0 address) (Read register ∷ Update register place.shift place.width value ∷ []) }
 {
-    begin(session, address, Purpose::Command.into());
-    exchange::push(session, Step::Read(register));
+    run(
+        session,
+        address,
+        Purpose::Command.into(),
+        Step::Read(register),
+    );
     exchange::push(
         session,
         Step::Update(register, place.shift, place.width, value),
@@ -116,21 +116,14 @@ pub fn send(session: &mut [u8], n: u8, lock_after: bool)
     lock(session, lock_after);
 }
 
+#[tactic(auto, using(crate::proofs::Parts::all_chunks), unfolding(crate::specs::Sessions::chunk_step))]
 fn chunks(session: &mut [u8], n: u8)
     ensures { session.new ≡ pushed_all session.old (spec.chunk_steps n) }
 {
-    chunk(session, n, 0);
-    chunk(session, n, 32);
-    chunk(session, n, 64);
-    chunk(session, n, 96);
-}
-
-#[tactic(auto, unfolding(crate::specs::Sessions::chunk_step))]
-fn chunk(session: &mut [u8], n: u8, offset: u8)
-    ensures { session.new ≡ pushed_all session.old (spec.chunk_step n offset) }
-{
-    if offset < n {
-        exchange::push(session, Step::Chunk(offset, 32.min(n - offset)));
+    for offset in [0, 32, 64, 96] {
+        if offset < n {
+            exchange::push(session, Step::Chunk(offset, 32.min(n - offset)));
+        }
     }
 }
 
