@@ -253,7 +253,9 @@ pub extern "C" fn da728x_pending(session: &[u8], bytes: &mut [u8]) -> u32
     ensures bytes_after { bytes.new
         ≡ copied bytes.old (take (pending_of session.now).len (pending_of session.now).bytes) }
 {
-    let e = exchange::pending(session);
+    let Some(e) = exchange::pending(session) else {
+        return 0;
+    };
     laws::copy_into(bytes, e.sent());
     exchange_word(e)
 }

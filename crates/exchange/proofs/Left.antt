@@ -1,6 +1,6 @@
 -- The steps that are left of a session, by what its bytes say. Assumes nothing.
 use Prim.Native.Nat.{ℕ, suc, zero, ◌+◌, ◌-◌, ◌≤◌, ◌<◌}
-use mathlib.Core.Path.{◌≡◌, refl, sym, ap, ◌∙◌, subst}
+use mathlib.Core.Path.{◌≡◌, refl, sym, ap, ◌∙◌}
 use mathlib.Core.Bool.{Bool, true, false, cond, ◌&&◌, and-false}
 use mathlib.Core.List.{List, [], ◌∷◌}
 use native.Mathlib.Omega.{arith}
@@ -10,7 +10,8 @@ use borrow.Author.Tests.{lt-ltb, le-ltb, eq-eqb, ne_eqb}
 use Rattle.laws.specs.Lists.{at}
 use Rattle.exchange.specs.declared.Step.{Step}
 use Rattle.exchange.specs.declared.Step.TheVariants.{Store}
-use Rattle.std.specs.Prelude.{Option, Some, None}
+use Rattle.std.specs.Prelude.{Some, None}
+use Rattle.std.proofs.lemmas.Option.{none-some, same_Some}
 use Rattle.exchange.specs.State.{is_session, is_unbroken, made_in, step_count, read_count, encoded_step, step_in, indexed, plan, left, completed, slot_of}
 
 -- ---- `indexed`
@@ -80,17 +81,8 @@ module _ (st : List ℕ) (o : is_unbroken st ≡ true) where
 
 pub idle_none : (xs : List Step) → slot_of xs ≡ None → xs ≡ []
 idle_none [] e = refl
-idle_none (x ∷ xs) e = absurd (subst is_at e tt) where
-  is_at : Option Step → Type 0
-  is_at None = ⊥
-  is_at (Some y) = Unit
+idle_none (x ∷ xs) e = absurd (none-some x (sym e))
 
 pub at_some : (xs : List Step) (x : Step) → slot_of xs ≡ Some x → xs ≡ x ∷ drop 1 xs
-at_some [] x e = absurd (subst is_idle e tt) where
-  is_idle : Option Step → Type 0
-  is_idle None = Unit
-  is_idle (Some y) = ⊥
-at_some (y ∷ xs) x e = ap (λ (s : Option Step). first s ∷ xs) e where
-  first : Option Step → Step
-  first None = y
-  first (Some z) = z
+at_some [] x e = absurd (none-some x e)
+at_some (y ∷ xs) x e = ap (λ (z : Step). z ∷ xs) (same_Some y x e)

@@ -28,7 +28,7 @@ pub fn begin(session: &mut [u8], address: u8, purpose: u8)
             room: 0,
             purpose,
             image: &[0; 100],
-            record: &[0; exchange::RECORD_SIZE],
+            record: &[0; da728x::RECORD_SIZE],
         },
     );
 }
