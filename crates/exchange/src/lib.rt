@@ -21,6 +21,7 @@ use da728x::RECORD_SIZE;
 use errors::Error;
 use registers::Register;
 
+// Public functions take bytes of any length and test for this one themselves: an array of it would ask more of their callers.
 pub const SESSION_SIZE: usize = 280;
 
 // What stands where in a session.
@@ -78,6 +79,7 @@ impl From<u8> for Stage {
     }
 }
 
+// A register is a byte here: a session's bytes, which C lends, can name any, and crate `registers` alone makes a `Register`.
 #[derive(Debug, Clone, Copy, PartialEq, Eq)]
 pub enum Step {
     // The register and what is written.
@@ -100,6 +102,7 @@ pub struct Exchange {
     pub address: u8,
     pub bytes: [u8; 33],
     pub len: u8,
+    // A number, as document 01 has it ("0 or 1 bytes wanted") and as C gets it.
     pub wanted: u8,
 }
 
@@ -157,10 +160,7 @@ impl Turn {
     pub fn is_taken(self) -> bool
         ensures { result ≡ not (eqb (answer_number self.answer) 19) }
     {
-        match self.answer {
-            Ok(()) => true,
-            Err(e) => e != Error::OutOfTurn,
-        }
+        self.answer != Err(Error::OutOfTurn)
     }
 }
 
@@ -195,8 +195,7 @@ pub fn begin(session: &mut [u8], opening: Opening<'_>)
         ≡ begun_in session.old (begun_with opening.entry.address opening.entry.reads opening.entry.room opening.entry.purpose opening.entry.image.now opening.entry.«record».now) [] }
 {
     if session.len() == SESSION_SIZE {
-        let image = opening.image;
-        let record = opening.record;
+        let Opening { image, record, .. } = opening;
         laws::lay(session, 0, &heading(opening));
         laws::lay(session, IMAGE, image);
         laws::lay(session, RECORD, record);
@@ -226,7 +225,7 @@ pub fn push(session: &mut [u8], step: Step)
         let n = session[STEPS];
         if n < MOST_STEPS {
             session[STEPS] = n + 1;
-            laws::lay(session, PLAN + 5 * (n as usize), &<[u8; 5]>::from(step));
+            laws::lay(session, PLAN + 5 * usize::from(n), &<[u8; 5]>::from(step));
         }
     }
 }
@@ -358,8 +357,7 @@ fn chunk(session: &[u8; SESSION_SIZE], offset: u8, len: u8) -> &[u8]
 fn memory_address(index: u8) -> u8
     ensures { result ≡ memory_address index }
 {
-    let first = Register::SNP_MEM_0.address();
-    ((first as u16 + index as u16) % 256) as u8
+    Register::SNP_MEM_0.address().wrapping_add(index)
 }
 
 // Takes back what the bus answered, with the buffer that a memory read fills (any, where the operation reads none).
@@ -443,12 +441,9 @@ pub fn is_over(session: &[u8]) -> bool
 pub fn is_completed(session: &[u8]) -> bool
     ensures { result ≡ completed session.now }
 {
-    match session.as_array::<SESSION_SIZE>() {
-        None => false,
-        Some(session) => {
-            is_unbroken(session) && steps(session) + reads(session) <= session[MADE]
-        }
-    }
+    session.as_array::<SESSION_SIZE>().is_some_and(|session| {
+        is_unbroken(session) && steps(session) + reads(session) <= session[MADE]
+    })
 }
 
 // How an answer fits the session, with n bytes lent; `None` where it does not.

@@ -92,10 +92,7 @@ pub fn may_change(session: &[u8], turn: Turn) -> bool
     ensures { result
         ≡ (turn.ended && (is_session session.now && (eqb (purpose_in session.now) 1 || eqb (purpose_in session.now) 2))) }
 {
-    match session.as_array::<SESSION_SIZE>() {
-        Some(session) => turn.ended && has_record(session),
-        None => false,
-    }
+    turn.ended && session.as_array::<SESSION_SIZE>().is_some_and(has_record)
 }
 
 // Whether a session carries a record that its last success gives.
@@ -108,10 +105,9 @@ fn has_record(session: &[u8; SESSION_SIZE]) -> bool
 pub fn is_upload(session: &[u8]) -> bool
     ensures { result ≡ is_session session.now && eqb (purpose_in session.now) spec.for_upload }
 {
-    match session.as_array::<SESSION_SIZE>() {
-        Some(session) => purpose_of(session) == Purpose::Upload,
-        None => false,
-    }
+    session
+        .as_array::<SESSION_SIZE>()
+        .is_some_and(|session| purpose_of(session) == Purpose::Upload)
 }
 
 // What the start of an upload makes of the record, in a session of these bytes.
@@ -224,27 +220,21 @@ fn answer_of(session: &[u8]) -> Option<u32>
     ensures { result ≡ cond (completed session.now) (Some (spec.value_in session.now)) None }
 {
     let session = session.as_array::<SESSION_SIZE>()?;
-    if exchange::is_completed(session) {
-        Some(value(session))
-    } else {
-        None
-    }
+    exchange::is_completed(session).then(|| value(session))
 }
 
 fn value(session: &[u8; SESSION_SIZE]) -> u32
     ensures { result ≡ spec.value_in session.now }
 {
-    let last = session[exchange::LAST];
+    let [last, second, third] = [
+        session[exchange::LAST],
+        session[exchange::LAST + 1],
+        session[exchange::LAST + 2],
+    ];
     match purpose_of(session) {
-        Purpose::Byte => last as u32,
-        Purpose::ThreeBytes => u32::from_be_bytes([
-            0,
-            session[exchange::LAST + 2],
-            session[exchange::LAST + 1],
-            last,
-        ]),
-        // no more bytes than the memory has
-        Purpose::Length => session[exchange::READS].min(100) as u32,
+        Purpose::Byte => last.into(),
+        Purpose::ThreeBytes => u32::from_be_bytes([0, third, second, last]),
+        Purpose::Length => session[exchange::READS].min(exchange::MOST_READS).into(),
         _ => 0,
     }
 }
