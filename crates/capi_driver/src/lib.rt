@@ -316,14 +316,14 @@ fn store_count(record: &mut [u8], session: &[u8], turn: Turn)
 }
 
 // A record goes to 38 bytes only, and a count of sequences is the last of them.
-fn put(change: Change, out: &mut [u8])
+fn put(change: Option<Change>, out: &mut [u8])
     ensures { out.new ≡ record_out out.old change }
 {
     if out.len() == da728x::RECORD_SIZE {
         match change {
-            Change::Same => {}
-            Change::To(next) => out.copy_from_slice(&next.to_bytes()),
-            Change::Sequences(n) => out[37] = n,
+            None => {}
+            Some(Change::To(next)) => out.copy_from_slice(&next.to_bytes()),
+            Some(Change::Sequences(n)) => out[37] = n,
         }
     }
 }

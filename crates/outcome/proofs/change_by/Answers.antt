@@ -10,6 +10,6 @@ use Rattle.outcome.proofs.change_by.Goals as goal
 pub returns-then-is_taken : goal.returns-then-is_taken
 returns-then-is_taken c =
     c.change_before.ensures
-    ∙ ap (λ (st : List ℕ). change_before (purpose_in st) (record_at (record_in st)) c.args.driver) c.in-Some.ensures.cases.same
-    ∙ changed_before _ (turn_report c.args.turn) c.args.driver c.in-Some.ensures.cases.long
+    ∙ ap (λ (st : List ℕ). change_before (purpose_in st) (record_at (record_in st)) c.args.driver) c.in_ok-session.ensures.cases.same
+    ∙ changed_before _ (turn_report c.args.turn) c.args.driver c.in_ok-session.ensures.cases.long
     (sym c.is_last.ensures ∙ c.if-is_last.false) (sym c.is_taken.ensures ∙ c.if-is_taken.true)
