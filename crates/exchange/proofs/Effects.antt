@@ -2,7 +2,7 @@
 -- Assumes nothing.
 use Prim.Native.Nat.{ℕ}
 use mathlib.Core.Path.{◌≡◌, refl, sym, ap, ◌∙◌}
-use mathlib.Core.Bool.{Bool, true, false, cond, not, true≢false}
+use mathlib.Core.Bool.{Bool, true, false, cond, not, not-not, true≢false}
 use mathlib.Core.List.{List, [], ◌∷◌}
 use lib.Dec.{eqb}
 use Rattle.std.specs.Prelude.{Option, Some, None}
@@ -20,16 +20,12 @@ use Rattle.exchange.proofs.Moves.{state_by}
 use Rattle.exchange.proofs.Takes.{takes}
 use Rattle.exchange.proofs.Turns.{Turned, turned_by}
 
-not_same : (a b : Bool) → not a ≡ not b → a ≡ b
-not_same true true e = refl
-not_same true false e = absurd (true≢false (sym e))
-not_same false true e = absurd (true≢false e)
-not_same false false e = refl
-
 -- whether it counts
 pub made_taken : (st : List ℕ) (a : Reply) (n : ℕ) → taken st a n ≡ (effect_of (fit_of st a n)).counts
 unfolding report_of
-made_taken st a n = not_same _ _ (sym (takes st a n) ∙ go (fit_of st a n))
+made_taken st a n =
+    let e = effect_of (fit_of st a n) in
+    sym (not-not (taken st a n)) ∙ ap not (sym (takes st a n) ∙ go (fit_of st a n)) ∙ not-not e.counts
   where
     go : (f : Option Fit) → eqb (effect_of f).number 19 ≡ not (effect_of f).counts
     go None = refl

@@ -1,11 +1,9 @@
 -- Where an answer may change no record, it changes none. Assumes nothing.
 use Prim.Native.Nat.{ℕ, zero, suc}
 use mathlib.Core.Path.{◌≡◌, refl, sym, ap}
-use mathlib.Core.Bool.{Bool, true, false, cond, not, ◌&&◌, ◌||◌, true≢false}
+use mathlib.Core.Bool.{Bool, true, false, cond, ◌&&◌, ◌||◌, true≢false}
 use mathlib.Core.List.{List}
 use lib.Dec.{eqb}
-use lib.ListN.{length}
-use borrow.Author.Tests.{eq-eqb}
 use Rattle.std.specs.Prelude.{None}
 use Rattle.exchange.specs.State.{is_session, purpose_in, record_in}
 use Rattle.exchange.specs.Turn.{Report}
@@ -45,18 +43,3 @@ unchanged st t r u e = go (is_session st) t.ended (eqb t.number 0) (purpose_in s
   go true true true purpose u f = last purpose u f
   go true true false purpose u f = before (eqb t.number 19) purpose u
   go true false n purpose u f = before (eqb t.number 19) purpose u
-
--- an answer that was taken, and is not the last success
-pub changed_before : (st : List ℕ) (t : Report) (r : DA728x) → length st ≡ 280 → t.ended && eqb t.number 0 ≡ false → not (eqb t.number 19) ≡ true →
-    change_before (purpose_in st) (record_at (record_in st)) r ≡ change_by st t r
-unfolding change_by
-changed_before st t r l e f = go (is_session st) (t.ended && eqb t.number 0) (eqb t.number 19) (eq-eqb _ _ l) e f where
-  next : DA728x
-  next = record_at (record_in st)
-
-  go : (s last out : Bool) → s ≡ true → last ≡ false → not out ≡ true →
-      change_before (purpose_in st) next r ≡ cond s (cond last (change_for (purpose_in st) next r) (cond out None (change_before (purpose_in st) next r))) None
-  go true false false s e f = refl
-  go false last out s e f = absurd (true≢false (sym s))
-  go true true out s e f = absurd (true≢false e)
-  go true false true s e f = absurd (true≢false (sym f))
