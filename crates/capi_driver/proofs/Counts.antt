@@ -7,6 +7,7 @@ use mathlib.Core.List.{List}
 use lib.Dec.{eqb}
 use lib.ListN.{length, drop, set, length-take, length-drop}
 use borrow.Author.Tests.{eq-eqb, eqb-true}
+use Rattle.std.specs.Prelude.{Option, Some, None}
 use Rattle.std.proofs.lemmas.List.{get_or-take, get_or-drop}
 use Rattle.laws.specs.Lists.{at}
 use Rattle.exchange.specs.State.{is_session, purpose_in, record_in}
@@ -14,7 +15,7 @@ use Rattle.exchange.specs.Turn.{Report}
 use Rattle.da728x.specs.declared.DA728x.{DA728x}
 use Rattle.da728x.specs.Record.{record_at}
 use Rattle.outcome.specs.declared.Change.{Change}
-use Rattle.outcome.specs.declared.Change.TheVariants.{Same, To, Sequences}
+use Rattle.outcome.specs.declared.Change.TheVariants.{To, Sequences}
 use Rattle.outcome.specs.Outcome.{for_upload, change_for, change_before, change_by}
 use Rattle.capi_driver.specs.Words.{record_out, count_out}
 
@@ -41,7 +42,7 @@ module _ (l st : List ℕ) (s : is_session st ≡ true) (p : purpose_in st ≡ f
   abbrev cut : ℕ → List ℕ
   cut n = cond (eqb (length l) 38) (set l 37 n) l
 
-  parts : (own last refused : Bool) (n : ℕ) → record_out l (cond last (cond own (Sequences n) Same) (cond refused Same (cond own (Sequences 0) Same)))
+  parts : (own last refused : Bool) (n : ℕ) → record_out l (cond last (cond own (Some (Sequences n)) None) (cond refused None (cond own (Some (Sequences 0)) None)))
       ≡ cond own (cond last (cut n) (cond refused l (cut 0))) l
   parts true true refused n = refl
   parts true false true n = refl
@@ -50,10 +51,10 @@ module _ (l st : List ℕ) (s : is_session st ≡ true) (p : purpose_in st ≡ f
   parts false false true n = refl
   parts false false false n = refl
 
-  left_as : (c : Change) → eqb (length l) 38 ≡ false → record_out l c ≡ l
-  left_as Same e = refl
-  left_as (To r) e = rw e
-  left_as (Sequences n) e = rw e
+  left_as : (c : Option Change) → eqb (length l) 38 ≡ false → record_out l c ≡ l
+  left_as None e = refl
+  left_as (Some (To r)) e = rw e
+  left_as (Some (Sequences n)) e = rw e
 
   abbrev last : Bool
   last = t.ended && eqb t.number 0
@@ -71,6 +72,6 @@ module _ (l st : List ℕ) (s : is_session st ≡ true) (p : purpose_in st ≡ f
           let n = sequences_at (record_in st) carried ∙ byte_in 37 (omega arith) in
           let r = address_at l e in
           ap (λ (b : Bool). cond (b && eqb (at st 117) (at l 0)) (cond last (set l 37 (at st 154)) (cond (eqb t.number 19) l (set l 37 0))) l) e
-          ∙ sym ((λ i. record_out l (cond (s i) (cond last (change_for (p i) next (record_at l)) (cond (eqb t.number 19) Same (change_before (p i) next (record_at l)))) Same))
+          ∙ sym ((λ i. record_out l (cond (s i) (cond last (change_for (p i) next (record_at l)) (cond (eqb t.number 19) None (change_before (p i) next (record_at l)))) None))
           ∙ parts (eqb next.address (record_at l).address) last (eqb t.number 19) next.sequences
           ∙ (λ i. cond (eqb (a i) (r i)) (cond last (cond (e i) (set l 37 (n i)) l) (cond (eqb t.number 19) l (cond (e i) (set l 37 0) l))) l))

@@ -14,7 +14,7 @@ use Rattle.laws.specs.Bytes.{Bytes}
 use Rattle.laws.specs.Lists.{at}
 use Rattle.errors.specs.Told.{accepted, refused}
 use Rattle.config.specs.declared.Variant.TheVariants.{DA7280}
-use Rattle.std.specs.Prelude.{Some, None, is_some}
+use Rattle.std.specs.Prelude.{Some, None, is_some, Option}
 use Rattle.std.specs.Option.{unwrap_or}
 use Rattle.field.specs.Field.{code_of}
 use Rattle.exchange.specs.declared.Exchange.{Exchange}
@@ -32,7 +32,7 @@ use Rattle.da728x.specs.declared.DA728x.{DA728x}
 use Rattle.da728x.specs.Record.{record_at}
 use Rattle.da728x.proofs.Kept.{record_kept}
 use Rattle.outcome.specs.declared.Change.{Change}
-use Rattle.outcome.specs.declared.Change.TheVariants.{Same, To, Sequences}
+use Rattle.outcome.specs.declared.Change.TheVariants.{To, Sequences}
 use Rattle.outcome.specs.Outcome.{value_in, outcome_of, with_sequences, record_by}
 use Rattle.driver.specs.Operations.{upload_waveform_memory}
 use Rattle.capi_driver.specs.Words.{exchange_word, reply_of, report_word, record_out, result_word, upload_of}
@@ -159,26 +159,26 @@ each_byte zero (x ∷ xs) h = absurd (omega (arith, h))
 each_byte (suc k) [] h = absurd (omega (arith, h))
 each_byte (suc k) (x ∷ xs) h = ap (λ (l : List ℕ). x ∷ l) (each_byte k xs (omega (arith, h)) ∙ sym (shifted (at (x ∷ xs)) 0 k))
 
-records : (l : List ℕ) (c : Change) → length l ≡ 38 → record_at (record_out l c) ≡ record_by (record_at l) c
+records : (l : List ℕ) (c : Option Change) → length l ≡ 38 → record_at (record_out l c) ≡ record_by (record_at l) c
 unfolding record_at
-records l Same h = refl
-records l (To r) h = rw (eq-eqb _ _ h) (record_kept r)
-records l (Sequences n) h = subst (λ (m : List ℕ). record_at (record_out m (Sequences n)) ≡ with_sequences (record_at m) n) (sym (each_byte 38 l h)) refl
+records l None h = refl
+records l (Some (To r)) h = rw (eq-eqb _ _ h) (record_kept r)
+records l (Some (Sequences n)) h = subst (λ (m : List ℕ). record_at (record_out m (Some (Sequences n))) ≡ with_sequences (record_at m) n) (sym (each_byte 38 l h)) refl
 
-counted_out : (l : List ℕ) (n : ℕ) → length l ≡ 38 → record_out l (Sequences n) ≡ take 37 l ++ (n ∷ [])
-counted_out l n h = subst (λ (m : List ℕ). record_out m (Sequences n) ≡ take 37 m ++ (n ∷ [])) (sym (each_byte 38 l h)) refl
+counted_out : (l : List ℕ) (n : ℕ) → length l ≡ 38 → record_out l (Some (Sequences n)) ≡ take 37 l ++ (n ∷ [])
+counted_out l n h = subst (λ (m : List ℕ). record_out m (Some (Sequences n)) ≡ take 37 m ++ (n ∷ [])) (sym (each_byte 38 l h)) refl
 
 none : (l : List ℕ) → ¬ (length l ≡ 38) → record_at l ≡ record { address = 0; variant = DA7280; settings = None; sequences = 0 }
 unfolding record_at
 none l h = rw (ne_eqb _ _ h)
 
-spared : (l : List ℕ) (c : Change) → (¬ (length l ≡ 38)) ⊎ (c ≡ Same) → record_out l c ≡ l
+spared : (l : List ℕ) (c : Option Change) → (¬ (length l ≡ 38)) ⊎ (c ≡ None) → record_out l c ≡ l
 spared l c (inl h) = go c
   where
-    go : (c : Change) → record_out l c ≡ l
-    go Same = refl
-    go (To r) = rw (ne_eqb _ _ h)
-    go (Sequences n) = rw (ne_eqb _ _ h)
+    go : (c : Option Change) → record_out l c ≡ l
+    go None = refl
+    go (Some (To r)) = rw (ne_eqb _ _ h)
+    go (Some (Sequences n)) = rw (ne_eqb _ _ h)
 spared l c (inr e) = ap (record_out l) e
 
 -- ---- answers of the bus, and uploads

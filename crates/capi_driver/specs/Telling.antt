@@ -1,6 +1,6 @@
 -- No word misleads: of every exported function of this crate that answers with several numbers in one, the word gives each of them back.
 -- The record that an answer writes is the changed one, and an upload is that of the bytes that were handed in.
-use Rattle.std.specs.Prelude.{ℕ, ◌-◌, ◌^◌, ◌/◌, ◌%◌, ◌≤◌, ◌<◌, ◌≡◌, Bool, ◌⊎◌, List, [], ◌∷◌, ◌++◌, eqb, length, take, replicate}
+use Rattle.std.specs.Prelude.{ℕ, ◌-◌, ◌^◌, ◌/◌, ◌%◌, ◌≤◌, ◌<◌, ◌≡◌, Bool, ◌⊎◌, List, [], ◌∷◌, ◌++◌, eqb, length, take, replicate, Option, Some, None}
 use Rattle.laws.specs.Bytes.{Bytes}
 use Rattle.laws.specs.Lists.{at}
 use Rattle.config.specs.declared.Variant.TheVariants.{DA7280}
@@ -14,7 +14,7 @@ use Rattle.exchange.specs.Turn.{pending_of, report_of}
 use Rattle.da728x.specs.declared.DA728x.{DA728x}
 use Rattle.da728x.specs.Record.{record_at}
 use Rattle.outcome.specs.declared.Change.{Change}
-use Rattle.outcome.specs.declared.Change.TheVariants.{Same, Sequences}
+use Rattle.outcome.specs.declared.Change.TheVariants.{Sequences}
 use Rattle.outcome.specs.Outcome.{outcome_of, record_by}
 use Rattle.driver.specs.Operations.{declines, upload_waveform_memory}
 use Rattle.capi_driver.specs.Words.{exchange_word, reply_of, report_word, record_out, result_word, upload_of}
@@ -31,9 +31,9 @@ pub record Telling : Type 0 where
   pub replies : (kind byte : ℕ) → (reply_of 0 byte ≡ Done) × (reply_of 1 byte ≡ Byte byte) × (2 ≤ kind → reply_of kind byte ≡ Failed byte)
   -- the record that it writes, as a start does: 38 bytes then hold what the change makes of the record in them; other lengths stay, and one that is left
   -- keeps its bytes; another count of sequences is in the last byte, and the other 37 stay, whatever they are
-  pub records : (l : List ℕ) (c : Change) → length l ≡ 38 → record_at (record_out l c) ≡ record_by (record_at l) c
-  pub spared : (l : List ℕ) (c : Change) → (¬ (length l ≡ 38)) ⊎ (c ≡ Same) → record_out l c ≡ l
-  pub counted : (l : List ℕ) (n : ℕ) → length l ≡ 38 → record_out l (Sequences n) ≡ take 37 l ++ (n ∷ [])
+  pub records : (l : List ℕ) (c : Option Change) → length l ≡ 38 → record_at (record_out l c) ≡ record_by (record_at l) c
+  pub spared : (l : List ℕ) (c : Option Change) → (¬ (length l ≡ 38)) ⊎ (c ≡ None) → record_out l c ≡ l
+  pub counted : (l : List ℕ) (n : ℕ) → length l ≡ 38 → record_out l (Some (Sequences n)) ≡ take 37 l ++ (n ∷ [])
   -- bytes of another length are no record: no sequences, whatever they are
   pub none : (l : List ℕ) → ¬ (length l ≡ 38) → record_at l ≡ record { address = 0; variant = DA7280; settings = None; sequences = 0 }
   -- da728x_result

@@ -1,7 +1,7 @@
 -- What the functions exported for C answer as one number, and how they take what the bus answered and the bytes to upload: document 01,
 -- "functions exported for C on numbers and byte slices"; "The count of exchanges made stands in every session result"; "8 also for `from_bytes`";
 -- document 02, CR 10.
-use Rattle.std.specs.Prelude.{ℕ, ◌+◌, ◌-◌, ◌*◌, Bool, cond, ◌&&◌, List, [], ◌∷◌, ◌++◌, eqb, length, set, get_or, replicate, is_some}
+use Rattle.std.specs.Prelude.{ℕ, ◌+◌, ◌-◌, ◌*◌, Bool, cond, ◌&&◌, List, [], ◌∷◌, ◌++◌, eqb, length, set, get_or, replicate, is_some, Option, Some, None}
 use Rattle.std.specs.Option.{unwrap_or}
 use Rattle.laws.specs.Lists.{at}
 use Rattle.field.specs.Field.{code_of}
@@ -15,7 +15,7 @@ use Rattle.exchange.specs.declared.Reply.{Reply}
 use Rattle.exchange.specs.declared.Reply.TheVariants.{Done, Byte, Failed}
 use Rattle.exchange.specs.Turn.{Report}
 use Rattle.outcome.specs.declared.Change.{Change}
-use Rattle.outcome.specs.declared.Change.TheVariants.{Same, To, Sequences}
+use Rattle.outcome.specs.declared.Change.TheVariants.{To, Sequences}
 use Rattle.outcome.specs.declared.Outcome.{Outcome}
 use Rattle.driver.specs.Operations.{Start, unless, upload_waveform_memory}
 
@@ -32,10 +32,10 @@ unfoldable pub report_word : Report → ℕ
 report_word t = t.number + 256 * t.code + 65536 * t.made + 16777216 * code_of t.ended
 
 -- the caller's record afterwards: bytes of another length stay as they are, and another count of sequences moves no other byte
-abbrev pub record_out : List ℕ → Change → List ℕ
-record_out l Same = l
-record_out l (To r) = cond (eqb (length l) 38) (record_bytes r) l
-record_out l (Sequences n) = cond (eqb (length l) 38) (set l 37 n) l
+abbrev pub record_out : List ℕ → Option Change → List ℕ
+record_out l None = l
+record_out l (Some (To r)) = cond (eqb (length l) 38) (record_bytes r) l
+record_out l (Some (Sequences n)) = cond (eqb (length l) 38) (set l 37 n) l
 
 -- the same of an answer to an upload, by the bytes of its session: the address is at 117, the image's count at 154. Of a private contract alone, and equal to
 -- the rule above (proofs/Counts.antt)

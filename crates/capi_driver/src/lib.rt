@@ -254,7 +254,9 @@ pub extern "C" fn da728x_pending(session: &[u8], bytes: &mut [u8]) -> u32
     ensures bytes_after { bytes.new
         ≡ copied bytes.old (take (pending_of session.now).len (pending_of session.now).bytes) }
 {
-    let e = exchange::pending(session);
+    let Some(e) = exchange::pending(session) else {
+        return 0;
+    };
     laws::copy_into(bytes, e.sent());
     exchange_word(e)
 }
@@ -317,14 +319,14 @@ fn store_count(record: &mut [u8], session: &[u8], turn: Turn)
 }
 
 // A record goes to 38 bytes only, and a count of sequences is the last of them. C may lend any number of bytes.
-fn put(change: Change, out: &mut [u8])
+fn put(change: Option<Change>, out: &mut [u8])
     ensures { out.new ≡ record_out out.old change }
 {
     if out.len() == da728x::RECORD_SIZE {
         match change {
-            Change::Same => {}
-            Change::To(next) => out.copy_from_slice(&next.to_bytes()),
-            Change::Sequences(n) => out[37] = n,
+            None => {}
+            Some(Change::To(next)) => out.copy_from_slice(&next.to_bytes()),
+            Some(Change::Sequences(n)) => out[37] = n,
         }
     }
 }

@@ -19,7 +19,7 @@ use Rattle.exchange.specs.Session.{AnswerCall, final}
 use Rattle.da728x.specs.declared.DA728x.{DA728x}
 use Rattle.outcome.specs.declared.Change.{Change}
 use Rattle.outcome.specs.Outcome.{is_chip_of, record_by}
-use Rattle.std.specs.Prelude.{Some}
+use Rattle.std.specs.Prelude.{Some, Option}
 use Rattle.plans.specs.Configure.{configure_steps}
 use Rattle.sessions.specs.Sessions.{carrying, seq_ctl2, select_step, start_steps}
 use Rattle.driver.specs.Operations as operation
@@ -89,7 +89,7 @@ module _ (r : DA728x) (st : List ℕ) (cs : List AnswerCall) (s : is_session st 
       by (begins b xs) e =
           let h = quiet_holds r.address (operation_of r q) (quiet r q t u c) b xs e st s in
           let none = ap (change_from st) (sym e) ∙ stored.starts r q st t u in
-          ap (λ (m : Change). (record_final (begun_in st b xs) cs (record_by r m)).sequences) none
+          ap (λ (m : Option Change). (record_final (begun_in st b xs) cs (record_by r m)).sequences) none
           ∙ ap (λ (x : DA728x). x.sequences) (spares cs (begun_in st b xs) r h.0.session (subst Leaves (sym h.0.purpose) h.1))
 
 module _ (r : DA728x) (us : List Upload) (h : r.sequences ≡ last_count us) (st : List ℕ) (cs : List AnswerCall) where

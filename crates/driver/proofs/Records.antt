@@ -6,6 +6,7 @@ use mathlib.Core.List.{List, [], ◌∷◌}
 use lib.Dec.{eqb}
 use lib.ListN.{length, get_or}
 use borrow.Author.Tests.{eqb-true}
+use Rattle.std.specs.Prelude.{Option, Some, None}
 use Rattle.exchange.specs.declared.Step.{Step}
 use Rattle.exchange.specs.declared.Reply.{Reply}
 use Rattle.exchange.specs.declared.Reply.TheVariants.{Done, Byte, Failed}
@@ -19,7 +20,7 @@ use Rattle.exchange.proofs.Session.{session}
 use Rattle.da728x.specs.declared.DA728x.{DA728x}
 use Rattle.da728x.specs.Record.{record_at}
 use Rattle.outcome.specs.declared.Change.{Change}
-use Rattle.outcome.specs.declared.Change.TheVariants.{Same, Sequences}
+use Rattle.outcome.specs.declared.Change.TheVariants.{Sequences}
 use Rattle.outcome.specs.Outcome.{for_upload, counting, change_for, change_before, change_by, record_by}
 use Rattle.driver.specs.Operations.{change_after, record_after}
 use Rattle.driver.specs.Theorems.{change_behind, record_final}
@@ -63,9 +64,9 @@ finished st o e = completed_by st o ∙ ap none_left e
 -- ---- one answer
 
 -- what it does to a record, where the session is `t` afterwards, by whether that is a session, whether it was the last success, and whether it is refused
-abbrev change_if : DA728x → List ℕ → Bool → Bool → Bool → Change
+abbrev change_if : DA728x → List ℕ → Bool → Bool → Bool → Option Change
 change_if r t s l k =
-    cond s (cond l (change_for (purpose_in t) (record_at (record_in t)) r) (cond k Same (change_before (purpose_in t) (record_at (record_in t)) r))) Same
+    cond s (cond l (change_for (purpose_in t) (record_at (record_in t)) r) (cond k None (change_before (purpose_in t) (record_at (record_in t)) r))) None
 
 module _ (st : List ℕ) (c : AnswerCall) where
   abbrev pub Taken : Bool
@@ -138,17 +139,17 @@ module _ (st : List ℕ) (c : AnswerCall) where
 
   -- what it does to the record lent with it
   pub changes : (r : DA728x) → let next = record_at (record_in st) in
-      change_behind st c r ≡ cond Taken (cond (completed (after_call st c)) (change_for (purpose_in st) next r) (change_before (purpose_in st) next r)) Same
+      change_behind st c r ≡ cond Taken (cond (completed (after_call st c)) (change_for (purpose_in st) next r) (change_before (purpose_in st) next r)) None
   unfolding change_after change_by after_call
   changes r = by Taken refl
     where
-      refuses : (s e : Bool) → change_if r (after_call st c) s (e && false) true ≡ Same
+      refuses : (s e : Bool) → change_if r (after_call st c) s (e && false) true ≡ None
       refuses true true = refl
       refuses true false = refl
       refuses false e = refl
 
       by : (b : Bool) → Taken ≡ b → change_if r (after_call st c) (is_session (after_call st c)) last (eqb (number_at st c) 19)
-          ≡ cond b (cond (completed (after_call st c)) (change_for (purpose_in st) (record_at (record_in st)) r) (change_before (purpose_in st) (record_at (record_in st)) r)) Same
+          ≡ cond b (cond (completed (after_call st c)) (change_for (purpose_in st) (record_at (record_in st)) r) (change_before (purpose_in st) (record_at (record_in st)) r)) None
       by false h =
           let n = out_of_turn h in
           (λ i. change_if r (after_call st c) (is_session (after_call st c)) (ends && eqb (n i) 0) (eqb (n i) 19)) ∙ refuses (is_session (after_call st c)) ends
@@ -156,20 +157,20 @@ module _ (st : List ℕ) (c : AnswerCall) where
           let k = keeps (c ∷ []) st (taken_in h).0 in
           let n : eqb (number_at st c) 19 ≡ false = session.takes st c.reply (length c.buffer) ∙ ap not h in
           λ i. cond (k.session i) (cond ((sym (completes_as h)) i) (change_for (k.purpose i) (record_at (k.«record» i)) r)
-          (cond (n i) Same (change_before (k.purpose i) (record_at (k.«record» i)) r))) Same
+          (cond (n i) None (change_before (k.purpose i) (record_at (k.«record» i)) r))) None
 
 -- ---- what follows, by what the session is for
 
 -- for this no answer changes a record
 abbrev pub Leaves : ℕ → Type 0
-Leaves purpose = ((next r : DA728x) → change_for purpose next r ≡ Same) × (eqb purpose for_upload ≡ false)
+Leaves purpose = ((next r : DA728x) → change_for purpose next r ≡ None) × (eqb purpose for_upload ≡ false)
 
 -- no other answer than the last success does, but for an upload
-before_last : (purpose : ℕ) (next r : DA728x) → eqb purpose for_upload ≡ false → change_before purpose next r ≡ Same
-before_last purpose next r p = ap (λ (upload : Bool). cond upload (counting next 0 r) Same) p
+before_last : (purpose : ℕ) (next r : DA728x) → eqb purpose for_upload ≡ false → change_before purpose next r ≡ None
+before_last purpose next r p = ap (λ (upload : Bool). cond upload (counting next 0 r) None) p
 
 -- neither, or both
-none_of : (b d : Bool) → cond b (cond d Same Same) Same ≡ Same
+none_of : (b d : Bool) → ◌≡◌ {A = Option Change} (cond b (cond d None None) None) None
 none_of true true = refl
 none_of true false = refl
 none_of false d = refl
@@ -178,51 +179,51 @@ module _ (st : List ℕ) (c : AnswerCall) (r : DA728x) where
   abbrev next : DA728x
   next = record_at (record_in st)
 
-  pub refused : number_at st c ≡ 19 → change_behind st c r ≡ Same
+  pub refused : number_at st c ≡ 19 → change_behind st c r ≡ None
   refused h =
       changes st c r
-      ∙ ap (λ (b : Bool). cond b (cond (completed (after_call st c)) (change_for (purpose_in st) next r) (change_before (purpose_in st) next r)) Same) (in_turn_lem st c h)
+      ∙ ap (λ (b : Bool). cond b (cond (completed (after_call st c)) (change_for (purpose_in st) next r) (change_before (purpose_in st) next r)) None) (in_turn_lem st c h)
 
-  pub dead : left st ≡ [] → change_behind st c r ≡ Same
+  pub dead : left st ≡ [] → change_behind st c r ≡ None
   dead e = refused (out_of_turn st c (taken_none st c.reply (length c.buffer) e))
 
-  for_other : eqb (purpose_in st) for_upload ≡ false → last st c ≡ false → change_behind st c r ≡ Same
+  for_other : eqb (purpose_in st) for_upload ≡ false → last st c ≡ false → change_behind st c r ≡ None
   for_other p h = changes st c r ∙ by (Taken st c) refl
     where
       by : (b : Bool) → Taken st c ≡ b →
-          cond b (cond (completed (after_call st c)) (change_for (purpose_in st) next r) (change_before (purpose_in st) next r)) Same ≡ Same
+          cond b (cond (completed (after_call st c)) (change_for (purpose_in st) next r) (change_before (purpose_in st) next r)) None ≡ None
       by true k =
           ap (λ (d : Bool). cond d (change_for (purpose_in st) next r) (change_before (purpose_in st) next r)) (completes_as st c k ∙ h)
           ∙ before_last (purpose_in st) next r p
       by false k = refl
 
   -- one that fails, and one that is not the last
-  pub failed : eqb (purpose_in st) for_upload ≡ false → eqb (number_at st c) 0 ≡ false → change_behind st c r ≡ Same
+  pub failed : eqb (purpose_in st) for_upload ≡ false → eqb (number_at st c) 0 ≡ false → change_behind st c r ≡ None
   failed p h = for_other p (ap (λ (k : Bool). ends st c && k) h ∙ go (ends st c))
     where
       go : (b : Bool) → b && false ≡ false
       go true = refl
       go false = refl
 
-  pub before : eqb (purpose_in st) for_upload ≡ false → ends st c ≡ false → change_behind st c r ≡ Same
+  pub before : eqb (purpose_in st) for_upload ≡ false → ends st c ≡ false → change_behind st c r ≡ None
   before p h = for_other p (ap (λ (b : Bool). b && eqb (number_at st c) 0) h)
 
-  pub for_none : Leaves (purpose_in st) → change_behind st c r ≡ Same
+  pub for_none : Leaves (purpose_in st) → change_behind st c r ≡ None
   for_none h =
       changes st c r
-      ∙ (λ i. cond (Taken st c) (cond (completed (after_call st c)) (h.0 next r i) (before_last (purpose_in st) next r h.1 i)) Same)
+      ∙ (λ i. cond (Taken st c) (cond (completed (after_call st c)) (h.0 next r i) (before_last (purpose_in st) next r h.1 i)) None)
       ∙ none_of (Taken st c) (completed (after_call st c))
 
   -- an upload's
   pub counts : purpose_in st ≡ for_upload →
-      change_behind st c r ≡ cond (Taken st c && eqb next.address r.address) (Sequences (cond (completed (after_call st c)) next.sequences 0)) Same
+      change_behind st c r ≡ cond (Taken st c && eqb next.address r.address) (Some (Sequences (cond (completed (after_call st c)) next.sequences 0))) None
   counts p =
       changes st c r
-      ∙ ap (λ (purpose : ℕ). cond (Taken st c) (cond (completed (after_call st c)) (change_for purpose next r) (change_before purpose next r)) Same) p
+      ∙ ap (λ (purpose : ℕ). cond (Taken st c) (cond (completed (after_call st c)) (change_for purpose next r) (change_before purpose next r)) None) p
       ∙ go (Taken st c) (completed (after_call st c))
     where
-      go : (b d : Bool) → cond b (cond d (counting next next.sequences r) (counting next 0 r)) Same
-          ≡ cond (b && eqb next.address r.address) (Sequences (cond d next.sequences 0)) Same
+      go : (b d : Bool) → cond b (cond d (counting next next.sequences r) (counting next 0 r)) None
+          ≡ cond (b && eqb next.address r.address) (Some (Sequences (cond d next.sequences 0))) None
       go true true = refl
       go true false = refl
       go false d = refl
@@ -243,7 +244,7 @@ module _ (purpose : ℕ) (next : DA728x) (f : Bool → DA728x)
       by true h =
           ap (λ (d : Bool). record_after st c.reply (length c.buffer) (f d)) (undone st c h)
           ∙ ap (record_by (f false)) (changes st c (f false)
-          ∙ (λ i. cond (h i) (cond (completed (after_call st c)) (change_for (p i) (e i) (f false)) (change_before (p i) (e i) (f false))) Same))
+          ∙ (λ i. cond (h i) (cond (completed (after_call st c)) (change_for (p i) (e i) (f false)) (change_before (p i) (e i) (f false))) None))
           ∙ becomes (completed (after_call st c))
       by false h =
           ap (record_by (f (completed st))) (refused st c (f (completed st)) (out_of_turn st c h)) ∙ ap (λ (t : List ℕ). f (completed t)) (sym (untaken st c h))

@@ -25,12 +25,12 @@ use Rattle.exchange.proofs.Keeps.{keeps}
 use Rattle.plans.proofs.Lengths.{at_least}
 use Rattle.plans.specs.Configure.{configure_steps}
 use Rattle.da728x.specs.declared.DA728x.{DA728x}
-use Rattle.std.specs.Prelude.{Some}
+use Rattle.std.specs.Prelude.{Some, Option, None}
 use Rattle.da728x.specs.Record.{record_at}
 use Rattle.da728x.proofs.Kept.{variant_kept, record_kept}
 use Rattle.sessions.specs.Sessions.{carrying, send_steps}
 use Rattle.outcome.specs.declared.Change.{Change}
-use Rattle.outcome.specs.declared.Change.TheVariants.{Same, To, Sequences}
+use Rattle.outcome.specs.declared.Change.TheVariants.{To, Sequences}
 use Rattle.driver.specs.Operations as operation
 use Rattle.outcome.specs.Outcome.{change_for, change_before, record_by, settling, counting, is_chip_of, for_upload, zeroing, with_sequences}
 use Rattle.driver.specs.Operations.{Start, declines, begins, started_in, change_from, revision, new_record, upload_record, upload_begun, upload_steps}
@@ -55,29 +55,29 @@ module _ {s : List ℕ} {b : Begun} (cs : List AnswerCall) (r : DA728x) where
     where
       by : (done : Bool) → record_by r (cond done (change_for b.purpose (record_at b.«record») r) (change_before b.purpose (record_at b.«record») r)) ≡ cond done (made_by b r) r
       by true = refl
-      by false = ap (λ (upload : Bool). record_by r (cond upload (counting (record_at b.«record») 0 r) Same)) p
+      by false = ap (λ (upload : Bool). record_by r (cond upload (counting (record_at b.«record») 0 r) None)) p
 
   -- one that is for no record never does
-  stays : (xs : List Step) → Holds s b xs → Leaves b.purpose → (c : AnswerCall) → change_behind (final s cs) c r ≡ Same
+  stays : (xs : List Step) → Holds s b xs → Leaves b.purpose → (c : AnswerCall) → change_behind (final s cs) c r ≡ None
   stays xs h k c = for_none (final s cs) c r (subst Leaves (sym ((keeps cs s h.session).purpose ∙ h.purpose)) k)
 
 -- ---- what a start does to the record
 
-by_start : (st : List ℕ) (s : Start) → By (λ b xs. eqb b.purpose for_upload ≡ false) s → change_from st s ≡ Same
+by_start : (st : List ℕ) (s : Start) → By (λ b xs. eqb b.purpose for_upload ≡ false) s → change_from st s ≡ None
 by_start st (declines number) p = refl
-by_start st (begins b xs) p = ap (λ (upload : Bool). cond upload (zeroing st) Same) p
+by_start st (begins b xs) p = ap (λ (upload : Bool). cond upload (zeroing st) None) p
 
-starts : (r : DA728x) (q : Request) (st : List ℕ) → Typed q → is_upload q ≡ false → change_from st (operation_of r q).start ≡ Same
+starts : (r : DA728x) (q : Request) (st : List ℕ) → Typed q → is_upload q ≡ false → change_from st (operation_of r q).start ≡ None
 starts r (configure a d) st t u = by_start st (operation.configure r a d).start (by_unless _ (configure_number r.variant a d) _ refl)
 starts r (upload_waveform_memory m lock_after) st t u = absurd (true≢false u)
 starts r q st t u = by_start st (operation_of r q).start (by_both {P = Quiet r.address (operation_of r q).answers} (λ b xs p. p.1.1) (operation_of r q).start (quiet r q t u refl))
 
-unbegun : (s : Start) (st : List ℕ) → is_session st ≡ false → (started_in st s ≡ st) × (change_from st s ≡ Same)
+unbegun : (s : Start) (st : List ℕ) → is_session st ≡ false → (started_in st s ≡ st) × (change_from st s ≡ None)
 unfolding begun_in
 unbegun (declines number) st e = (refl, refl)
 unbegun (begins b xs) st e = (
   ap (λ (k : Bool). cond k (begun_bytes b xs) st) e,
-  ap (λ (k : Bool). cond (eqb b.purpose for_upload) (cond k (Sequences 0) Same) Same) e ∙ choice (λ (m : Change). m ≡ Same) (eqb b.purpose for_upload) Same Same refl refl,
+  ap (λ (k : Bool). cond (eqb b.purpose for_upload) (cond k (Some (Sequences 0)) None) None) e ∙ choice (λ (m : Option Change). m ≡ None) (eqb b.purpose for_upload) None None refl refl,
 )
 
 -- ---- an upload
@@ -94,13 +94,13 @@ module _ (r : DA728x) (m : WaveformMemory) (lock_after : Bool) (st : List ℕ) (
 
   pub loaded_by : (cs : List AnswerCall) (c : AnswerCall) (lent : DA728x) →
       change_behind (final s cs) c lent ≡ cond (taken (final s cs) c.reply (length c.buffer) && eqb r.address lent.address)
-      (Sequences (cond (completed (after_call (final s cs) c)) m.num_sequences 0)) Same
+      (Some (Sequences (cond (completed (after_call (final s cs) c)) m.num_sequences 0))) None
   loaded_by cs c lent =
       let k = keeps cs s held.session in
       let n = ap record_at k.«record» ∙ carries in
       counts (final s cs) c lent (k.purpose ∙ held.purpose)
       ∙ (λ i. cond (taken (final s cs) c.reply (length c.buffer) && eqb (n i).address lent.address)
-      (Sequences (cond (completed (after_call (final s cs) c)) (n i).sequences 0)) Same)
+      (Some (Sequences (cond (completed (after_call (final s cs) c)) (n i).sequences 0))) None)
 
   none_made : completed s ≡ false
   unfolding send_steps
@@ -115,8 +115,8 @@ module _ (r : DA728x) (m : WaveformMemory) (lock_after : Bool) (st : List ℕ) (
       by_end done = with_sequences r (cond done m.num_sequences 0)
 
       becomes : (done : Bool) → record_by (by_end false) (cond done (counting (upload_record r m) m.num_sequences (by_end false)) (counting (upload_record r m) 0 (by_end false))) ≡ by_end done
-      becomes true = ap (λ (own : Bool). record_by (by_end false) (cond own (Sequences m.num_sequences) Same)) (eq-eqb r.address r.address refl)
-      becomes false = ap (λ (own : Bool). record_by (by_end false) (cond own (Sequences 0) Same)) (eq-eqb r.address r.address refl)
+      becomes true = ap (λ (own : Bool). record_by (by_end false) (cond own (Some (Sequences m.num_sequences)) None)) (eq-eqb r.address r.address refl)
+      becomes false = ap (λ (own : Bool). record_by (by_end false) (cond own (Some (Sequences 0)) None)) (eq-eqb r.address r.address refl)
 
 -- ---- `configure`, for the record lent
 
@@ -134,7 +134,7 @@ module _ (r : DA728x) (a : ActuatorConfig) (d : DeviceConfig) where
   own_chip : (s : DA728x) → made_by b s ≡ cond (is_chip_of r s) (storing s) s
   own_chip s = settled_as s ∙ go (is_chip_of r s)
     where
-      go : (k : Bool) → record_by s (cond k (To (storing s)) Same) ≡ cond k (storing s) s
+      go : (k : Bool) → record_by s (cond k (Some (To (storing s))) None) ≡ cond k (storing s) s
       go true = refl
       go false = refl
 
@@ -169,7 +169,7 @@ stored = record {
   ended = λ st c r e. (dead st c r e, idle_state st c e);
   declined = λ s number st e. (ap (started_in st) e, ap (change_from st) e);
   unbegun = unbegun;
-  zeroes = λ r m lock_after st e. ap (λ (k : Bool). cond k (Sequences 0) Same) e;
+  zeroes = λ r m lock_after st e. ap (λ (k : Bool). cond k (Some (Sequences 0)) None) e;
   starts = starts;
   starts_new = λ address variant st. refl;
   creates = λ address variant st cs r s.
@@ -183,7 +183,7 @@ stored = record {
   own = λ r lent. (own_to r lent, own_from r lent);
   loads = λ r lent m lock_after st cs c l e. loaded_by r m lock_after st l e cs c lent;
   uploads = λ r m lock_after st cs l e.
-      ap (λ (k : Bool). record_final (begun_in st (upload_begun r m) (upload_steps m lock_after)) cs (record_by r (cond k (Sequences 0) Same))) e
+      ap (λ (k : Bool). record_final (begun_in st (upload_begun r m) (upload_steps m lock_after)) cs (record_by r (cond k (Some (Sequences 0)) None))) e
       ∙ loaded_in r m lock_after st l e cs;
   others = λ r q t u k b xs e st cs c lent s. let h = quiet_holds r.address (operation_of r q) (quiet r q t u k) b xs e st s in stays cs lent _ h.0 h.1 c;
 }

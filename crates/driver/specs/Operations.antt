@@ -26,7 +26,6 @@ use Rattle.da728x.specs.declared.DA728x.{DA728x}
 use Rattle.da728x.specs.Record.{record_bytes}
 use Rattle.sessions.specs.Sessions.{no_image, blank_record, blank, carrying, enabled, select_step, start_steps, set_unlocked, send_steps}
 use Rattle.outcome.specs.declared.Change.{Change}
-use Rattle.outcome.specs.declared.Change.TheVariants.{Same}
 use Rattle.outcome.specs.Outcome.{big_endian, for_upload, zeroing, change_by, record_by}
 
 -- ---- what starting an operation comes to
@@ -45,9 +44,9 @@ started_in st (declines number) = st
 started_in st (begins b xs) = begun_in st b xs
 
 -- what a start makes of the record: an upload sets its count of sequences to 0, any other leaves it
-abbrev pub change_from : List ℕ → Start → Change
-change_from st (declines number) = Same
-change_from st (begins b xs) = cond (eqb b.purpose for_upload) (zeroing st) Same
+abbrev pub change_from : List ℕ → Start → Option Change
+change_from st (declines number) = None
+change_from st (begins b xs) = cond (eqb b.purpose for_upload) (zeroing st) None
 
 -- refused with a number, the first of a list of checks; begun where it is 0
 abbrev pub unless : ℕ → Start → Start
@@ -62,7 +61,7 @@ with_settings (Some (a, d)) f = f a d
 -- ---- what an answer gives
 
 -- what an answer does to the record lent with it, where n bytes are lent too; a record that is left keeps its bytes
-unfoldable pub change_after : List ℕ → Reply → ℕ → DA728x → Change
+unfoldable pub change_after : List ℕ → Reply → ℕ → DA728x → Option Change
 change_after st a n r = change_by (state_after st a n) (report_of st a n) r
 
 -- the record in force after it

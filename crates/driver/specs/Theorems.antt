@@ -1,6 +1,6 @@
 -- What every operation sends, answers and stores, and what its start is refused for: document 01, 'Exchanges'; for every session's bytes, every list of answers and every record.
 -- They speak of what the contracts cite: how a start begins a session, and what an answer does to it.
-use Rattle.std.specs.Prelude.{ℕ, suc, ◌^◌, ◌≤◌, ◌<◌, min, ◌≡◌, Bool, true, false, cond, not, ◌&&◌, ◌↔◌, List, [], ◌∷◌, ◌++◌, ltb, leb, eqb, ℤ, pos, negsuc, length, take, drop}
+use Rattle.std.specs.Prelude.{ℕ, suc, ◌^◌, ◌≤◌, ◌<◌, min, ◌≡◌, Bool, true, false, cond, not, ◌&&◌, ◌↔◌, List, [], ◌∷◌, ◌++◌, ltb, leb, eqb, ℤ, pos, negsuc, length, take, drop, Option, Some, None}
 use Rattle.config.specs.declared.ActuatorConfig.{ActuatorConfig}
 use Rattle.config.specs.declared.DeviceConfig.{DeviceConfig}
 use Rattle.config.specs.declared.DrivingMode.TheVariants.{CUSTOM_WAVEFORM}
@@ -27,7 +27,7 @@ use Rattle.std.specs.Prelude.{Option, Some, None}
 use Rattle.da728x.specs.Record.{record_at}
 use Rattle.sessions.specs.Sessions.{no_image}
 use Rattle.outcome.specs.declared.Change.{Change}
-use Rattle.outcome.specs.declared.Change.TheVariants.{Same, Sequences}
+use Rattle.outcome.specs.declared.Change.TheVariants.{Sequences}
 use Rattle.outcome.specs.Outcome.{for_upload, is_chip_of, record_by, outcome_of}
 use Rattle.driver.specs.Operations as operation
 use Rattle.driver.specs.Operations.{Start, declines, begins, started_in, change_from, Operation, revision, upload_steps, change_after, record_after}
@@ -178,7 +178,7 @@ pub record Refusals : Type 0 where
 -- ---- what is stored
 
 -- what an answer does to the record lent with it
-abbrev pub change_behind : List ℕ → AnswerCall → DA728x → Change
+abbrev pub change_behind : List ℕ → AnswerCall → DA728x → Option Change
 change_behind st c r = change_after st c.reply (length c.buffer) r
 
 -- the record after these answers, where it was lent with each
@@ -190,24 +190,24 @@ record_final st (c ∷ cs) r = record_final (after_call st c) cs (record_after s
 pub record Stored : Type 0 where
   -- an answer that is refused with 19 leaves the record, every byte of it; where the session is for no upload, so does one that fails (16, 17) or is
   -- not the last
-  pub refused : (st : List ℕ) (c : AnswerCall) (r : DA728x) → number_at st c ≡ 19 → change_behind st c r ≡ Same
-  pub failed : (st : List ℕ) (c : AnswerCall) (r : DA728x) → ¬ (purpose_in st ≡ for_upload) → ¬ (number_at st c ≡ 0) → change_behind st c r ≡ Same
-  pub before : (st : List ℕ) (c : AnswerCall) (r : DA728x) → ¬ (purpose_in st ≡ for_upload) → (report_of st c.reply (length c.buffer)).ended ≡ false → change_behind st c r ≡ Same
+  pub refused : (st : List ℕ) (c : AnswerCall) (r : DA728x) → number_at st c ≡ 19 → change_behind st c r ≡ None
+  pub failed : (st : List ℕ) (c : AnswerCall) (r : DA728x) → ¬ (purpose_in st ≡ for_upload) → ¬ (number_at st c ≡ 0) → change_behind st c r ≡ None
+  pub before : (st : List ℕ) (c : AnswerCall) (r : DA728x) → ¬ (purpose_in st ≡ for_upload) → (report_of st c.reply (length c.buffer)).ended ≡ false → change_behind st c r ≡ None
   -- document 02, CR 10: where it is for an upload, each answer that is taken gives the count of sequences, and nothing else, to a record of the address
   -- that the session carries, whatever that record holds: 0, unless it completes the upload; a record of another address stays
   pub counts : (st : List ℕ) (c : AnswerCall) (r : DA728x) → purpose_in st ≡ for_upload → let carried = record_at (record_in st) in
       change_behind st c r ≡ cond (taken st c.reply (length c.buffer) && eqb carried.address r.address)
-      (Sequences (cond (completed (after_call st c)) carried.sequences 0)) Same
+      (Some (Sequences (cond (completed (after_call st c)) carried.sequences 0))) None
   -- every answer to a session that has ended, that was never begun, or of another length leaves it; such a session stays
-  pub ended : (st : List ℕ) (c : AnswerCall) (r : DA728x) → left st ≡ [] → (change_behind st c r ≡ Same) × (after_call st c ≡ st)
+  pub ended : (st : List ℕ) (c : AnswerCall) (r : DA728x) → left st ≡ [] → (change_behind st c r ≡ None) × (after_call st c ≡ st)
   -- a start that is refused, or that lends bytes of another length, leaves both
-  pub declined : (s : Start) (number : ℕ) (st : List ℕ) → s ≡ declines number → (started_in st s ≡ st) × (change_from st s ≡ Same)
-  pub unbegun : (s : Start) (st : List ℕ) → is_session st ≡ false → (started_in st s ≡ st) × (change_from st s ≡ Same)
+  pub declined : (s : Start) (number : ℕ) (st : List ℕ) → s ≡ declines number → (started_in st s ≡ st) × (change_from st s ≡ None)
+  pub unbegun : (s : Start) (st : List ℕ) → is_session st ≡ false → (started_in st s ≡ st) × (change_from st s ≡ None)
   -- the start of an upload sets the count to 0, and no other start changes the record
   pub zeroes : (r : DA728x) (m : WaveformMemory) (lock_after : Bool) (st : List ℕ) → is_session st ≡ true →
-      change_from st (operation.upload_waveform_memory r m lock_after).start ≡ Sequences 0
-  pub starts : (r : DA728x) (q : Request) (st : List ℕ) → Typed q → is_upload q ≡ false → change_from st (operation_of r q).start ≡ Same
-  pub starts_new : (address : ℕ) (variant : Variant) (st : List ℕ) → change_from st (operation.new address variant).start ≡ Same
+      change_from st (operation.upload_waveform_memory r m lock_after).start ≡ Some (Sequences 0)
+  pub starts : (r : DA728x) (q : Request) (st : List ℕ) → Typed q → is_upload q ≡ false → change_from st (operation_of r q).start ≡ None
+  pub starts_new : (address : ℕ) (variant : Variant) (st : List ℕ) → change_from st (operation.new address variant).start ≡ None
   -- `new` makes a record exactly if the one byte that came from CHIP_REV is the variant's
   pub creates : (address : ℕ) (variant : Variant) (st : List ℕ) (cs : List AnswerCall) (r : DA728x) → is_session st ≡ true →
       let s = started_in st (operation.new address variant).start in
@@ -223,7 +223,7 @@ pub record Stored : Type 0 where
   pub loads : (r lent : DA728x) (m : WaveformMemory) (lock_after : Bool) (st : List ℕ) (cs : List AnswerCall) (c : AnswerCall) → length m.«data» ≡ 100 →
       is_session st ≡ true → let s = final (started_in st (operation.upload_waveform_memory r m lock_after).start) cs in
       change_behind s c lent ≡ cond (taken s c.reply (length c.buffer) && eqb r.address lent.address)
-      (Sequences (cond (completed (after_call s c)) m.num_sequences 0)) Same
+      (Some (Sequences (cond (completed (after_call s c)) m.num_sequences 0))) None
   -- and the record that was lent with the start and with each answer has that number exactly if the upload is completed, else 0; all else of it stays
   pub uploads : (r : DA728x) (m : WaveformMemory) (lock_after : Bool) (st : List ℕ) (cs : List AnswerCall) → length m.«data» ≡ 100 → is_session st ≡ true →
       let o = operation.upload_waveform_memory r m lock_after in let s = started_in st o.start in
@@ -232,7 +232,7 @@ pub record Stored : Type 0 where
   -- no answer to another operation changes the record
   pub others : (r : DA728x) (q : Request) → Typed q → is_upload q ≡ false → is_configure q ≡ false → (b : Begun) (xs : List Step) → (operation_of r q).start ≡ begins b xs →
       (st : List ℕ) (cs : List AnswerCall) (c : AnswerCall) (lent : DA728x) → is_session st ≡ true →
-      change_behind (final (begun_in st b xs) cs) c lent ≡ Same
+      change_behind (final (begun_in st b xs) cs) c lent ≡ None
 
 -- ---- what is uploaded and read
 

@@ -45,10 +45,10 @@ impl Bench {
         }
         // Not `while`: an answer that does not fit leaves the session as it was, and nothing here shows that the chip's fit.
         for _ in 0..MOST {
-            if exchange::is_over(&self.session) {
+            let Some(e) = exchange::pending(&self.session) else {
                 break;
-            }
-            self.step(rt)?;
+            };
+            self.step(rt, &e)?;
         }
         let made = exchange::made(&self.session);
         let end = if exchange::is_completed(&self.session) {
@@ -60,12 +60,11 @@ impl Bench {
     }
 
     // One exchange; the answer goes back with the record.
-    fn step(&mut self, rt: &impl Print) -> io::Result<()> {
-        let e = exchange::pending(&self.session);
-        let reply = self.transfer(&e);
+    fn step(&mut self, rt: &impl Print, e: &Exchange) -> io::Result<()> {
+        let reply = self.transfer(e);
         let mut unread = [0u8; 1];
         let turn = driver::answer(&mut self.record, &mut self.session, reply, &mut unread);
-        tell(rt, &e, reply, turn)
+        tell(rt, e, reply, turn)
     }
 
     fn transfer(&mut self, e: &Exchange) -> Reply {

@@ -5,9 +5,10 @@ use mathlib.Core.List.{List, [], ◌∷◌}
 use Prim.Native.Nat.{ℕ}
 use lib.Dec.{eqb}
 use lib.ListN.{length}
+use Rattle.std.specs.Prelude.{Option, Some, None}
 use Rattle.exchange.specs.declared.Step.{Step}
 use Rattle.exchange.specs.declared.Fit.{Fit}
-use Rattle.exchange.specs.declared.Fit.TheVariants.{Unfit, Broke, Went, Got, Kept, Wrong}
+use Rattle.exchange.specs.declared.Fit.TheVariants.{Broke, Went, Got, Kept, Wrong}
 use Rattle.exchange.specs.State.{is_unbroken, left}
 use Rattle.exchange.specs.Turn.{fit_of, effect_of, state_after, report_of}
 use Rattle.exchange.specs.Session.{AnswerCall, breaks, number_at, after_call}
@@ -28,16 +29,16 @@ case st c = go (fit_of st c.reply (length c.buffer)) refl (turned st c)
     goes : (t came : List ℕ) → Gone st t came → is_unbroken t ≡ true
     goes t came g = g.opened ∙ going_open _ _ (left_going st _ _ g.before)
 
-    go : (f : Fit) → fit_of st c.reply (length c.buffer) ≡ f → Turned f st (after_call st c) → Case st c
-    go Unfit e m = same m (ap (λ (x : Fit). eqb (effect_of x).number 0) e)
-    go (Broke code) e m = broken _ _ m.before m.now (ap (λ (x : Fit). eqb (effect_of x).number 0) e) (ap (λ (x : Fit). breaks (effect_of x).number) e)
-    go Went e m = went _ _ m.before m.now (goes _ _ m) (ap (λ (x : Fit). eqb (effect_of x).number 0) e)
-    go (Got b) e m = went _ _ m.before m.now (goes _ _ m) (ap (λ (x : Fit). eqb (effect_of x).number 0) e)
-    go (Kept i b) e m = went _ _ m.before m.now (goes _ _ m) (ap (λ (x : Fit). eqb (effect_of x).number 0) e)
-    go (Wrong b) e m = broken _ _ m.before m.now (ap (λ (x : Fit). eqb (effect_of x).number 0) e) (ap (λ (x : Fit). breaks (effect_of x).number) e)
+    go : (f : Option Fit) → fit_of st c.reply (length c.buffer) ≡ f → Turned f st (after_call st c) → Case st c
+    go None e m = same m (ap (λ (x : Option Fit). eqb (effect_of x).number 0) e)
+    go (Some (Broke code)) e m = broken _ _ m.before m.now (ap (λ (x : Option Fit). eqb (effect_of x).number 0) e) (ap (λ (x : Option Fit). breaks (effect_of x).number) e)
+    go (Some Went) e m = went _ _ m.before m.now (goes _ _ m) (ap (λ (x : Option Fit). eqb (effect_of x).number 0) e)
+    go (Some (Got b)) e m = went _ _ m.before m.now (goes _ _ m) (ap (λ (x : Option Fit). eqb (effect_of x).number 0) e)
+    go (Some (Kept i b)) e m = went _ _ m.before m.now (goes _ _ m) (ap (λ (x : Option Fit). eqb (effect_of x).number 0) e)
+    go (Some (Wrong b)) e m = broken _ _ m.before m.now (ap (λ (x : Option Fit). eqb (effect_of x).number 0) e) (ap (λ (x : Option Fit). breaks (effect_of x).number) e)
 
 -- where no step is left, every answer is refused
 module _ (st : List ℕ) (c : AnswerCall) (e : left st ≡ []) where
   pub idle_state : after_call st c ≡ st
   unfolding after_call state_after
-  idle_state = ap (λ (f : Fit). state_by st (effect_of f)) (unfit_none st c.reply (length c.buffer) e)
+  idle_state = ap (λ (f : Option Fit). state_by st (effect_of f)) (unfit_none st c.reply (length c.buffer) e)

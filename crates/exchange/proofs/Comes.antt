@@ -7,10 +7,11 @@ use mathlib.Core.Bool.{Bool, false, cond, ◌||◌, true≢false}
 use mathlib.Core.List.{List, [], ◌∷◌, ◌++◌}
 use lib.Dec.{eqb}
 use lib.ListN.{length}
+use Rattle.std.specs.Prelude.{Option, Some, None}
 use Rattle.exchange.specs.declared.Step.{Step}
 use Rattle.exchange.specs.declared.Step.TheVariants.{Write, Read, Update, Match, Chunk, Store}
 use Rattle.exchange.specs.declared.Fit.{Fit}
-use Rattle.exchange.specs.declared.Fit.TheVariants.{Unfit, Broke, Went, Got, Kept, Wrong}
+use Rattle.exchange.specs.declared.Fit.TheVariants.{Broke, Went, Got, Kept, Wrong}
 use Rattle.exchange.specs.Steps.{exchange_for}
 use Rattle.exchange.specs.State.{left}
 use Rattle.exchange.specs.Turn.{pending_of, pending_for, wanted, fit_of, effect_of}
@@ -32,15 +33,15 @@ pending_wants : (st : List ℕ) (x : Step) (xs : List Step) (n : ℕ) → left s
 pending_wants st x xs n e h = ap (λ (l : List Step). (pending_for st l).wanted) e ∙ wants _ _ _ x ∙ h
 
 -- by how the first answer fits
-comes_by : (f : Fit) (st t : List ℕ) (cs : List AnswerCall) → Turned f st t →
+comes_by : (f : Option Fit) (st t : List ℕ) (cs : List AnswerCall) → Turned f st t →
     (broken_off t cs ≡ false → length (came t cs) ≡ bytes_wanted (sent t cs)) → eqb (effect_of f).stage 2 || broken_off t cs ≡ false →
     length ((effect_of f).came ++ came t cs) ≡ bytes_wanted (cond (effect_of f).counts (pending_of st ∷ []) [] ++ sent t cs)
-comes_by Unfit st t cs g k h = k h
-comes_by (Broke code) st t cs g k h = absurd (true≢false h)
-comes_by Went st t cs g k h = omega (arith, k h, pending_wants st _ _ _ g.before g.reads)
-comes_by (Got b) st t cs g k h = omega (arith, k h, pending_wants st _ _ _ g.before g.reads)
-comes_by (Kept i b) st t cs g k h = omega (arith, k h, pending_wants st _ _ _ g.before g.reads)
-comes_by (Wrong b) st t cs g k h = absurd (true≢false h)
+comes_by None st t cs g k h = k h
+comes_by (Some (Broke code)) st t cs g k h = absurd (true≢false h)
+comes_by (Some Went) st t cs g k h = omega (arith, k h, pending_wants st _ _ _ g.before g.reads)
+comes_by (Some (Got b)) st t cs g k h = omega (arith, k h, pending_wants st _ _ _ g.before g.reads)
+comes_by (Some (Kept i b)) st t cs g k h = omega (arith, k h, pending_wants st _ _ _ g.before g.reads)
+comes_by (Some (Wrong b)) st t cs g k h = absurd (true≢false h)
 
 -- every list of answers
 pub comes : (cs : List AnswerCall) (st : List ℕ) → broken_off st cs ≡ false → length (came st cs) ≡ bytes_wanted (sent st cs)

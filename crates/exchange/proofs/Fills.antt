@@ -8,13 +8,13 @@ use mathlib.Core.Bool.{Bool, true, false, cond}
 use mathlib.Core.List.{List, [], ◌∷◌, ◌++◌, append-nil}
 use lib.ListN.{length, take, drop, set, length-set, take-append-drop}
 use lib.Seq.{take-suc-set, drop-set-lt, append_snoc}
+use Rattle.std.specs.Prelude.{Option, None}
 use Rattle.laws.specs.Copied.{over}
 use Rattle.exchange.specs.declared.Step.{Step}
 use Rattle.exchange.specs.declared.Step.TheVariants.{Store}
 use Rattle.exchange.specs.declared.Reply.{Reply}
 use Rattle.exchange.specs.declared.Reply.TheVariants.{Done, Byte, Failed}
 use Rattle.exchange.specs.declared.Fit.{Fit}
-use Rattle.exchange.specs.declared.Fit.TheVariants.{Unfit}
 use Rattle.exchange.specs.State.{indexed, left}
 use Rattle.exchange.specs.Turn.{fits_next, resized, fit_of, effect_of, state_after, buffer_after}
 use Rattle.exchange.specs.Session.{after_call, came, lending, filled}
@@ -38,7 +38,7 @@ abbrev Filled : List ℕ → List ℕ → ℕ → List Reply → Type 0
 Filled st buffer i replies = filled st buffer replies ≡ over buffer i (came st (lending st buffer replies))
 
 -- the same, where the first answer fits so
-abbrev FilledBy : Fit → List ℕ → List ℕ → ℕ → List Reply → Type 0
+abbrev FilledBy : Option Fit → List ℕ → List ℕ → ℕ → List Reply → Type 0
 FilledBy f st buffer i replies =
     let e = effect_of f in
     let t = state_by st e in
@@ -47,7 +47,7 @@ FilledBy f st buffer i replies =
 module _ (replies : List Reply) (ih : (st : List ℕ) (i n : ℕ) (buffer : List ℕ) → left st ≡ indexed Store i n → i + n ≤ length buffer → Filled st buffer i replies) where
   -- by whether the buffer's length changed, how many reads are left, and the answer
   fills_by : (st : List ℕ) (k : Bool) (i n : ℕ) (buffer : List ℕ) (a : Reply) → left st ≡ indexed Store i n → i + n ≤ length buffer →
-      FilledBy (cond k Unfit (fits_next (indexed Store i n) a)) st buffer i replies
+      FilledBy (cond k None (fits_next (indexed Store i n) a)) st buffer i replies
   fills_by st true i n buffer a e h = ih st i n buffer e h
   fills_by st false i zero buffer a e h = ih st i zero buffer e h
   fills_by st false i (suc n) buffer Done e h = ih st i (suc n) buffer e h
@@ -63,6 +63,6 @@ unfolding fit_of after_call state_after buffer_after
 fills [] st i n buffer e h = over_none buffer i
 fills (a ∷ replies) st i n buffer e h =
     let k = resized st (length buffer) in
-    subst (λ (l : List Step). FilledBy (cond k Unfit (fits_next l a)) st buffer i replies) (sym e)
+    subst (λ (l : List Step). FilledBy (cond k None (fits_next l a)) st buffer i replies) (sym e)
     (fills_by replies (fills replies) st k i n buffer a e h)
     ∙ ap (λ (l : List ℕ). over buffer i (l ++ came (state_after st a (length buffer)) (lending (state_after st a (length buffer)) (buffer_after st a buffer) replies))) (sym (came_taken st a (length buffer)))

@@ -7,8 +7,9 @@ use mathlib.Core.Bool.{true}
 use mathlib.Core.List.{List, [], ◌∷◌, ◌++◌, reverse_aux}
 use lib.ListN.{length, take}
 use lib.Seq.{take-take}
+use Rattle.std.specs.Prelude.{Option, Some, None}
 use Rattle.exchange.specs.declared.Fit.{Fit}
-use Rattle.exchange.specs.declared.Fit.TheVariants.{Unfit, Broke, Went, Got, Kept, Wrong}
+use Rattle.exchange.specs.declared.Fit.TheVariants.{Broke, Went, Got, Kept, Wrong}
 use Rattle.exchange.specs.State.{is_session, read_count, purpose_in, room_in, record_in}
 use Rattle.exchange.specs.Turn.{fit_of, effect_of, moved, state_after}
 use Rattle.exchange.specs.Session.{AnswerCall, after_call, final, came}
@@ -50,13 +51,13 @@ module _ (st : List ℕ) (s : is_session st ≡ true) where
       record { session = m.session; purpose = m.purpose; «record» = m.«record»; reads = m.reads; room = m.room; shows = m.shows ∙ e }
 
   -- by how the answer fits
-  keeps_by : (f : Fit) → Keeps st (state_by st (effect_of f)) (effect_of f).came
-  keeps_by Unfit = keeps_all
-  keeps_by (Broke code) = keeps_moved 2 [] (rw s)
-  keeps_by Went = keeps_moved 1 [] (rw s)
-  keeps_by (Got b) = keeps_moved 1 (b ∷ []) (rw s)
-  keeps_by (Kept i b) = keeps_moved 1 (b ∷ []) (rw s)
-  keeps_by (Wrong b) = keeps_moved 2 (b ∷ []) (rw s)
+  keeps_by : (f : Option Fit) → Keeps st (state_by st (effect_of f)) (effect_of f).came
+  keeps_by None = keeps_all
+  keeps_by (Some (Broke code)) = keeps_moved 2 [] (rw s)
+  keeps_by (Some Went) = keeps_moved 1 [] (rw s)
+  keeps_by (Some (Got b)) = keeps_moved 1 (b ∷ []) (rw s)
+  keeps_by (Some (Kept i b)) = keeps_moved 1 (b ∷ []) (rw s)
+  keeps_by (Some (Wrong b)) = keeps_moved 2 (b ∷ []) (rw s)
 
 -- the bytes that came with the first answer, and those after it
 came_more : (first bytes earlier : List ℕ) → reverse_aux bytes (reverse_aux first earlier) ≡ reverse_aux (first ++ bytes) earlier

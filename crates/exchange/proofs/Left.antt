@@ -1,17 +1,17 @@
 -- The steps that are left of a session, by what its bytes say. Assumes nothing.
 use Prim.Native.Nat.{ℕ, suc, zero, ◌+◌, ◌-◌, ◌≤◌, ◌<◌}
-use mathlib.Core.Path.{◌≡◌, refl, sym, ap, ◌∙◌, subst}
-use mathlib.Core.Bool.{Bool, true, false, cond, ◌&&◌, and-false}
+use mathlib.Core.Path.{◌≡◌, refl, sym, ap, ◌∙◌}
+use mathlib.Core.Bool.{Bool, true, false, cond, ◌&&◌}
 use mathlib.Core.List.{List, [], ◌∷◌}
 use native.Mathlib.Omega.{arith}
 use lib.Dec.{leb}
 use lib.ListN.{length, drop}
-use borrow.Author.Tests.{lt-ltb, le-ltb, eq-eqb, ne_eqb}
-use Rattle.laws.specs.Lists.{at}
+use borrow.Author.Tests.{lt-ltb, le-ltb, ne_eqb}
 use Rattle.exchange.specs.declared.Step.{Step}
 use Rattle.exchange.specs.declared.Step.TheVariants.{Store}
-use Rattle.std.specs.Prelude.{Option, Some, None}
-use Rattle.exchange.specs.State.{is_session, is_unbroken, made_in, step_count, read_count, encoded_step, step_in, indexed, plan, left, completed, slot_of}
+use Rattle.std.specs.Prelude.{Some, None}
+use Rattle.std.proofs.lemmas.Option.{none-some, same_Some}
+use Rattle.exchange.specs.State.{is_unbroken, made_in, step_count, read_count, encoded_step, step_in, indexed, plan, left, completed, slot_of}
 
 -- ---- `indexed`
 
@@ -26,16 +26,6 @@ drop_indexed f (suc k) i (suc n) = drop_indexed f k (suc i) n ∙ indexed_same f
 
 -- ---- `left`
 
--- bytes of another length are no open session, nor are those of another stage
-pub no_session : (st : List ℕ) → (length st ≡ 280 → ⊥) → is_unbroken st ≡ false
-no_session st h = simp (ne_eqb _ _ h)
-
-pub not_begun : (st : List ℕ) → (at st 1 ≡ 1 → ⊥) → is_unbroken st ≡ false
-not_begun st h = ap (λ (t : Bool). is_session st && t) (ne_eqb _ _ h) ∙ and-false (is_session st)
-
-pub opened : (st : List ℕ) → length st ≡ 280 → at st 1 ≡ 1 → is_unbroken st ≡ true
-opened st l h = simp (eq-eqb _ _ l, eq-eqb _ _ h)
-
 -- no step is left of one that is not open, and it is not completed
 pub left_closed : (st : List ℕ) → is_unbroken st ≡ false → left st ≡ []
 unfolding left
@@ -43,7 +33,7 @@ left_closed st h = ap (λ (t : Bool). cond t (drop (made_in st) (plan st)) []) h
 
 -- nor of bytes of another length
 pub left_other : (st : List ℕ) → (length st ≡ 280 → ⊥) → left st ≡ []
-left_other st h = left_closed st (no_session st h)
+left_other st h = left_closed st (simp (ne_eqb _ _ h))
 
 pub closed : (st : List ℕ) → is_unbroken st ≡ false → (left st ≡ []) × (completed st ≡ false)
 unfolding completed
@@ -80,17 +70,8 @@ module _ (st : List ℕ) (o : is_unbroken st ≡ true) where
 
 pub idle_none : (xs : List Step) → slot_of xs ≡ None → xs ≡ []
 idle_none [] e = refl
-idle_none (x ∷ xs) e = absurd (subst is_at e tt) where
-  is_at : Option Step → Type 0
-  is_at None = ⊥
-  is_at (Some y) = Unit
+idle_none (x ∷ xs) e = absurd (none-some x (sym e))
 
 pub at_some : (xs : List Step) (x : Step) → slot_of xs ≡ Some x → xs ≡ x ∷ drop 1 xs
-at_some [] x e = absurd (subst is_idle e tt) where
-  is_idle : Option Step → Type 0
-  is_idle None = Unit
-  is_idle (Some y) = ⊥
-at_some (y ∷ xs) x e = ap (λ (s : Option Step). first s ∷ xs) e where
-  first : Option Step → Step
-  first None = y
-  first (Some z) = z
+at_some [] x e = absurd (none-some x e)
+at_some (y ∷ xs) x e = ap (λ (z : Step). z ∷ xs) (same_Some y x e)

@@ -7,7 +7,6 @@ pub mod Ends
 pub mod Fills
 pub mod Keeps
 pub mod Latest
-pub mod Laid
 pub mod Left
 pub mod Moves
 pub mod Order

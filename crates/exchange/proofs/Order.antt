@@ -8,11 +8,12 @@ use mathlib.Core.Bool.{Bool, true, false, cond, ◌||◌}
 use mathlib.Core.List.{List, [], ◌∷◌, ◌++◌}
 use lib.Dec.{eqb}
 use lib.ListN.{length, take, drop, get_or}
+use Rattle.std.specs.Prelude.{Option, Some, None}
 use Rattle.laws.specs.Lists.{at}
 use Rattle.exchange.specs.declared.Step.{Step}
 use Rattle.exchange.specs.declared.Exchange.{Exchange}
 use Rattle.exchange.specs.declared.Fit.{Fit}
-use Rattle.exchange.specs.declared.Fit.TheVariants.{Unfit, Broke, Went, Got, Kept, Wrong}
+use Rattle.exchange.specs.declared.Fit.TheVariants.{Broke, Went, Got, Kept, Wrong}
 use Rattle.exchange.specs.Steps.{exchange_for}
 use Rattle.exchange.specs.State.{is_unbroken, address_in, count_in, image_in, left}
 use Rattle.exchange.specs.Turn.{pending_of, wanted, fit_of, effect_of}
@@ -91,15 +92,15 @@ module _ (st t : List ℕ) (cs : List AnswerCall) (k : Follows t cs) where
       rw g.before (run_last _ _ _ _ _ _ _ _ _ _ _ _ _ _ _ (rw (g.now, g.count, g.opened) at k))
 
 -- by how the first answer fits
-run_by : (f : Fit) (st t : List ℕ) (cs : List AnswerCall) → Turned f st t → Follows t cs →
+run_by : (f : Option Fit) (st t : List ℕ) (cs : List AnswerCall) → Turned f st t → Follows t cs →
     let e = effect_of f in
     RunFrom st (cond e.counts (pending_of st ∷ []) [] ++ sent t cs) (e.came ++ came t cs) (eqb e.stage 2 || broken_off t cs) (final t cs)
-run_by Unfit st t cs e k = rw e (rw e at k)
-run_by (Broke code) st t cs m k = run_ended st t cs k _ _ m
-run_by Went st t cs m k = run_gone st t cs k _ m refl refl
-run_by (Got b) st t cs m k = run_gone st t cs k _ m refl refl
-run_by (Kept i b) st t cs m k = run_gone st t cs k _ m refl refl
-run_by (Wrong b) st t cs m k = run_ended st t cs k _ _ m
+run_by None st t cs e k = rw e (rw e at k)
+run_by (Some (Broke code)) st t cs m k = run_ended st t cs k _ _ m
+run_by (Some Went) st t cs m k = run_gone st t cs k _ m refl refl
+run_by (Some (Got b)) st t cs m k = run_gone st t cs k _ m refl refl
+run_by (Some (Kept i b)) st t cs m k = run_gone st t cs k _ m refl refl
+run_by (Some (Wrong b)) st t cs m k = run_ended st t cs k _ _ m
 
 -- every session, under every list of calls
 pub follows : (cs : List AnswerCall) (st : List ℕ) → Follows st cs

@@ -7,12 +7,13 @@ use mathlib.Core.Bool.{Bool, true, false, cond}
 use mathlib.Core.List.{List, [], ◌∷◌}
 use lib.Dec.{eqb}
 use lib.ListN.{length}
+use Rattle.std.specs.Prelude.{Option, Some, None}
 use Rattle.exchange.specs.declared.Step.{Step}
 use Rattle.exchange.specs.declared.Step.TheVariants.{Write, Read, Update, Match, Chunk, Store}
 use Rattle.exchange.specs.declared.Reply.{Reply}
 use Rattle.exchange.specs.declared.Reply.TheVariants.{Done, Byte, Failed}
 use Rattle.exchange.specs.declared.Fit.{Fit}
-use Rattle.exchange.specs.declared.Fit.TheVariants.{Unfit, Broke, Went, Got, Kept, Wrong}
+use Rattle.exchange.specs.declared.Fit.TheVariants.{Broke, Went, Got, Kept, Wrong}
 use Rattle.exchange.specs.State.{count_in, is_unbroken, left}
 use Rattle.exchange.specs.Turn.{wanted, fits_next, resized, fit_of, effect_of, moved, state_after, buffer_after, report_of}
 use Rattle.exchange.specs.Session.{AnswerCall, after_call}
@@ -40,15 +41,15 @@ pub record Ended (st t came : List ℕ) : Type 0 where
   pub count : count_in t ≡ count_in st + 1
 
 -- what an answer does that fits so
-abbrev pub Turned : Fit → List ℕ → List ℕ → Type 0
-Turned Unfit st t = t ≡ st
-Turned (Broke code) st t = Ended st t []
-Turned Went st t = Gone st t []
-Turned (Got b) st t = Gone st t (b ∷ [])
-Turned (Kept i b) st t = Gone st t (b ∷ [])
-Turned (Wrong b) st t = Ended st t (b ∷ [])
+abbrev pub Turned : Option Fit → List ℕ → List ℕ → Type 0
+Turned None st t = t ≡ st
+Turned (Some (Broke code)) st t = Ended st t []
+Turned (Some Went) st t = Gone st t []
+Turned (Some (Got b)) st t = Gone st t (b ∷ [])
+Turned (Some (Kept i b)) st t = Gone st t (b ∷ [])
+Turned (Some (Wrong b)) st t = Ended st t (b ∷ [])
 
-abbrev TurnedBy : List ℕ → Fit → Type 0
+abbrev TurnedBy : List ℕ → Option Fit → Type 0
 TurnedBy st f = Turned f st (state_by st (effect_of f))
 
 module _ (st : List ℕ) (x : Step) (xs : List Step) (e : left st ≡ x ∷ xs) where
@@ -83,12 +84,12 @@ module _ (st : List ℕ) (x : Step) (xs : List Step) (e : left st ≡ x ∷ xs) 
       }
 
   -- a byte, by whether it is what it must be
-  turned_test : (q : Bool) (b : ℕ) → wanted x ≡ 1 → TurnedBy st (cond q (Got b) (Wrong b))
+  turned_test : (q : Bool) (b : ℕ) → wanted x ≡ 1 → TurnedBy st (cond q (Some (Got b)) (Some (Wrong b)))
   turned_test true b h = gone _ h
   turned_test false b h = ended _
 
 -- by whether the buffer's length changed, the steps left, and the answer
-pub turned_by : (st : List ℕ) (k : Bool) (l : List Step) → left st ≡ l → (a : Reply) → TurnedBy st (cond k Unfit (fits_next l a))
+pub turned_by : (st : List ℕ) (k : Bool) (l : List Step) → left st ≡ l → (a : Reply) → TurnedBy st (cond k None (fits_next l a))
 turned_by st true l e a = refl
 turned_by st false [] e a = refl
 turned_by st false (x ∷ xs) e (Failed code) = ended st x xs e _
@@ -116,10 +117,10 @@ pub refused : (st : List ℕ) (a : Reply) (buffer : List ℕ) → (report_of st 
 unfolding report_of state_after buffer_after
 refused st a buffer h = go (fit_of st a (length buffer)) h
   where
-    go : (f : Fit) → (effect_of f).number ≡ 19 → (state_by st (effect_of f) ≡ st) × ((effect_of f).buffer buffer ≡ buffer)
-    go Unfit e = (refl, refl)
-    go (Broke code) e = absurd (omega (arith, e))
-    go Went e = absurd (omega (arith, e))
-    go (Got b) e = absurd (omega (arith, e))
-    go (Kept i b) e = absurd (omega (arith, e))
-    go (Wrong b) e = absurd (omega (arith, e))
+    go : (f : Option Fit) → (effect_of f).number ≡ 19 → (state_by st (effect_of f) ≡ st) × ((effect_of f).buffer buffer ≡ buffer)
+    go None e = (refl, refl)
+    go (Some (Broke code)) e = absurd (omega (arith, e))
+    go (Some Went) e = absurd (omega (arith, e))
+    go (Some (Got b)) e = absurd (omega (arith, e))
+    go (Some (Kept i b)) e = absurd (omega (arith, e))
+    go (Some (Wrong b)) e = absurd (omega (arith, e))

@@ -1,5 +1,5 @@
 -- What a session hands out, and what an answer of the bus does to it: document 01, 'Exchanges' and 'Who can cause which answer'.
-use Rattle.std.specs.Prelude.{ℕ, ◌+◌, ◌<◌, ◌≡◌, Bool, true, false, cond, not, ◌&&◌, List, [], ◌∷◌, ◌++◌, ltb, eqb, length, take, set}
+use Rattle.std.specs.Prelude.{ℕ, ◌+◌, ◌<◌, ◌≡◌, Bool, true, false, cond, not, ◌&&◌, List, [], ◌∷◌, ◌++◌, ltb, eqb, length, take, set, Option, Some, None}
 use Rattle.errors.specs.Number.{answer_number, bus_code}
 use Rattle.laws.specs.Copied.{over}
 use Rattle.laws.specs.Lists.{at}
@@ -9,7 +9,7 @@ use Rattle.exchange.specs.declared.Exchange.{Exchange}
 use Rattle.exchange.specs.declared.Reply.{Reply}
 use Rattle.exchange.specs.declared.Reply.TheVariants.{Done, Byte, Failed}
 use Rattle.exchange.specs.declared.Fit.{Fit}
-use Rattle.exchange.specs.declared.Fit.TheVariants.{Unfit, Broke, Went, Got, Kept, Wrong}
+use Rattle.exchange.specs.declared.Fit.TheVariants.{Broke, Went, Got, Kept, Wrong}
 use Rattle.exchange.specs.declared.Turn.{Turn}
 use Rattle.exchange.specs.Steps.{exchange, exchange_for}
 use Rattle.exchange.specs.State.{address_in, made_in, count_in, last_in, read_count, room_in, image_in, left, none_left}
@@ -31,30 +31,30 @@ abbrev pub wanted : Step → ℕ
 wanted x = (exchange_for 0 0 [] x).wanted
 
 -- what a step makes of a byte
-abbrev pub byte_fit : Step → ℕ → Fit
-byte_fit (Write register value) b = Unfit
-byte_fit (Read register) b = Got b
-byte_fit (Update register shift width value) b = Unfit
-byte_fit (Match register value) b = cond (eqb b value) (Got b) (Wrong b)
-byte_fit (Chunk offset len) b = Unfit
-byte_fit (Store i) b = Kept i b
+abbrev pub byte_fit : Step → ℕ → Option Fit
+byte_fit (Write register value) b = None
+byte_fit (Read register) b = Some (Got b)
+byte_fit (Update register shift width value) b = None
+byte_fit (Match register value) b = cond (eqb b value) (Some (Got b)) (Some (Wrong b))
+byte_fit (Chunk offset len) b = None
+byte_fit (Store i) b = Some (Kept i b)
 
-abbrev pub fitting_of : Step → Reply → Fit
-fitting_of x (Failed code) = Broke code
-fitting_of x Done = cond (eqb (wanted x) 0) Went Unfit
+abbrev pub fitting_of : Step → Reply → Option Fit
+fitting_of x (Failed code) = Some (Broke code)
+fitting_of x Done = cond (eqb (wanted x) 0) (Some Went) None
 fitting_of x (Byte b) = byte_fit x b
 
 -- "a read buffer whose length has changed since the start"
 abbrev pub resized : List ℕ → ℕ → Bool
 resized st n = ltb 0 (read_count st) && not (eqb n (room_in st))
 
-abbrev pub fits_next : List Step → Reply → Fit
-fits_next [] a = Unfit
+abbrev pub fits_next : List Step → Reply → Option Fit
+fits_next [] a = None
 fits_next (x ∷ xs) a = fitting_of x a
 
 -- how an answer fits a session, where n bytes are lent with it
-unfoldable pub fit_of : List ℕ → Reply → ℕ → Fit
-fit_of st a n = cond (resized st n) Unfit (fits_next (left st) a)
+unfoldable pub fit_of : List ℕ → Reply → ℕ → Option Fit
+fit_of st a n = cond (resized st n) None (fits_next (left st) a)
 
 -- ---- what an answer does
 
@@ -78,13 +78,13 @@ abbrev pub effect : ℕ → ℕ → Bool → ℕ → List ℕ → (List ℕ → 
 effect number code counts stage came buffer = record { number = number; code = code; counts = counts; stage = stage; came = came; buffer = buffer }
 
 -- 16 and 17 end the session; "Each byte read is stored at its own index in the buffer lent with that answer, and that call changes no other byte"
-abbrev pub effect_of : Fit → Effect
-effect_of Unfit = effect 19 0 false 1 [] (λ l. l)
-effect_of (Broke code) = effect 17 code true 2 [] (λ l. l)
-effect_of Went = effect 0 0 true 1 [] (λ l. l)
-effect_of (Got b) = effect 0 0 true 1 (b ∷ []) (λ l. l)
-effect_of (Kept i b) = effect 0 0 true 1 (b ∷ []) (λ l. set l i b)
-effect_of (Wrong b) = effect 16 0 true 2 (b ∷ []) (λ l. l)
+abbrev pub effect_of : Option Fit → Effect
+effect_of None = effect 19 0 false 1 [] (λ l. l)
+effect_of (Some (Broke code)) = effect 17 code true 2 [] (λ l. l)
+effect_of (Some Went) = effect 0 0 true 1 [] (λ l. l)
+effect_of (Some (Got b)) = effect 0 0 true 1 (b ∷ []) (λ l. l)
+effect_of (Some (Kept i b)) = effect 0 0 true 1 (b ∷ []) (λ l. set l i b)
+effect_of (Some (Wrong b)) = effect 16 0 true 2 (b ∷ []) (λ l. l)
 
 -- the state with another count and stage, and the last three bytes read
 abbrev pub moved : List ℕ → ℕ → List ℕ → List ℕ

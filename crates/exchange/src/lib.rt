@@ -7,21 +7,22 @@
 // exchanges are those of the steps, in order, and the count is true.
 #![tactic(auto)]
 
-ghost use Rattle.std.specs.Prelude.{◌≡◌, cond, not, ◌&&◌, ◌+◌, ◌*◌, ◌<◌, min, [], ◌∷◌, eqb, length, take, set};
+ghost use Rattle.std.specs.Prelude.{◌≡◌, not, ◌&&◌, ◌+◌, ◌*◌, ◌<◌, ◌≤◌, min, [], ◌∷◌, eqb, length, take};
+ghost use Rattle.std.specs.Option.{unwrap_or, is_none, option_to_list};
 ghost use Rattle.errors.specs.Number.{answer_number};
 ghost use Rattle.laws.specs.Copied.{over};
 ghost use Rattle.laws.specs.Lists.{at};
 ghost use Rattle.exchange.specs.Steps.{exchange, memory_address, chunk, exchange_for, step_bytes, step_of};
-ghost use Rattle.exchange.specs.State.{address_in, count_in, room_in, image_in, encoded_step, left, none_left, slot_of, completed, head_of, begun_with, begun_in, pushed};
+ghost use Rattle.exchange.specs.State.{is_unbroken, address_in, count_in, room_in, image_in, step_count, read_count, encoded_step, left, none_left, slot_of, completed, head_of, begun_with, begun_in, pushed};
+ghost use Rattle.exchange.specs.Stage.{stage_code, stage_at};
 ghost use Rattle.exchange.specs.Turn.{pending_of, fitting_of, resized, fit_of, going, moved, state_after, buffer_after, report_of, turn_report};
 
+use da728x::RECORD_SIZE;
 use errors::Error;
 use registers::Register;
 
+// Public functions take bytes of any length and test for this one themselves: an array of it would ask more of their callers.
 pub const SESSION_SIZE: usize = 280;
-
-// How many bytes the record has that an operation is for.
-pub const RECORD_SIZE: usize = 38;
 
 // What stands where in a session.
 const ADDRESS: usize = 0;
@@ -46,15 +47,39 @@ pub const RECORD: usize = 117;
 
 pub const PLAN: usize = 155;
 
-// The stage of a session that was begun, and of one that was broken off.
-const BEGUN: u8 = 1;
-
-const BROKEN_OFF: u8 = 2;
-
 const MOST_STEPS: u8 = 25;
 
-const MOST_READS: u8 = 100;
+pub const MOST_READS: u8 = 100;
 
+// The stage that a session is in.
+#[derive(Debug, Clone, Copy, PartialEq, Eq)]
+enum Stage {
+    NotBegun,
+    Begun,
+    BrokenOff,
+}
+
+impl From<Stage> for u8 {
+    ghost from_gives = { λ stage code. code ≡ stage_code stage };
+
+    fn from(stage: Stage) -> u8 {
+        stage as u8
+    }
+}
+
+impl From<u8> for Stage {
+    ghost from_gives = { λ code stage. stage ≡ stage_at code };
+
+    fn from(code: u8) -> Stage {
+        match code {
+            0 => Stage::NotBegun,
+            1 => Stage::Begun,
+            _ => Stage::BrokenOff,
+        }
+    }
+}
+
+// A register is a byte here: a session's bytes, which C lends, can name any, and crate `registers` alone makes a `Register`.
 #[derive(Debug, Clone, Copy, PartialEq, Eq)]
 pub enum Step {
     // The register and what is written.
@@ -77,15 +102,33 @@ pub struct Exchange {
     pub address: u8,
     pub bytes: [u8; 33],
     pub len: u8,
+    // A number, as document 01 has it ("0 or 1 bytes wanted") and as C gets it.
     pub wanted: u8,
 }
 
 impl Exchange {
+    // What sends a register and the bytes behind it; inlined, since nearly all of it is known where it is made.
+    #[inline]
+    fn new(address: u8, register: u8, rest: &[u8], wanted: u8) -> Exchange
+        requires { length rest.now ≤ 32 }
+        ensures { result ≡ exchange address (register ∷ rest.now) wanted }
+    {
+        let mut bytes = [0u8; 33];
+        bytes[0] = register;
+        laws::lay(&mut bytes, 1, rest);
+        Exchange {
+            address,
+            bytes,
+            len: rest.len() as u8 + 1,
+            wanted,
+        }
+    }
+
     // The bytes to send.
     pub fn sent(&self) -> &[u8]
         ensures { result.now ≡ take self.now.len self.now.bytes }
     {
-        &self.bytes[..(self.len as usize).min(33)]
+        laws::shown(&self.bytes, self.len)
     }
 }
 
@@ -117,17 +160,13 @@ impl Turn {
     pub fn is_taken(self) -> bool
         ensures { result ≡ not (eqb (answer_number self.answer) 19) }
     {
-        match self.answer {
-            Ok(()) => true,
-            Err(e) => e != Error::OutOfTurn,
-        }
+        self.answer != Err(Error::OutOfTurn)
     }
 }
 
-// How an answer fits a step: not at all; a failure; a write done; a byte read; one for the buffer's index; not the byte that it must be.
+// How an answer fits a step: a failure; a write done; a byte read; one for the buffer's index; not the byte that it must be.
 #[derive(Debug, Clone, Copy, PartialEq, Eq)]
 enum Fit {
-    Unfit,
     Broke(u8),
     Went,
     Got(u8),
@@ -156,8 +195,7 @@ pub fn begin(session: &mut [u8], opening: Opening<'_>)
         ≡ begun_in session.old (begun_with opening.entry.address opening.entry.reads opening.entry.room opening.entry.purpose opening.entry.image.now opening.entry.«record».now) [] }
 {
     if session.len() == SESSION_SIZE {
-        let image = opening.image;
-        let record = opening.record;
+        let Opening { image, record, .. } = opening;
         laws::lay(session, 0, &heading(opening));
         laws::lay(session, IMAGE, image);
         laws::lay(session, RECORD, record);
@@ -169,26 +207,13 @@ pub fn begin(session: &mut [u8], opening: Opening<'_>)
 fn heading(opening: Opening<'_>) -> [u8; 17]
     ensures { result ≡ head_of (begun_with opening.entry.address opening.entry.reads opening.entry.room opening.entry.purpose [] []) 0 }
 {
-    let [a, b, c, d, e, f, g, h] = opening.room.to_le_bytes();
-    [
-        opening.address,
-        BEGUN,
-        0,
-        0,
-        0,
-        0,
-        0,
-        opening.reads,
-        a,
-        b,
-        c,
-        d,
-        e,
-        f,
-        g,
-        h,
-        opening.purpose,
-    ]
+    let mut head = [0u8; 17];
+    head[ADDRESS] = opening.address;
+    head[STAGE] = Stage::Begun.into();
+    head[READS] = opening.reads;
+    laws::lay(&mut head, ROOM, &opening.room.to_le_bytes());
+    head[PURPOSE] = opening.purpose;
+    head
 }
 
 // A step more, where there is room for it.
@@ -200,7 +225,7 @@ pub fn push(session: &mut [u8], step: Step)
         let n = session[STEPS];
         if n < MOST_STEPS {
             session[STEPS] = n + 1;
-            laws::lay(session, PLAN + 5 * (n as usize), &<[u8; 5]>::from(step));
+            laws::lay(session, PLAN + 5 * usize::from(n), &<[u8; 5]>::from(step));
         }
     }
 }
@@ -237,15 +262,16 @@ impl From<[u8; 5]> for Step {
 }
 
 // The step that comes next.
+#[tactic(auto, using(crate::proofs::Left::left_closed, crate::proofs::Left::left_none, crate::proofs::Left::slot_encoded, crate::proofs::Left::slot_store))]
 fn current(session: &[u8; SESSION_SIZE]) -> Option<Step>
     ensures { result ≡ slot_of (left session.now) }
 {
-    if session[STAGE] != BEGUN {
+    if !is_unbroken(session) {
         return None;
     }
     let made = session[MADE];
-    let steps = session[STEPS].min(MOST_STEPS);
-    let all = steps + session[READS].min(MOST_READS);
+    let steps = steps(session);
+    let all = steps + reads(session);
     if all <= made {
         None
     } else if made < steps {
@@ -255,32 +281,45 @@ fn current(session: &[u8; SESSION_SIZE]) -> Option<Step>
     }
 }
 
+// Whether a session was begun, and not broken off.
+fn is_unbroken(session: &[u8; SESSION_SIZE]) -> bool
+    ensures { result ≡ is_unbroken session.now }
+{
+    Stage::from(session[STAGE]) == Stage::Begun
+}
+
+// How many steps are encoded.
+fn steps(session: &[u8; SESSION_SIZE]) -> u8
+    ensures { result ≡ step_count session.now }
+{
+    session[STEPS].min(MOST_STEPS)
+}
+
+// How many memory reads stand behind them.
+fn reads(session: &[u8; SESSION_SIZE]) -> u8
+    ensures { result ≡ read_count session.now }
+{
+    session[READS].min(MOST_READS)
+}
+
 // The i-th encoded step.
 fn step_at(session: &[u8; SESSION_SIZE], i: u8) -> Step
     requires { i < 25 }
     ensures { result ≡ encoded_step session.now i }
 {
-    let k = PLAN + 5 * (i as usize);
-    Step::from([
-        session[k],
-        session[k + 1],
-        session[k + 2],
-        session[k + 3],
-        session[k + 4],
-    ])
+    let at = PLAN + 5 * usize::from(i);
+    Step::from(*session[at..].first_chunk().unwrap())
 }
 
-// The exchange that is to be made next; no bytes once the session has ended.
-pub fn pending(session: &[u8]) -> Exchange
-    ensures { result ≡ pending_of session.now }
+// The exchange that is to be made next; none once the session has ended.
+#[tactic(auto, using(crate::proofs::Left::left_other, crate::proofs::Left::idle_none))]
+pub fn pending(session: &[u8]) -> Option<Exchange>
+    ensures value { unwrap_or result (exchange 0 [] 0) ≡ pending_of session.now }
+    ensures none { is_none result ≡ none_left (left session.now) }
 {
-    let Some(session) = session.as_array::<SESSION_SIZE>() else {
-        return nothing();
-    };
-    match current(session) {
-        None => nothing(),
-        Some(step) => exchange_for(session, step),
-    }
+    let session = session.as_array::<SESSION_SIZE>()?;
+    let step = current(session)?;
+    Some(exchange_for(session, step))
 }
 
 fn exchange_for(session: &[u8; SESSION_SIZE], step: Step) -> Exchange
@@ -288,110 +327,67 @@ fn exchange_for(session: &[u8; SESSION_SIZE], step: Step) -> Exchange
 {
     let address = session[ADDRESS];
     match step {
-        Step::Write(register, value) => writing(address, register, value),
-        Step::Read(register) => reading(address, register),
+        Step::Write(register, value) => Exchange::new(address, register, &[value], 0),
+        Step::Read(register) | Step::Match(register, _) => Exchange::new(address, register, &[], 1),
         Step::Update(register, shift, width, value) => {
             let updated = field::with(session[LAST], shift, width, value);
-            writing(address, register, updated)
+            Exchange::new(address, register, &[updated], 0)
         }
-        Step::Match(register, _) => reading(address, register),
-        Step::Chunk(offset, len) => uploading(address, &session[IMAGE..RECORD], offset, len),
-        Step::Store(index) => reading(address, memory_address(index)),
+        Step::Chunk(offset, len) => {
+            Exchange::new(
+                address,
+                memory_address(offset),
+                chunk(session, offset, len),
+                0,
+            )
+        }
+        Step::Store(index) => Exchange::new(address, memory_address(index), &[], 1),
     }
 }
 
-fn nothing() -> Exchange
-    ensures { result ≡ exchange 0 [] 0 }
+// The part of the image that a chunk is.
+fn chunk(session: &[u8; SESSION_SIZE], offset: u8, len: u8) -> &[u8]
+    ensures value { result.now ≡ chunk (image_in session.now) offset len }
+    ensures length { length result.now ≤ 32 }
 {
-    Exchange {
-        address: 0,
-        bytes: [0; 33],
-        len: 0,
-        wanted: 0,
-    }
-}
-
-fn writing(address: u8, register: u8, value: u8) -> Exchange
-    ensures { result ≡ exchange address (register ∷ value ∷ []) 0 }
-{
-    let mut bytes = [0u8; 33];
-    bytes[0] = register;
-    bytes[1] = value;
-    Exchange {
-        address,
-        bytes,
-        len: 2,
-        wanted: 0,
-    }
-}
-
-fn reading(address: u8, register: u8) -> Exchange
-    ensures { result ≡ exchange address (register ∷ []) 1 }
-{
-    let mut bytes = [0u8; 33];
-    bytes[0] = register;
-    Exchange {
-        address,
-        bytes,
-        len: 1,
-        wanted: 1,
-    }
-}
-
-fn uploading(address: u8, image: &[u8], offset: u8, len: u8) -> Exchange
-    requires { length image.now ≡ 100 }
-    ensures { result ≡ exchange address (memory_address offset ∷ chunk image.now offset len) 0 }
-{
-    let start = offset.min(100);
-    let n = len.min(32).min(100 - start);
-    let from = start as usize;
-    let mut bytes = [0u8; 33];
-    bytes[0] = memory_address(offset);
-    let behind = from + n as usize;
-    laws::lay(&mut bytes, 1, &image[from..behind]);
-    Exchange {
-        address,
-        bytes,
-        len: n + 1,
-        wanted: 0,
-    }
+    let image = &session[IMAGE..RECORD];
+    laws::shown(&image[usize::from(offset).min(100)..], len.min(32))
 }
 
 fn memory_address(index: u8) -> u8
     ensures { result ≡ memory_address index }
 {
-    let first = Register::SNP_MEM_0.address();
-    ((first as u16 + index as u16) % 256) as u8
+    Register::SNP_MEM_0.address().wrapping_add(index)
 }
 
 // Takes back what the bus answered, with the buffer that a memory read fills (any, where the operation reads none).
-#[tactic(auto, unfolding(crate::specs::Turn::report_of, crate::specs::Turn::state_after, crate::specs::Turn::buffer_after))]
+#[tactic(auto, using(crate::proofs::Answers::fits_going), unfolding(crate::specs::Turn::report_of, crate::specs::Turn::state_after, crate::specs::Turn::buffer_after))]
 pub fn answer(session: &mut [u8], reply: Reply, buffer: &mut [u8]) -> Turn
     ensures result_value { turn_report result ≡ report_of session.old reply (length buffer.old) }
     ensures session_after { session.new ≡ state_after session.old reply (length buffer.old) }
     ensures buffer_after { buffer.new ≡ buffer_after session.old reply buffer.old }
 {
     let answer = match judge(session, reply, buffer.len()) {
-        Fit::Unfit => Err(Error::OutOfTurn),
-        Fit::Broke(code) => {
-            go_on(session, BROKEN_OFF);
+        None => Err(Error::OutOfTurn),
+        Some(Fit::Broke(code)) => {
+            go_on(session, Stage::BrokenOff, None);
             Err(Error::I2c(code))
         }
-        Fit::Went => {
-            go_on(session, BEGUN);
+        Some(Fit::Went) => {
+            go_on(session, Stage::Begun, None);
             Ok(())
         }
-        Fit::Got(b) => {
-            take_in(session, BEGUN, b);
+        Some(Fit::Got(b)) => {
+            go_on(session, Stage::Begun, Some(b));
             Ok(())
         }
-        Fit::Kept(i, b) => {
-            store(buffer, i, b);
-            take_in(session, BEGUN, b);
+        Some(Fit::Kept(i, b)) => {
+            laws::store(buffer, usize::from(i), b);
+            go_on(session, Stage::Begun, Some(b));
             Ok(())
         }
-        Fit::Wrong(b) => {
-            take_in(session, BROKEN_OFF, b);
+        Some(Fit::Wrong(b)) => {
+            go_on(session, Stage::BrokenOff, Some(b));
             Err(Error::VariantMismatch)
         }
     };
@@ -402,51 +398,27 @@ pub fn answer(session: &mut [u8], reply: Reply, buffer: &mut [u8]) -> Turn
     }
 }
 
-// An exchange more, without a byte read; the session goes on, or is broken off.
-fn go_on(session: &mut [u8], stage: u8)
+// An exchange more: the session is in this stage then, and a byte that came is the newest of the last three. Inlined, since each caller
+// knows the stage and whether a byte came.
+#[inline]
+fn go_on(session: &mut [u8], stage: Stage, came: Option<u8>)
     requires { going session.old }
-    ensures { session.new ≡ moved session.old stage [] }
+    ensures { session.new ≡ moved session.old (stage_code stage) (option_to_list came) }
 {
-    let bytes = [
-        stage,
-        session[MADE] + 1,
-        session[LAST],
-        session[LAST + 1],
-        session[LAST + 2],
-    ];
+    let made = session[MADE] + 1;
+    let [a, b, c] = [session[LAST], session[LAST + 1], session[LAST + 2]];
+    let bytes = match came {
+        None => [stage.into(), made, a, b, c],
+        Some(x) => [stage.into(), made, x, a, b],
+    };
     laws::lay(session, STAGE, &bytes);
-}
-
-// An exchange more, with the byte that was read.
-fn take_in(session: &mut [u8], stage: u8, b: u8)
-    requires { going session.old }
-    ensures { session.new ≡ moved session.old stage (b ∷ []) }
-{
-    let bytes = [
-        stage,
-        session[MADE] + 1,
-        b,
-        session[LAST],
-        session[LAST + 1],
-    ];
-    laws::lay(session, STAGE, &bytes);
-}
-
-// A byte goes to its own index, if the buffer has one.
-fn store(buffer: &mut [u8], i: u8, b: u8)
-    ensures { buffer.new ≡ set buffer.old i b }
-{
-    let i = i as usize;
-    if i < buffer.len() {
-        buffer[i] = b;
-    }
 }
 
 // How many exchanges were made; none of a session that was not begun.
 pub fn made(session: &[u8]) -> u8
     ensures { result ≡ count_in session.now }
 {
-    if session.len() == SESSION_SIZE && 0 < session[STAGE] {
+    if session.len() == SESSION_SIZE && Stage::from(session[STAGE]) != Stage::NotBegun {
         session[MADE]
     } else {
         0
@@ -454,6 +426,7 @@ pub fn made(session: &[u8]) -> u8
 }
 
 // Whether no step is left.
+#[tactic(auto, using(crate::proofs::Left::left_other))]
 pub fn is_over(session: &[u8]) -> bool
     ensures { result ≡ none_left (left session.now) }
 {
@@ -468,47 +441,35 @@ pub fn is_over(session: &[u8]) -> bool
 pub fn is_completed(session: &[u8]) -> bool
     ensures { result ≡ completed session.now }
 {
-    session.len() == SESSION_SIZE
-        && session[STAGE] == BEGUN
-        && session[STEPS].min(MOST_STEPS) + session[READS].min(MOST_READS) <= session[MADE]
+    session.as_array::<SESSION_SIZE>().is_some_and(|session| {
+        is_unbroken(session) && steps(session) + reads(session) <= session[MADE]
+    })
 }
 
-// How an answer fits the session, with n bytes lent.
-fn judge(session: &[u8], reply: Reply, n: usize) -> Fit
+// How an answer fits the session, with n bytes lent; `None` where it does not.
+#[tactic(auto, using(crate::proofs::Left::left_other, crate::proofs::Left::idle_none, crate::proofs::Answers::unfit_none))]
+fn judge(session: &[u8], reply: Reply, n: usize) -> Option<Fit>
     ensures { result ≡ fit_of session.now reply n }
 {
-    let Some(session) = session.as_array::<SESSION_SIZE>() else {
-        return Fit::Unfit;
-    };
-    match current(session) {
-        None => Fit::Unfit,
-        Some(step) => timely(is_resized(session, n), fitting(step, reply)),
+    let session = session.as_array::<SESSION_SIZE>()?;
+    let step = current(session)?;
+    if is_resized(session, n) {
+        return None;
     }
+    fitting(step, reply)
 }
 
-// An answer does not fit at all where the read buffer has changed.
-fn timely(resized: bool, fit: Fit) -> Fit
-    ensures { result ≡ cond resized Fit.Unfit fit }
-{
-    if resized { Fit::Unfit } else { fit }
-}
-
-fn fitting(step: Step, reply: Reply) -> Fit
+fn fitting(step: Step, reply: Reply) -> Option<Fit>
     ensures { result ≡ fitting_of step reply }
 {
     match (reply, step) {
-        (Reply::Failed(code), _) => Fit::Broke(code),
-        (Reply::Done, Step::Write(..) | Step::Update(..) | Step::Chunk(..)) => Fit::Went,
-        (Reply::Byte(b), Step::Read(_)) => Fit::Got(b),
-        (Reply::Byte(b), Step::Match(_, value)) => {
-            if b == value {
-                Fit::Got(b)
-            } else {
-                Fit::Wrong(b)
-            }
-        }
-        (Reply::Byte(b), Step::Store(index)) => Fit::Kept(index, b),
-        _ => Fit::Unfit,
+        (Reply::Failed(code), _) => Some(Fit::Broke(code)),
+        (Reply::Done, Step::Write(..) | Step::Update(..) | Step::Chunk(..)) => Some(Fit::Went),
+        (Reply::Byte(b), Step::Read(_)) => Some(Fit::Got(b)),
+        (Reply::Byte(b), Step::Match(_, value)) if b == value => Some(Fit::Got(b)),
+        (Reply::Byte(b), Step::Match(..)) => Some(Fit::Wrong(b)),
+        (Reply::Byte(b), Step::Store(index)) => Some(Fit::Kept(index, b)),
+        _ => None,
     }
 }
 
@@ -516,21 +477,12 @@ fn fitting(step: Step, reply: Reply) -> Fit
 fn is_resized(session: &[u8; SESSION_SIZE], n: usize) -> bool
     ensures { result ≡ resized session.now n }
 {
-    0 < session[READS] && n != room(session)
+    0 < reads(session) && n != room(session)
 }
 
 // The length that the read buffer had at the start.
 fn room(session: &[u8; SESSION_SIZE]) -> usize
     ensures { result ≡ room_in session.now }
 {
-    usize::from_le_bytes([
-        session[ROOM],
-        session[ROOM + 1],
-        session[ROOM + 2],
-        session[ROOM + 3],
-        session[ROOM + 4],
-        session[ROOM + 5],
-        session[ROOM + 6],
-        session[ROOM + 7],
-    ])
+    usize::from_le_bytes(*session[ROOM..].first_chunk().unwrap())
 }

@@ -1,5 +1,5 @@
 -- What a session gives in the end, and what an answer makes of the record lent with it: document 01, 'Exchanges'; document 02, CR 10.
-use Rattle.std.specs.Prelude.{ℕ, ◌+◌, ◌*◌, Bool, cond, ◌&&◌, List, [], ◌∷◌, eqb, get_or, Some, None}
+use Rattle.std.specs.Prelude.{ℕ, ◌+◌, ◌*◌, Bool, cond, ◌&&◌, List, [], ◌∷◌, eqb, get_or, Some, None, Option}
 use Rattle.laws.specs.Lists.{at}
 use Rattle.config.specs.Codes.{variant_code}
 use Rattle.exchange.specs.State.{is_session, count_in, last_in, completed, read_count, purpose_in, record_in}
@@ -7,7 +7,7 @@ use Rattle.exchange.specs.Turn.{Report}
 use Rattle.da728x.specs.declared.DA728x.{DA728x}
 use Rattle.da728x.specs.Record.{record_at}
 use Rattle.outcome.specs.declared.Change.{Change}
-use Rattle.outcome.specs.declared.Change.TheVariants.{Same, To, Sequences}
+use Rattle.outcome.specs.declared.Change.TheVariants.{To, Sequences}
 use Rattle.outcome.specs.declared.Outcome.{Outcome}
 use Rattle.outcome.specs.declared.Purpose.{Purpose}
 use Rattle.outcome.specs.declared.Purpose.TheVariants.{Command, New, Settings, Byte, ThreeBytes, Length, Upload}
@@ -39,44 +39,44 @@ big_endian n (b ∷ bytes) = big_endian (256 * n + b) bytes
 abbrev pub is_chip_of : DA728x → DA728x → Bool
 is_chip_of next r = eqb next.address r.address && eqb (variant_code next.variant) (variant_code r.variant)
 
-abbrev pub settling : DA728x → DA728x → Change
-settling next r = cond (is_chip_of next r) (To (record { address = r.address; variant = r.variant; settings = next.settings; sequences = r.sequences })) Same
+abbrev pub settling : DA728x → DA728x → Option Change
+settling next r = cond (is_chip_of next r) (Some (To (record { address = r.address; variant = r.variant; settings = next.settings; sequences = r.sequences }))) None
 
 abbrev pub for_upload : ℕ
 for_upload = 6
 
 -- the start of an upload: "zero .. from the first exchange of any upload". From the start on is ours: of the calls that are lent the record it is the
 -- last before that exchange is on the bus; where the lent bytes are no session, none will be made
-abbrev pub zeroing : List ℕ → Change
-zeroing st = cond (is_session st) (Sequences 0) Same
+abbrev pub zeroing : List ℕ → Option Change
+zeroing st = cond (is_session st) (Some (Sequences 0)) None
 
 -- as many sequences as are said, for a record of the address where the upload goes; that another record stays is ours
-abbrev pub counting : DA728x → ℕ → DA728x → Change
-counting next n r = cond (eqb next.address r.address) (Sequences n) Same
+abbrev pub counting : DA728x → ℕ → DA728x → Option Change
+counting next n r = cond (eqb next.address r.address) (Some (Sequences n)) None
 
 -- the last success of a session, by what it is for; "Settings are stored only after the last"
-abbrev pub change_for : ℕ → DA728x → DA728x → Change
-change_for purpose next r = get_or (Same ∷ To next ∷ settling next r ∷ Same ∷ Same ∷ Same ∷ counting next next.sequences r ∷ []) purpose Same
+abbrev pub change_for : ℕ → DA728x → DA728x → Option Change
+change_for purpose next r = get_or (None ∷ Some (To next) ∷ settling next r ∷ None ∷ None ∷ None ∷ counting next next.sequences r ∷ []) purpose None
 
 -- any other answer that is taken: "until its last succeeds, so an upload that ends in 17 leaves zero"
-abbrev pub change_before : ℕ → DA728x → DA728x → Change
-change_before purpose next r = cond (eqb purpose for_upload) (counting next 0 r) Same
+abbrev pub change_before : ℕ → DA728x → DA728x → Option Change
+change_before purpose next r = cond (eqb purpose for_upload) (counting next 0 r) None
 
 -- what an answer does to the record lent with it, where the session is `st` afterwards: one that is refused with 19 does nothing
-unfoldable pub change_by : List ℕ → Report → DA728x → Change
+unfoldable pub change_by : List ℕ → Report → DA728x → Option Change
 change_by st t r =
     let next = record_at (record_in st) in
     cond (is_session st)
-    (cond (t.ended && eqb t.number 0) (change_for (purpose_in st) next r) (cond (eqb t.number 19) Same (change_before (purpose_in st) next r))) Same
+    (cond (t.ended && eqb t.number 0) (change_for (purpose_in st) next r) (cond (eqb t.number 19) None (change_before (purpose_in st) next r))) None
 
 -- a record with so many sequences
 abbrev pub with_sequences : DA728x → ℕ → DA728x
 with_sequences r n = record { address = r.address; variant = r.variant; settings = r.settings; sequences = n }
 
-abbrev pub record_by : DA728x → Change → DA728x
-record_by r Same = r
-record_by r (To next) = next
-record_by r (Sequences n) = with_sequences r n
+abbrev pub record_by : DA728x → Option Change → DA728x
+record_by r None = r
+record_by r (Some (To next)) = next
+record_by r (Some (Sequences n)) = with_sequences r n
 
 -- what the operation answers
 abbrev pub value_in : List ℕ → ℕ

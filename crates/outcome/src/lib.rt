@@ -49,10 +49,9 @@ impl From<u8> for Purpose {
     }
 }
 
-// What a start, or an answer, makes of the record that is lent with it: nothing, another record, or another count of sequences.
+// What a start, or an answer, makes of the record that is lent with it, where it changes it: another record, or another count of sequences.
 #[derive(Debug, Clone, Copy, PartialEq, Eq)]
 pub enum Change {
-    Same,
     To(DA728x),
     Sequences(u8),
 }
@@ -73,13 +72,13 @@ fn purpose_of(session: &[u8; SESSION_SIZE]) -> Purpose
 // ---- what an answer makes of the record
 
 // The record after a change.
-pub fn changed(driver: DA728x, change: Change) -> DA728x
+pub fn changed(driver: DA728x, change: Option<Change>) -> DA728x
     ensures { result ≡ spec.record_by driver change }
 {
     match change {
-        Change::Same => driver,
-        Change::To(next) => next,
-        Change::Sequences(sequences) => DA728x {
+        None => driver,
+        Some(Change::To(next)) => next,
+        Some(Change::Sequences(sequences)) => DA728x {
             sequences,
             ..driver
         },
@@ -92,10 +91,7 @@ pub fn may_change(session: &[u8], turn: Turn) -> bool
     ensures { result
         ≡ (turn.ended && (is_session session.now && (eqb (purpose_in session.now) 1 || eqb (purpose_in session.now) 2))) }
 {
-    match session.as_array::<SESSION_SIZE>() {
-        Some(session) => turn.ended && has_record(session),
-        None => false,
-    }
+    turn.ended && session.as_array::<SESSION_SIZE>().is_some_and(has_record)
 }
 
 // Whether a session carries a record that its last success gives.
@@ -108,63 +104,56 @@ fn has_record(session: &[u8; SESSION_SIZE]) -> bool
 pub fn is_upload(session: &[u8]) -> bool
     ensures { result ≡ is_session session.now && eqb (purpose_in session.now) spec.for_upload }
 {
-    match session.as_array::<SESSION_SIZE>() {
-        Some(session) => purpose_of(session) == Purpose::Upload,
-        None => false,
-    }
+    session
+        .as_array::<SESSION_SIZE>()
+        .is_some_and(|session| purpose_of(session) == Purpose::Upload)
 }
 
 // What the start of an upload makes of the record, in a session of these bytes.
-pub fn zeroing(session: &[u8]) -> Change
+pub fn zeroing(session: &[u8]) -> Option<Change>
     ensures { result ≡ spec.zeroing session.now }
 {
-    if session.len() == SESSION_SIZE {
-        Change::Sequences(0)
-    } else {
-        Change::Same
-    }
+    (session.len() == SESSION_SIZE).then_some(Change::Sequences(0))
 }
 
 // What an answer that gave this turn makes of the record that was lent with it; the session is as the answer left it.
 #[tactic(auto, unfolding(crate::specs::Outcome::change_by))]
-pub fn change_by(driver: DA728x, session: &[u8], turn: Turn) -> Change
+pub fn change_by(driver: DA728x, session: &[u8], turn: Turn) -> Option<Change>
     ensures { result ≡ spec.change_by session.now (turn_report turn) driver }
 {
-    let Some(session) = session.as_array::<SESSION_SIZE>() else {
-        return Change::Same;
-    };
+    let session = session.as_array::<SESSION_SIZE>()?;
     if turn.is_last() {
         change_for(driver, session)
     } else if turn.is_taken() {
         change_before(driver, session)
     } else {
-        Change::Same
+        None
     }
 }
 
 // The last success.
-fn change_for(driver: DA728x, session: &[u8; SESSION_SIZE]) -> Change
+fn change_for(driver: DA728x, session: &[u8; SESSION_SIZE]) -> Option<Change>
     ensures { result ≡ spec.change_for (purpose_in session.now) (record_at (record_in session.now)) driver }
 {
     match purpose_of(session) {
-        Purpose::New => Change::To(carried(session)),
+        Purpose::New => Some(Change::To(carried(session))),
         Purpose::Settings => settle(carried(session), driver),
         Purpose::Upload => {
             let next = carried(session);
             count(next, next.sequences, driver)
         }
-        _ => Change::Same,
+        _ => None,
     }
 }
 
 // Any other answer that was taken.
-fn change_before(driver: DA728x, session: &[u8; SESSION_SIZE]) -> Change
+fn change_before(driver: DA728x, session: &[u8; SESSION_SIZE]) -> Option<Change>
     ensures { result ≡ spec.change_before (purpose_in session.now) (record_at (record_in session.now)) driver }
 {
     if purpose_of(session) == Purpose::Upload {
         count(carried(session), 0, driver)
     } else {
-        Change::Same
+        None
     }
 }
 
@@ -176,28 +165,20 @@ fn carried(session: &[u8; SESSION_SIZE]) -> DA728x
 }
 
 // The settings of another record of the same chip.
-fn settle(next: DA728x, driver: DA728x) -> Change
+fn settle(next: DA728x, driver: DA728x) -> Option<Change>
     ensures { result ≡ spec.settling next driver }
 {
-    if is_chip_of(next, driver) {
-        Change::To(DA728x {
-            settings: next.settings,
-            ..driver
-        })
-    } else {
-        Change::Same
-    }
+    is_chip_of(next, driver).then_some(Change::To(DA728x {
+        settings: next.settings,
+        ..driver
+    }))
 }
 
 // So many sequences, where the upload goes to the record's address.
-fn count(next: DA728x, sequences: u8, driver: DA728x) -> Change
+fn count(next: DA728x, sequences: u8, driver: DA728x) -> Option<Change>
     ensures { result ≡ spec.counting next sequences driver }
 {
-    if driver.address == next.address {
-        Change::Sequences(sequences)
-    } else {
-        Change::Same
-    }
+    (driver.address == next.address).then_some(Change::Sequences(sequences))
 }
 
 fn is_chip_of(next: DA728x, driver: DA728x) -> bool
@@ -224,27 +205,21 @@ fn answer_of(session: &[u8]) -> Option<u32>
     ensures { result ≡ cond (completed session.now) (Some (spec.value_in session.now)) None }
 {
     let session = session.as_array::<SESSION_SIZE>()?;
-    if exchange::is_completed(session) {
-        Some(value(session))
-    } else {
-        None
-    }
+    exchange::is_completed(session).then(|| value(session))
 }
 
 fn value(session: &[u8; SESSION_SIZE]) -> u32
     ensures { result ≡ spec.value_in session.now }
 {
-    let last = session[exchange::LAST];
+    let [last, second, third] = [
+        session[exchange::LAST],
+        session[exchange::LAST + 1],
+        session[exchange::LAST + 2],
+    ];
     match purpose_of(session) {
-        Purpose::Byte => last as u32,
-        Purpose::ThreeBytes => u32::from_be_bytes([
-            0,
-            session[exchange::LAST + 2],
-            session[exchange::LAST + 1],
-            last,
-        ]),
-        // no more bytes than the memory has
-        Purpose::Length => session[exchange::READS].min(100) as u32,
+        Purpose::Byte => last.into(),
+        Purpose::ThreeBytes => u32::from_be_bytes([0, third, second, last]),
+        Purpose::Length => session[exchange::READS].min(exchange::MOST_READS).into(),
         _ => 0,
     }
 }

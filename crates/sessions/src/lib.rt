@@ -29,7 +29,7 @@ pub fn opening<'a>(address: u8, purpose: u8) -> Opening<'a>
         room: 0,
         purpose,
         image: &[0; 100],
-        record: &[0; exchange::RECORD_SIZE],
+        record: &[0; da728x::RECORD_SIZE],
     }
 }
 

@@ -64,7 +64,7 @@ impl Case<'_> {
     // Whether the session of this kind does what the case tells. The record is lent with the start and with each answer; bytes of the
     // marker, where the case has none.
     fn agrees(&self, kind: Kind) -> bool {
-        let mut record = [MARKER; exchange::RECORD_SIZE];
+        let mut record = [MARKER; da728x::RECORD_SIZE];
         laws::copy_into(&mut record, self.record);
         let before = record;
         let after = if self.after.is_empty() {

@@ -1,10 +1,19 @@
--- The bytes of the length are those of the definition.
-use Rattle.std.proofs.Common.{ℕ, ap, ◌∙◌, List, [], ◌∷◌, slice_index_or}
-use Rattle.exchange.proofs.Laid.{low_first}
+-- The bytes of the length, as std gives them, are those of the definition.
+use Rattle.std.proofs.Common.{◌≡◌, ap, ◌∙◌, ◌/◌, ◌%◌, [], ◌∷◌, slice_set, arith}
+use Rattle.laws.specs.Copied.{over}
 use Rattle.exchange.proofs.heading.Goals as goal
 
 pub returns : goal.returns
 returns c =
     let o = c.args.opening in
-    ap (λ (l : List ℕ). o.address ∷ 1 ∷ 0 ∷ 0 ∷ 0 ∷ 0 ∷ 0 ∷ o.reads ∷ slice_index_or l 0 0 ∷ slice_index_or l 1 0 ∷ slice_index_or l 2 0 ∷ slice_index_or l 3 0 ∷ slice_index_or l 4 0 ∷ slice_index_or l 5 0 ∷ slice_index_or l 6 0 ∷ slice_index_or l 7 0 ∷ o.purpose ∷ [])
-    (c.to_le_bytes.ensures ∙ low_first o.room)
+    let n = o.room in
+    let w = c.to_le_bytes.ensures in
+    let b : n / 65536 % 256 ≡ n / 256 / 256 % 256 = omega arith in
+    let d : n / 16777216 % 256 ≡ n / 256 / 256 / 256 % 256 = omega arith in
+    let e : n / 4294967296 % 256 ≡ n / 256 / 256 / 256 / 256 % 256 = omega arith in
+    let f : n / 1099511627776 % 256 ≡ n / 256 / 256 / 256 / 256 / 256 % 256 = omega arith in
+    let g : n / 281474976710656 % 256 ≡ n / 256 / 256 / 256 / 256 / 256 / 256 % 256 = omega arith in
+    let h : n / 72057594037927936 % 256 ≡ n / 256 / 256 / 256 / 256 / 256 / 256 / 256 % 256 = omega arith in
+    let m = w ∙ (λ i. n % 256 ∷ n / 256 % 256 ∷ b i ∷ d i ∷ e i ∷ f i ∷ g i ∷ h i ∷ []) in
+    ap (λ l. slice_set l 16 o.purpose)
+    (c.lay.ensures ∙ (λ i. over (o.address ∷ c.into.ensures i ∷ 0 ∷ 0 ∷ 0 ∷ 0 ∷ 0 ∷ o.reads ∷ 0 ∷ 0 ∷ 0 ∷ 0 ∷ 0 ∷ 0 ∷ 0 ∷ 0 ∷ 0 ∷ []) 8 (m i)))
