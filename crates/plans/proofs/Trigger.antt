@@ -8,7 +8,7 @@ use Prim.Native.Nat.{min}
 use Rattle.std.specs.Prelude.{filter, Option, Some, None}
 use Rattle.std.proofs.lemmas.List.Elements.{filter-append}
 use Prim.Native.String.{String, ◌++◌ as ◌&◌}
-use lib.Dec.{T, eqb}
+use lib.Dec.{eqb}
 use Rattle.laws.proofs.Tests.{all, same₃}
 use Rattle.field.specs.Field.{with_of}
 use Rattle.field.proofs.Methods.{with_masked}
@@ -42,7 +42,7 @@ sum p m n = p + 4 * m + 8 * n
 
 -- the test: they are added, whatever they are
 abbrev Added : String → Type 0
-Added digit = T (all (λ p. all (λ m. all (λ n. eqb (fields digit p m n) (sum p m n)) 16) 2) 3)
+Added digit = all (λ p. all (λ m. all (λ n. eqb (fields digit p m n) (sum p m n)) 16) 2) 3 ≡ true
 
 polarity_code_lem : (p : TriggerPolarity) → (polarity_code p ≡ polarity_bits p) × (polarity_bits p < 3)
 polarity_code_lem Rising = (refl, omega arith)
