@@ -11,11 +11,9 @@ use Rattle.assemble.proofs.run.Goals as goal
 pub loop-i-init : goal.loop-i-init
 loop-i-init c = record {
   four = search rules;
-  snippets = search rules;
-  sequences = search rules;
   runs =
       rw (c.into_iter-i-iterator.ensures.into_iter_gives, c.enumerate-i-items.ensures.source, c.enumerate-i-items.ensures.count, c.chunks-records.ensures.rest)
-      (begun c.args.calls.now c.args.answers.now c.new-b.ensures c.requires.0 c.requires.1);
+      (begun c.args.calls.now c.args.answers.now c.new-b.ensures c.requires);
 }
 
 pub loop-i-preserved : goal.loop-i-preserved
@@ -28,11 +26,9 @@ loop-i-preserved c =
     let told = first_or l.first c.step-answer.result c.in-Some.i _ _ _ c.or-first.ensures made c.err.ensures.value in
     record {
       four = search rules;
-      snippets = search rules;
-      sequences = search rules;
       runs =
-          turn l.invariant.runs _ _ _ _ _ _ _ _ _ _ _ _ next.0.1.2 next.0.1.0 four next.1 next.2 (ap call_of c.read.ensures) c.step-answer.ensures refl refl
-          (c.put.ensures ∙ ap (set l.answers c.in-Some.i) c.number.ensures) told;
+          turn l.invariant.runs _ _ _ _ _ _ _ _ _ _ _ next.0.1.2 next.0.1.0 four next.1 next.2 refl c.step-answer.ensures refl refl
+          (c.store.ensures ∙ ap (set l.answers c.in-Some.i) c.number.ensures) told;
     }
 
 pub returns-clause-builders : goal.returns-clause-builders
