@@ -1,6 +1,6 @@
 -- A step of the memory's builder, made on the pools that keep its items: one law for snippets and sequences.
 -- Assumes nothing.
-use mathlib.Core.Path.{◌≡◌, refl, sym, ap, ◌∙◌, subst}
+use mathlib.Core.Path.{◌≡◌, refl, sym, ap, ◌∙◌}
 use mathlib.Core.Bool.{Bool, true, false, cond}
 use mathlib.Core.List.{List, [], ◌∷◌, ◌++◌, map, map-append}
 use Prim.Native.Nat.{ℕ, ◌+◌, ◌≤◌, ◌<◌}
@@ -11,16 +11,11 @@ use lib.Dec.{ltb, leb}
 use lib.ListN.{length, set, take, replicate, length-set, length-map, length-take}
 use lib.Seq.{take-suc-set}
 use Rattle.laws.specs.Whole.{whole, whole_out}
-use Rattle.laws.proofs.Tests.{choice}
-use Rattle.errors.specs.Told.{Told, gives, refuses, told_by, told_number, Handed, handed, Built, built, accepted, refused}
+use Rattle.errors.specs.Told.{Told, gives, refuses, told_by, told_number, Handed, Built, accepted, refused}
 use Rattle.snippet.specs.declared.Snippet.{Snippet}
-use Rattle.snippet.specs.declared.SnippetBuilder.{SnippetBuilder}
-use Rattle.snippet.specs.Snippet.{snippet_bytes, built_snippet}
+use Rattle.snippet.specs.Snippet.{snippet_bytes}
 use Rattle.sequence.specs.declared.Sequence.{Sequence}
-use Rattle.sequence.specs.declared.SequenceBuilder.{SequenceBuilder}
-use Rattle.sequence.specs.Sequence.{sequence_bytes, built_sequence}
-use Rattle.calls.specs.Said as Call
-use Rattle.calls.specs.declared.Builders.{Builders}
+use Rattle.sequence.specs.Sequence.{sequence_bytes}
 use Rattle.memory.specs.Image.{image_bytes}
 use Rattle.memory.specs.Memory.{new_memory, snippet_items, sequence_items, no_memory, memory_of, image_number, built_memory}
 use Rattle.memory.specs.declared.WaveformMemoryBuilder.{WaveformMemoryBuilder}
@@ -28,8 +23,7 @@ use Rattle.assemble.specs.declared.pool.Pool.{Pool}
 use Rattle.assemble.specs.declared.pool.Kept.{Kept}
 use Rattle.assemble.specs.Kept.{kept, nothing_kept, Pushed, ImageLaid}
 use Rattle.assemble.proofs.Keeping.{count}
-use Rattle.assemble.specs.Flat.{less_snippet, less_sequence}
-use Rattle.assemble.specs.Holding.{Keeps, KeepsMemory, StepsMemory}
+use Rattle.assemble.specs.Holding.{Keeps, KeepsMemory}
 
 -- ---- an array whose first n items are kept
 
@@ -134,38 +128,6 @@ module _ {A : Type 0} {most : ℕ} {f : A → List ℕ} (side : Side A most f) w
 
       pub put_in : (n : ℕ) → n ≡ cond (ltb p.count most) 0 side.full → Steps r p n p'
       put_in n g m h = simp (le-ltb 0 r.number (omega (arith, z))) (by n (ltb p.count most) g m h refl)
-
--- ---- an add that reaches the pool, as the code answers it
-
-module _ (b : Builders) (k : Kept) (call : Call.Call) (n : ℕ) (told : Handed Builders) where
-  pub snippet_put : call ≡ Call.add_snippet → (s : Snippet) → built 0 s b.snippet ≡ built_snippet b.snippet → (x : List ℕ) → x ≡ snippet_bytes s
-      → (p : Pool 15) → Pushed 15 x k.snippets p → n ≡ cond (ltb k.snippets.count 15) 0 6 → told ≡ handed n (less_snippet b n)
-      → StepsMemory b call k told (record { snippets = p; sequences = k.sequences })
-  snippet_put e s f x g p q h t =
-      subst (λ (c : Call.Call). StepsMemory b c k told (record { snippets = p; sequences = k.sequences })) (sym e)
-      (λ m w.
-      let stays = λ (h : Handed WaveformMemoryBuilder). Keeps 16 sequence_bytes h.builder.sequences h.builder.num_sequences k.sequences in
-      let other = choice stays (ltb 0 (built_snippet b.snippet).number) _ _ w.1 (choice stays (leb 15 m.num_snippets) _ _ w.1 w.1) in
-      let r = subst (λ (r : Built Snippet SnippetBuilder). Steps snippets r k.snippets n p) f (put_in snippets (built 0 s b.snippet) k.snippets refl p x g q n h) m w.0 in
-      (t ∙ ap (λ (j : ℕ). handed j (less_snippet b j)) r.0, (r.1, other)))
-
-  pub sequence_put : call ≡ Call.add_sequence → (s : Sequence) → built 0 s b.sequence ≡ built_sequence b.sequence → (x : List ℕ) → x ≡ sequence_bytes s
-      → (p : Pool 16) → Pushed 16 x k.sequences p → n ≡ cond (ltb k.sequences.count 16) 0 7 → told ≡ handed n (less_sequence b n)
-      → StepsMemory b call k told (record { snippets = k.snippets; sequences = p })
-  sequence_put e s f x g p q h t =
-      subst (λ (c : Call.Call). StepsMemory b c k told (record { snippets = k.snippets; sequences = p })) (sym e)
-      (λ m w.
-      let stays = λ (h : Handed WaveformMemoryBuilder). Keeps 15 snippet_bytes h.builder.snippets h.builder.num_snippets k.snippets in
-      let other = choice stays (ltb 0 (built_sequence b.sequence).number) _ _ w.0 (choice stays (leb 16 m.num_sequences) _ _ w.0 w.0) in
-      let r = subst (λ (r : Built Sequence SequenceBuilder). Steps sequences r k.sequences n p) f (put_in sequences (built 0 s b.sequence) k.sequences refl p x g q n h) m w.1 in
-      (t ∙ ap (λ (j : ℕ). handed j (less_sequence b j)) r.0, (other, r.1)))
-
--- a refused add leaves what was asked for
-pub refused_snippet : (b : Builders) (n : ℕ) → 1 ≤ n → b ≡ less_snippet b n
-refused_snippet b n h = simp (lt-ltb 0 n (omega arith)) refl
-
-pub refused_sequence : (b : Builders) (n : ℕ) → 1 ≤ n → b ≡ less_sequence b n
-refused_sequence b n h = simp (lt-ltb 0 n (omega arith)) refl
 
 -- ---- from nothing to an image
 

@@ -17,8 +17,21 @@ pub record Keeps {A : Type 0} (most : ℕ) (bytes : A → List ℕ) (array : Lis
   pub room : n ≤ most
   pub same : p ≡ kept most (map bytes (take n array))
 
+abbrev pub KeepsSnippets : WaveformMemoryBuilder → Pool 15 → Type 0
+KeepsSnippets m p = Keeps 15 snippet_bytes m.snippets m.num_snippets p
+
+abbrev pub KeepsSequences : WaveformMemoryBuilder → Pool 16 → Type 0
+KeepsSequences m p = Keeps 16 sequence_bytes m.sequences m.num_sequences p
+
 abbrev pub KeepsMemory : WaveformMemoryBuilder → Kept → Type 0
-KeepsMemory m k = Keeps 15 snippet_bytes m.snippets m.num_snippets k.snippets × Keeps 16 sequence_bytes m.sequences m.num_sequences k.sequences
+KeepsMemory m k = KeepsSnippets m k.snippets × KeepsSequences m k.sequences
+
+-- a step of the builder, told by its number n, with the pool before and after it
+abbrev pub StepsSnippets : (WaveformMemoryBuilder → Handed WaveformMemoryBuilder) → Pool 15 → ℕ → Pool 15 → Type 0
+StepsSnippets step p n p' = (m : WaveformMemoryBuilder) → KeepsSnippets m p → (n ≡ (step m).number) × KeepsSnippets (step m).builder p'
+
+abbrev pub StepsSequences : (WaveformMemoryBuilder → Handed WaveformMemoryBuilder) → Pool 16 → ℕ → Pool 16 → Type 0
+StepsSequences step p n p' = (m : WaveformMemoryBuilder) → KeepsSequences m p → (n ≡ (step m).number) × KeepsSequences (step m).builder p'
 
 -- the three builders with the number of a call
 abbrev pub shown_by : Handed State → Handed Builders

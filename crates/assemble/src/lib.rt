@@ -14,17 +14,20 @@ ghost use Rattle.laws.specs.Copied.{copied};
 ghost use Rattle.laws.specs.Whole.{whole_out};
 ghost use Rattle.errors.specs.Number.{answer_number};
 ghost use Rattle.errors.specs.Told.{handed};
+ghost use Rattle.snippet.specs.Snippet.{built_snippet};
+ghost use Rattle.sequence.specs.Sequence.{built_sequence};
+ghost use Rattle.memory.specs.Memory.{with_snippet, with_sequence};
 ghost use Rattle.calls.specs.Calls.{calls_in, first_record, call_of};
-ghost use Rattle.pattern.specs.Calls.{memory_from};
+ghost use Rattle.pattern.specs.Calls.{memory_from, with_built};
 ghost use Rattle.assemble.specs.Lists.{groups_of, answers_of, builders_of, first_refused};
 ghost use Rattle.assemble.specs.Items.{image_item, strict_item, leniently, strictly};
-ghost use Rattle.assemble.specs.Kept.{nothing_kept};
-ghost use Rattle.assemble.specs.Holding.{KeepsMemory, StepsMemory};
+ghost use Rattle.assemble.specs.Holding.{KeepsMemory, StepsSnippets, StepsSequences, StepsMemory};
 ghost use Rattle.assemble.specs.Refusal.{refusal_number, first_number, strict_number};
 
 use calls::{Builders, Call};
 use errors::Error;
-use pool::Kept;
+use memory::{MAX_SEQUENCES, MAX_SNIPPETS};
+use pool::{Kept, Pool};
 use sequence::SequenceBuilder;
 use snippet::SnippetBuilder;
 
@@ -47,10 +50,11 @@ impl Refusal {
     }
 }
 
-// What a run leaves: the builders, how many calls there were, and the first refusal.
+// What a run leaves: the builders, the items kept, how many calls there were, and the first refusal.
 #[derive(Clone, Copy)]
 struct Ran {
     builders: Builders,
+    kept: Kept,
     count: usize,
     first: Option<Refusal>,
 }
@@ -60,16 +64,14 @@ pub fn answers(calls: &[u8], answers: &mut [u8]) -> usize
     ensures count { result ≡ length (calls_in calls.now) }
     ensures answers { answers.new ≡ copied answers.old (answers_of calls.now) }
 {
-    let mut kept = Kept::new();
-    run(calls, answers, &mut kept).count
+    run(calls, answers).count
 }
 
 // The snippet, the frame and the sequence under construction after the calls.
 pub fn builders(calls: &[u8]) -> Builders
     ensures { result ≡ builders_of calls.now }
 {
-    let mut kept = Kept::new();
-    run(calls, &mut [], &mut kept).builders
+    run(calls, &mut []).builders
 }
 
 // Builds the image of what the accepted calls added, whatever other calls were refused; it goes whole to the front of `image`. Answers the
@@ -78,9 +80,7 @@ pub fn assemble(calls: &[u8], image: &mut [u8]) -> Result<(), Error>
     ensures answer { answer_number result ≡ leniently image.old calls.now }
     ensures image { image.new ≡ whole_out image.old (image_item calls.now) }
 {
-    let mut kept = Kept::new();
-    run(calls, &mut [], &mut kept);
-    kept.image(image)
+    run(calls, &mut []).kept.image(image)
 }
 
 // Builds the image only if no call is refused. Answers the first refusal with its place (the build's own and BufferTooShort come with place 0); a
@@ -89,37 +89,38 @@ pub fn assemble_strict(calls: &[u8], image: &mut [u8]) -> Result<(), Refusal>
     ensures answer { strict_number result ≡ strictly image.old calls.now }
     ensures image { image.new ≡ whole_out image.old (strict_item calls.now) }
 {
-    let mut kept = Kept::new();
-    match run(calls, &mut [], &mut kept).first {
+    let ran = run(calls, &mut []);
+    match ran.first {
         Some(refusal) => Err(refusal),
-        None => match kept.image(image) {
-            Ok(()) => Ok(()),
-            Err(error) => Err(Refusal { error, place: 0 }),
-        },
+        None => ran
+            .kept
+            .image(image)
+            .map_err(|error| Refusal { error, place: 0 }),
     }
 }
 
-// Runs the calls on new builders, the memory's items kept apart; the answers go to the front of the buffer, as many as fit.
-fn run(calls: &[u8], answers: &mut [u8], kept: &mut Kept) -> Ran
-    requires { kept.old ≡ nothing_kept }
+// Runs the calls on new builders; the answers go to the front of the buffer, as many as fit.
+fn run(calls: &[u8], answers: &mut [u8]) -> Ran
     ensures builders { result.builders ≡ builders_of calls.now }
     ensures count { result.count ≡ length (calls_in calls.now) }
     ensures told { first_number result.first ≡ first_refused 0 (answers_of calls.now) }
     ensures answers { answers.new ≡ copied answers.old (answers_of calls.now) }
-    ensures memory { KeepsMemory (memory_from false (groups_of calls.now).memory) kept.new }
+    ensures memory { KeepsMemory (memory_from false (groups_of calls.now).memory) result.kept }
 {
     let mut b = Builders::new();
+    let mut kept = Kept::new();
     let mut first = None;
     let records = calls.chunks(4);
     let count = records.len();
     for (i, record) in records.enumerate() {
-        let answer = step(&mut b, record, kept);
+        let answer = step(&mut b, record, &mut kept);
         laws::store(answers, i, errors::number(answer));
         let place = i + 1;
         first = first.or(answer.err().map(|error| Refusal { error, place }));
     }
     Ran {
         builders: b,
+        kept,
         count,
         first,
     }
@@ -131,21 +132,34 @@ fn step(b: &mut Builders, record: &[u8], kept: &mut Kept) -> Result<(), Error>
 {
     match Call::read(record)? {
         Call::AddSnippet => {
-            let snippet = b.snippet.build()?;
-            kept.snippets.push(
-                &snippet.bytes()[..snippet.byte_len()],
-                Error::TooManySnippets,
-            )?;
+            add_snippet(&mut kept.snippets, b.snippet)?;
             b.snippet = SnippetBuilder::new();
             Ok(())
         }
         Call::AddSequence => {
-            let sequence = b.sequence.build()?;
-            kept.sequences
-                .push(sequence.as_bytes(), Error::TooManySequences)?;
+            add_sequence(&mut kept.sequences, b.sequence)?;
             b.sequence = SequenceBuilder::new();
             Ok(())
         }
         call => b.apply(call),
     }
+}
+
+// Puts the snippet behind the others, if it can be built.
+fn add_snippet(pool: &mut Pool<MAX_SNIPPETS>, b: SnippetBuilder) -> Result<(), Error>
+    ensures { StepsSnippets (λ m. with_built with_snippet m (built_snippet b)) pool.old (answer_number result) pool.new }
+{
+    let snippet = b.build()?;
+    pool.push(
+        &snippet.bytes()[..snippet.byte_len()],
+        Error::TooManySnippets,
+    )
+}
+
+// Puts the sequence behind the others, if it can be built.
+fn add_sequence(pool: &mut Pool<MAX_SEQUENCES>, b: SequenceBuilder) -> Result<(), Error>
+    ensures { StepsSequences (λ m. with_built with_sequence m (built_sequence b)) pool.old (answer_number result) pool.new }
+{
+    let sequence = b.build()?;
+    pool.push(sequence.as_bytes(), Error::TooManySequences)
 }

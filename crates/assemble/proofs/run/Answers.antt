@@ -13,7 +13,7 @@ loop-i-init c = record {
   four = search rules;
   runs =
       rw (c.into_iter-i-iterator.ensures.into_iter_gives, c.enumerate-i-items.ensures.source, c.enumerate-i-items.ensures.count, c.chunks-records.ensures.rest)
-      (begun c.args.calls.now c.args.answers.now c.new-b.ensures c.requires);
+      (begun c.args.calls.now c.args.answers.now c.new-b.ensures c.new-kept.ensures);
 }
 
 pub loop-i-preserved : goal.loop-i-preserved
