@@ -35,30 +35,6 @@ use Rattle.assemble.specs.Kept.{nothing_kept}
 use Rattle.assemble.specs.Holding.{KeepsMemory, StepsMemory, shown_by}
 use Rattle.assemble.proofs.Holding.{keeps_none}
 
--- ---- one call
-
--- a call that adds nothing to the memory
-abbrev pub Small : Call → Type 0
-Small (Call.builder j) = Unit
-Small Call.add_snippet = ⊥
-Small Call.add_sequence = ⊥
-Small Call.unknown = Unit
-
-module _ (b : Builders) (call : Call) (k : Kept) (t : Handed Builders) where
-  pub small_step : Small call → t ≡ called_by b call → StepsMemory b call k t k
-  small_step h f m w = (f ∙ same call h, kept call h) where
-    same : (c : Call) → Small c → called_by b c ≡ shown_by (flat_called (state b m) c)
-    same (Call.builder j) h = refl
-    same Call.add_snippet h = absurd h
-    same Call.add_sequence h = absurd h
-    same Call.unknown h = refl
-
-    kept : (c : Call) → Small c → KeepsMemory (flat_called (state b m) c).builder.memory k
-    kept (Call.builder j) h = w
-    kept Call.add_snippet h = absurd h
-    kept Call.add_sequence h = absurd h
-    kept Call.unknown h = w
-
 -- ---- the bytes in chunks of four
 
 -- the first chunk says the first call, and what is behind it the others

@@ -42,7 +42,8 @@ pub struct Refusal {
 }
 
 impl Refusal {
-    // The refusal's number and 256 times its place; a later place counts as the last that has room.
+    // The refusal's number and 256 times its place; a later place counts as the last that has room. No `From`: the number is C's word, and the
+    // error in it has a number of its own.
     pub fn number(self) -> u32
         ensures { result ≡ refusal_number self }
     {
@@ -107,23 +108,22 @@ fn run(calls: &[u8], answers: &mut [u8]) -> Ran
     ensures answers { answers.new ≡ copied answers.old (answers_of calls.now) }
     ensures memory { KeepsMemory (memory_from false (groups_of calls.now).memory) result.kept }
 {
-    let mut b = Builders::new();
-    let mut kept = Kept::new();
-    let mut first = None;
     let records = calls.chunks(4);
-    let count = records.len();
+    let mut ran = Ran {
+        builders: Builders::new(),
+        kept: Kept::new(),
+        count: records.len(),
+        first: None,
+    };
     for (i, record) in records.enumerate() {
-        let answer = step(&mut b, record, &mut kept);
+        let answer = step(&mut ran.builders, record, &mut ran.kept);
         laws::store(answers, i, errors::number(answer));
         let place = i + 1;
-        first = first.or(answer.err().map(|error| Refusal { error, place }));
+        ran.first = ran
+            .first
+            .or(answer.err().map(|error| Refusal { error, place }));
     }
-    Ran {
-        builders: b,
-        kept,
-        count,
-        first,
-    }
+    ran
 }
 
 // Makes the call that a record says, on the builders or on the items kept. An item that was accepted is used up.
@@ -145,7 +145,8 @@ fn step(b: &mut Builders, record: &[u8], kept: &mut Kept) -> Result<(), Error>
     }
 }
 
-// Puts the snippet behind the others, if it can be built.
+// Puts the snippet behind the others, if it can be built. Two functions over `push`: a snippet's bytes come by value and a sequence's are lent, so
+// one would take a trait longer than both; written out in the arms of `step`, an image took 8,566 instructions for 7,981.
 fn add_snippet(pool: &mut Pool<MAX_SNIPPETS>, b: SnippetBuilder) -> Result<(), Error>
     ensures { StepsSnippets (λ m. with_built with_snippet m (built_snippet b)) pool.old (answer_number result) pool.new }
 {

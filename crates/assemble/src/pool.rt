@@ -9,8 +9,8 @@ ghost use Rattle.assemble.specs.Kept.{ends, no_items, nothing_kept, Pushed, Fits
 use errors::Error;
 use memory::{MAX_MEMORY_SIZE, MAX_SEQUENCES, MAX_SNIPPETS};
 
-// Bytes and not `WaveformMemoryBuilder`: by value, its sixteen sequences of 96 bytes took an image from 0.71 to 1.60 times the Rust's instructions
-// (docs/PERFORMANCE.md, 'Images'). A hundred bytes have room, since an image of more is refused.
+// Bytes and not `WaveformMemoryBuilder`: with that an image took 1.6 times the Rust's instructions, and 0.9 with these (docs/DECISIONS.md, 'Speed').
+// A hundred have room, since an image of more is refused.
 #[derive(Clone, Copy)]
 pub(crate) struct Pool<const MOST: usize> {
     count: u8,
@@ -101,7 +101,8 @@ impl Kept {
     }
 }
 
-// The lengths and the bytes of snippets and sequences as an image, in which they fit.
+// The lengths and the bytes of snippets and sequences as an image, in which they fit. Not by `memory`'s `image_of`: its items are values with bytes
+// of their own, one laid after the other, and these lie end to end already and are copied at once.
 fn laid(
     snippet_lens: &[u8],
     snippets: &[u8],

@@ -7,5 +7,6 @@ use Rattle.assemble.proofs.run.Given as goal
 abbrev pub invariant-loop-i : goal.invariant-loop-i
 invariant-loop-i l = record {
   four : l.i-iterator.iter.size ≡ 4;
-  runs : Running l.calls l.fn.answers l.answers l.kept l.b l.i-iterator.iter.rest.now l.i-iterator.count (first_number l.first);
+  count : l.ran.count ≡ l.initial.ran.count;
+  runs : Running l.calls l.fn.answers l.answers l.ran.kept l.ran.builders l.i-iterator.iter.rest.now l.i-iterator.count (first_number l.ran.first);
 }
