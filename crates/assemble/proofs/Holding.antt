@@ -8,7 +8,7 @@ use native.Mathlib.Numerals.{add-one}
 use native.Mathlib.Omega.{arith}
 use borrow.Author.Tests.{lt-ltb, le-ltb, le-leb, lt-leb, ltb-true, ltb-false}
 use lib.Dec.{ltb, leb}
-use lib.ListN.{length, set, take, replicate, length-set, length-map, length-take}
+use lib.ListN.{length, set, take, length-set, length-map, length-take}
 use lib.Seq.{take-suc-set}
 use Rattle.laws.specs.Whole.{whole, whole_out}
 use Rattle.errors.specs.Told.{Told, gives, refuses, told_by, told_number, Handed, Built, accepted, refused}

@@ -3,20 +3,18 @@
 use mathlib.Core.Path.{◌≡◌, refl, sym, ap, ap₂, ◌∙◌, subst}
 use mathlib.Core.Bool.{Bool, true, false, cond}
 use mathlib.Core.List.{List, [], ◌∷◌, ◌++◌}
-use Prim.Native.Nat.{ℕ, zero, suc, ◌+◌, ◌*◌, ◌≤◌, ◌<◌, min}
-use native.Mathlib.Decide.{ℕ_discrete, dec_le}
+use Prim.Native.Nat.{ℕ, suc, ◌+◌, ◌*◌, ◌≤◌, ◌<◌, min}
 use native.Mathlib.Omega.{arith}
 use borrow.Author.Tests.{lt-ltb, ltb-true, ltb-false}
 use lib.Dec.{ltb}
-use lib.ListN.{length, take, get_or, set, get_or-eq_default, replicate}
+use lib.ListN.{length, set}
 use lib.Seq.{sets}
-use Rattle.laws.specs.Bytes.{All}
 use Rattle.laws.specs.Copied.{copied}
 use Rattle.laws.proofs.Answers.{sets_copied}
 use Rattle.errors.specs.Told.{Handed}
 use Rattle.calls.specs.Said.{Call}
 use Rattle.calls.specs.declared.Builders.{Builders}
-use Rattle.calls.specs.Calls.{started, first_record, call_of, calls_in, called_by}
+use Rattle.calls.specs.Calls.{started, first_record, call_of, calls_in}
 use Rattle.calls.proofs.Turns.{calls_none}
 use Rattle.memory.specs.declared.WaveformMemoryBuilder.{WaveformMemoryBuilder}
 use Rattle.assemble.specs.Lists.{with_place, first_refused}
@@ -32,7 +30,7 @@ use Rattle.assemble.specs.Flat.{State, state, flat_called}
 use Rattle.assemble.proofs.Flat.{nothing_yet, flat_after, flat_answers}
 use Rattle.assemble.specs.declared.pool.Kept.{Kept}
 use Rattle.assemble.specs.Kept.{nothing_kept}
-use Rattle.assemble.specs.Holding.{KeepsMemory, StepsMemory, shown_by}
+use Rattle.assemble.specs.Holding.{KeepsMemory, StepsMemory}
 use Rattle.assemble.proofs.Holding.{keeps_none}
 
 -- ---- the bytes in chunks of four

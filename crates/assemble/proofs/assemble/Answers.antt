@@ -1,6 +1,3 @@
-use Rattle.std.proofs.Common.{false, rules}
-use Rattle.pattern.specs.Calls.{memory_from}
-use Rattle.assemble.specs.Lists.{groups_of}
 use Rattle.assemble.proofs.Holding.{image_built}
 use Rattle.assemble.proofs.assemble.Goals as goal
 

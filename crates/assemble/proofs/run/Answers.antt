@@ -2,7 +2,6 @@ use Rattle.std.proofs.Common.{◌≡◌, ◌+◌, ◌∙◌, ℕ, refl, ap, arit
 use Rattle.std.specs.Option.{option_map}
 use Rattle.errors.specs.declared.Error.{Error}
 use Rattle.laws.specs.Copied.{copied}
-use Rattle.calls.specs.Calls.{call_of}
 use Rattle.assemble.specs.Lists.{first_refused}
 use Rattle.assemble.proofs.Assembly.{answers_from, builders_from, memory_from_lem}
 use Rattle.assemble.proofs.Running.{begun, turn, refused_at, first_or, calls_count, left_builders, left_memory, left_answers, left_told}
@@ -27,7 +26,7 @@ loop-i-preserved c =
     let told = first_or l.ran.first c.step-answer.result c.in-Some.i _ _ _ c.or-ran.ensures made c.err.ensures.value in
     record {
       four = search rules;
-    count = l.invariant.count;
+      count = l.invariant.count;
       runs =
           turn l.invariant.runs _ _ _ _ _ _ _ _ _ _ _ next.0.1.2 next.0.1.0 four next.1 next.2 refl c.step-answer.ensures refl refl
           (c.store.ensures ∙ ap (set l.answers c.in-Some.i) c.number.ensures) told;

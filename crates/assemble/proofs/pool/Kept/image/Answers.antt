@@ -1,4 +1,4 @@
-use Rattle.std.proofs.Common.{◌≡◌, ◌≤◌, ◌<◌, ap, ◌∙◌, length, refl, arith, rules}
+use Rattle.std.proofs.Common.{ap, ◌∙◌, refl, arith, rules}
 use Rattle.errors.specs.Number.{answer_number}
 use Rattle.errors.specs.Told.{told_number}
 use Rattle.errors.proofs.Passed.{passed}

@@ -1,4 +1,4 @@
-use Rattle.std.proofs.Common.{◌≡◌, ap, ◌∙◌, ℕ, min, arith, rules}
+use Rattle.std.proofs.Common.{ap, ◌∙◌, ℕ, min, arith, rules}
 use Rattle.assemble.proofs.Keeping.{full, room}
 use Rattle.assemble.proofs.pool.Pool.push.Goals as goal
 
