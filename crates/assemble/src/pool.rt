@@ -128,6 +128,7 @@ fn laid(
 }
 
 // Stores the index of each item's last byte, where the byte before the first item stands at `before`, and answers the last index.
+// `out[at..].iter_mut().zip(lens)` was tried: the bound of `last` stays open, and nothing is known of what an adapter of `iter_mut` leaves.
 fn pointers(out: &mut [u8], at: usize, lens: &[u8], before: usize) -> usize
     requires { (length out.old ≡ 100) × (at + length lens.now ≤ 100) × (before + sum lens.now < 256) }
     ensures value { result ≡ before + sum lens.now }
