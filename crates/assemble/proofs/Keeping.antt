@@ -1,14 +1,17 @@
--- What stands where in bytes that keep items, one item more, and the image that is laid out of them.
+-- Items kept, one item more, and the image that is laid out of them.
 -- Assumes nothing.
-use mathlib.Core.Path.{◌≡◌, refl, sym, ap, ap₂, ◌∙◌}
+use mathlib.Core.Path.{◌≡◌, sym, ap, ap₂, ◌∙◌}
 use mathlib.Core.Bool.{Bool, cond}
 use mathlib.Core.List.{List, [], ◌∷◌, ◌++◌, map, map-append, append_assoc, append-nil}
-use Prim.Native.Nat.{ℕ, suc, ◌+◌, ◌-◌, ◌≤◌, ◌<◌}
+use Prim.Native.Nat.{ℕ, suc, ◌+◌, ◌-◌, ◌≤◌, ◌<◌, min}
 use native.Mathlib.Omega.{arith}
-use lib.ListN.{length, take, drop, get_or, set, replicate, length-append, length-map, length-replicate, replicate-append-replicate}
-use lib.Seq.{set-append_seam, take_at, drop_at, take-append-add, take_all, drop-drop}
+use lib.ListN.{length, take, drop, set, replicate, length-append, length-map, length-replicate, length-take, length-drop, drop_of_length-le, replicate-append-replicate}
+use lib.Seq.{set-append_seam, take_at, drop_at, take_all}
+use borrow.Author.Rules.{part_to_end}
 use borrow.Author.Tests.{lt-ltb, le-ltb}
-use borrow.Rule.Slice.PartMut.{mid_of}
+use borrow.Rule.Slice.PartMut.{mid_of, post_of, put_mid}
+use Rattle.std.specs.Prelude.{sum}
+use Rattle.std.proofs.lemmas.List.{take_min, drop_min}
 use Rattle.errors.specs.Told.{Told, gives, told_by, told_number}
 use Rattle.laws.specs.Copied.{copied, over}
 use Rattle.laws.specs.Whole.{whole, whole_out, length_of}
@@ -17,128 +20,107 @@ use Rattle.laws.specs.Lists.{joined}
 use Rattle.memory.specs.Image.{end_pointers, image_size, image_bytes}
 use Rattle.memory.specs.Memory.{image_number}
 use Rattle.memory.proofs.Images.{joined_length}
-use Rattle.assemble.specs.Kept.{kept, sum_of, ends, Pushed, ImageLaid}
+use Rattle.assemble.specs.declared.pool.Pool.{Pool}
+use Rattle.assemble.specs.declared.pool.Kept.{Kept}
+use Rattle.assemble.specs.Kept.{kept, ends, Pushed, image_from, ImageLaid}
 use Rattle.assemble.proofs.Lists.{sum_of_lengths, ends_pointers, ends_append, ends_length, joined_append, copied_more, over_more}
 
 abbrev zeros : ℕ → List ℕ
 zeros n = replicate n 0
 
-module _ (most : ℕ) (items : List (List ℕ)) (l : List ℕ) (e : l ≡ kept most items) where
-  pub count : get_or l 0 0 ≡ length items
+module _ (most : ℕ) (items : List (List ℕ)) (p : Pool most) (e : p ≡ kept most items) where
+  pub count : p.count ≡ length items
   unfolding kept
-  count = ap (λ (m : List ℕ). get_or m 0 0) e
+  count = ap (λ (x : Pool most). x.count) e
 
-  module _ (n : ℕ) (f : n ≡ get_or l 0 0) where
-    -- the lengths
-    pub lens : mid_of 1 (1 + n - 1) l ≡ map length items
-    unfolding kept
-    lens =
-        let k : length (map length items) ≡ 1 + n - 1 = length-map items length ∙ (let g = f ∙ count in let q : length items ≡ 1 + n - 1 = omega arith in q) in
-        ap (mid_of 1 (1 + n - 1)) e
-        ∙ ap (take (1 + n - 1)) (append_assoc (map length items) (zeros (most - length items)) (copied (zeros 100) (joined items)))
-        ∙ take_at (map length items) (zeros (most - length items) ++ copied (zeros 100) (joined items)) (1 + n - 1) k
+  -- the lengths
+  pub lens : take p.count p.lens ≡ map length items
+  unfolding kept
+  lens = ap (λ (x : Pool most). take x.count x.lens) e ∙ take_at (map length items) (zeros (most - length items)) (length items) (length-map items length)
 
-    pub sum_is : (a : ℕ) → a ≡ sum_of (mid_of 1 (1 + n - 1) l) → a ≡ length (joined items)
-    sum_is a h = h ∙ ap sum_of lens ∙ sum_of_lengths items
+  pub sum_is : sum (take p.count p.lens) ≡ length (joined items)
+  sum_is = ap sum lens ∙ sum_of_lengths items
 
   -- the bytes, where they fit
-  module _ (h : length items ≤ most) (a : ℕ) (f : a ≡ length (joined items)) (fit : a ≤ 100) where
-    abbrev head : List ℕ
-    head = length items ∷ (map length items ++ zeros (most - length items))
-
-    pub bytes : mid_of (1 + most) (1 + most + a - (1 + most)) l ≡ joined items
-    unfolding kept
-    bytes =
-        let j : List ℕ = joined items in
-        let k : length head ≡ 1 + most = simp (length-append, length-map, length-replicate) (omega arith) in
-        let t : take (length (zeros 100)) j ≡ j = take_all (length (zeros 100)) j (simp length-replicate (omega arith)) in
-        ap (mid_of (1 + most) (1 + most + a - (1 + most))) e
-        ∙ ap (take (1 + most + a - (1 + most))) (drop_at head (copied (zeros 100) j) (1 + most) k)
-        ∙ ap (λ (m : List ℕ). take (1 + most + a - (1 + most)) (m ++ drop (length j) (zeros 100))) t
-        ∙ take_at j (drop (length j) (zeros 100)) (1 + most + a - (1 + most)) (omega arith)
+  pub bytes : (a : ℕ) → a ≡ length (joined items) → a ≤ 100 → take a p.bytes ≡ joined items
+  unfolding kept
+  bytes a f fit =
+      let j : List ℕ = joined items in
+      ap (λ (x : Pool most). take a x.bytes) e
+      ∙ ap (λ (m : List ℕ). take a (m ++ drop (length j) (zeros 100))) (take_all (length (zeros 100)) j (simp length-replicate (omega arith)))
+      ∙ take_at j (drop (length j) (zeros 100)) a (sym f)
 
 -- ---- one item more
 
-module _ (most : ℕ) (items : List (List ℕ)) (x : List ℕ) (h : length items < most) where
-  abbrev m : ℕ
-  m = length items
+module _ (most : ℕ) (x : List ℕ) where
+  -- the pool after it, as the code leaves it
+  abbrev next : Pool most → Pool most
+  next p =
+      let at = min (sum (take p.count p.lens)) 100 in
+      record { count = p.count + 1; lens = set p.lens p.count (length x); bytes = take at p.bytes ++ copied (drop at p.bytes) x }
 
-  abbrev lengths : List ℕ
-  lengths = map length items
+  module _ (items : List (List ℕ)) (h : length items < most) where
+    abbrev m : ℕ
+    m = length items
 
-  abbrev rest : List ℕ
-  rest = zeros (most - suc m)
+    abbrev lengths : List ℕ
+    lengths = map length items
 
-  abbrev pool : List (List ℕ) → List ℕ
-  pool xs = copied (zeros 100) (joined xs)
+    abbrev more : List (List ℕ)
+    more = items ++ (x ∷ [])
 
-  abbrev more : List (List ℕ)
-  more = items ++ (x ∷ [])
+    lens_more : set (lengths ++ zeros (most - m)) m (length x) ≡ map length more ++ zeros (most - length more)
+    lens_more =
+        let n : length more ≡ suc m = length-append items (x ∷ []) ∙ (let q : m + 1 ≡ suc m = omega arith in q) in
+        ap (λ (j : ℕ). set (lengths ++ zeros j) m (length x)) (let q : most - m ≡ suc (most - suc m) = omega arith in q)
+        ∙ ap (λ (j : ℕ). set (lengths ++ (0 ∷ zeros (most - suc m))) j (length x)) (sym (length-map items length))
+        ∙ set-append_seam lengths 0 (zeros (most - suc m)) (length x)
+        ∙ sym (append_assoc lengths (length x ∷ []) (zeros (most - suc m)))
+        ∙ ap₂ (λ (l : List ℕ) (j : ℕ). l ++ zeros (most - j)) (sym (map-append length items (x ∷ []))) (sym n)
 
-  -- what was kept, with its length's place in sight
-  kept_before : (k : ℕ) (p : List ℕ) → (k ∷ (lengths ++ zeros (most - m))) ++ p ≡ k ∷ (lengths ++ (0 ∷ (rest ++ p)))
-  kept_before k p =
-      ap (λ (j : ℕ). k ∷ (lengths ++ zeros j ++ p)) (let q : most - m ≡ suc (most - suc m) = omega arith in q)
-      ∙ ap (λ (l : List ℕ). k ∷ l) (append_assoc lengths (0 ∷ rest) p)
+    bytes_more : (at : ℕ) → at ≡ min (length (joined items)) 100 → let b = copied (zeros 100) (joined items) in
+        take at b ++ copied (drop at b) x ≡ copied (zeros 100) (joined more)
+    bytes_more at e =
+        let b : List ℕ = copied (zeros 100) (joined items) in
+        let a : ℕ = length (joined items) in
+        let f : at ≡ min a (length b) = e ∙ ap (min a) (let q : 100 ≡ length b = simp (length-append, length-take, length-drop, length-replicate) (omega arith) in q) in
+        ap₂ (λ (u v : List ℕ). u ++ copied v x) (ap (λ (j : ℕ). take j b) f ∙ take_min a b) (ap (λ (j : ℕ). drop j b) f ∙ drop_min a b)
+        ∙ copied_more (zeros 100) (joined items) x
+        ∙ ap (copied (zeros 100)) (sym (joined_append items (x ∷ []) ∙ ap (λ (l : List ℕ). joined items ++ l) (append-nil x)))
 
-  kept_after : kept most more ≡ suc m ∷ (lengths ++ (length x ∷ (rest ++ pool more)))
-  unfolding kept
-  kept_after =
-      let n : length more ≡ suc m = length-append items (x ∷ []) ∙ (let q : m + 1 ≡ suc m = omega arith in q) in
-      ap (λ (k : ℕ). (k ∷ (map length more ++ zeros (most - k))) ++ pool more) n
-      ∙ ap (λ (l : List ℕ). suc m ∷ (l ++ rest ++ pool more)) (map-append length items (x ∷ []))
-      ∙ ap (λ (l : List ℕ). suc m ∷ (l ++ pool more)) (append_assoc lengths (length x ∷ []) rest)
-      ∙ ap (λ (l : List ℕ). suc m ∷ l) (append_assoc lengths (length x ∷ rest) (pool more))
+    next_kept : next (kept most items) ≡ kept most more
+    unfolding kept
+    next_kept =
+        let sums : min (sum (take m (lengths ++ zeros (most - m)))) 100 ≡ min (length (joined items)) 100 =
+        ap (λ (l : List ℕ). min (sum l) 100) (take_at lengths (zeros (most - m)) m (length-map items length)) ∙ ap (λ (n : ℕ). min n 100) (sum_of_lengths items) in
+        let n : m + 1 ≡ length more = sym (length-append items (x ∷ [])) in
+        λ i. record { count = n i; lens = lens_more i; bytes = bytes_more _ sums i }
 
-  joined_more : joined items ++ x ≡ joined more
-  joined_more = sym (joined_append items (x ∷ []) ∙ ap (λ (l : List ℕ). joined items ++ l) (append-nil x))
+  -- the number tells whether there is room
+  module _ (p : Pool most) where
+    pub full : most ≤ p.count → Pushed most x p p
+    full h items g e =
+        let c = count most items p e in
+        e ∙ ap (λ (t : Bool). kept most (cond t (items ++ (x ∷ [])) items)) (sym (le-ltb (length items) most (omega arith)))
 
-  abbrev head_before : List ℕ
-  head_before = m ∷ (lengths ++ zeros (most - m))
-
-  -- the bytes copied behind the others
-  placed : (at : ℕ) → at ≡ 1 + most + length (joined items) → take at (kept most items) ++ copied (drop at (kept most items)) x ≡ head_before ++ pool more
-  unfolding kept
-  placed at e =
-      let a : ℕ = length (joined items) in
-      let p : List ℕ = pool items in
-      let k : length head_before ≡ 1 + most = simp (length-append, length-map, length-replicate) (omega arith) in
-      let f : at ≡ length head_before + a = omega arith in
-      let t : take at (head_before ++ p) ≡ head_before ++ take a p = ap (λ (j : ℕ). take j (head_before ++ p)) f ∙ take-append-add head_before p a in
-      let d : drop at (head_before ++ p) ≡ drop a p =
-      ap (λ (j : ℕ). drop j (head_before ++ p)) f ∙ sym (drop-drop a (length head_before) (head_before ++ p)) ∙ ap (drop a) (drop_at head_before p (length head_before) refl) in
-      ap₂ (λ (u v : List ℕ). u ++ copied v x) t d
-      ∙ append_assoc head_before (take a p) (copied (drop a p) x)
-      ∙ ap (λ (l : List ℕ). head_before ++ l) (copied_more (zeros 100) (joined items) x ∙ ap (copied (zeros 100)) joined_more)
-
-  -- then its length, then the number
-  pub pushed : (l l' : List ℕ) (n at : ℕ) → l ≡ kept most items → n ≡ get_or l 0 0 → at ≡ 1 + most + length (joined items)
-      → l' ≡ take at l ++ copied (drop at l) x → set (set l' (1 + n) (length x)) 0 (n + 1) ≡ kept most more
-  pushed l l' n at e f a g =
-      let c = f ∙ count most items l e in
-      let i : 1 + n ≡ suc (length lengths) = let k = length-map items length in omega arith in
-      let j : n + 1 ≡ suc m = omega arith in
-      let w : l' ≡ m ∷ (lengths ++ (0 ∷ (rest ++ pool more))) =
-      g ∙ ap (λ (k : List ℕ). take at k ++ copied (drop at k) x) e ∙ placed at a ∙ kept_before m (pool more) in
-      ap (λ (k : List ℕ). set (set k (1 + n) (length x)) 0 (n + 1)) w
-      ∙ ap₂ (λ (u v : ℕ). set (set (m ∷ (lengths ++ (0 ∷ (rest ++ pool more)))) u (length x)) 0 v) i j
-      ∙ ap (λ (k : List ℕ). suc m ∷ k) (set-append_seam lengths 0 (rest ++ pool more) (length x))
-      ∙ sym kept_after
-
--- the number tells whether there is room
-module _ (most n : ℕ) (l x : List ℕ) (f : n ≡ get_or l 0 0) where
-  pub full : most ≤ n → Pushed most x l l
-  full h items g e =
-      let c = count most items l e in
-      e ∙ ap (λ (t : Bool). kept most (cond t (items ++ (x ∷ [])) items)) (sym (le-ltb (length items) most (omega arith)))
-
-  pub room : n < most → (a at : ℕ) (l' : List ℕ) → a ≡ sum_of (mid_of 1 (1 + n - 1) l) → at ≡ 1 + most + a → l' ≡ take at l ++ copied (drop at l) x
-      → Pushed most x l (set (set l' (1 + n) (length x)) 0 (n + 1))
-  room h a at l' i j k items g e =
-      let c = count most items l e in
-      let d : length items < most = omega arith in
-      pushed most items x d l l' n at e f (j ∙ ap (λ (o : ℕ). 1 + most + o) (sum_is most items l e n f a i)) k
-      ∙ ap (λ (t : Bool). kept most (cond t (items ++ (x ∷ [])) items)) (sym (lt-ltb (length items) most d))
+    -- what the code leaves, where the bytes from an index on were lent to the copying
+    pub room : p.count < most → length p.bytes ≡ 100 → (n at : ℕ) (last : List ℕ) → n ≡ p.count → at ≡ min (sum (take n p.lens)) 100
+        → last ≡ copied (mid_of at (100 - at) p.bytes) x
+        → Pushed most x p (record { count = p.count + 1; lens = set p.lens n (length x); bytes = put_mid at (100 - at) p.bytes last })
+    room h long n at last f j l items g e =
+        let c = count most items p e in
+        let d : length items < most = omega arith in
+        let i : at ≡ min (sum (take p.count p.lens)) 100 = j ∙ ap (λ (k : ℕ). min (sum (take k p.lens)) 100) f in
+        let t : mid_of at (100 - at) p.bytes ≡ drop at p.bytes = ap (λ (k : ℕ). mid_of at (k - at) p.bytes) (sym long) ∙ part_to_end p.bytes at in
+        let none : post_of at (100 - at) p.bytes ≡ [] = drop_of_length-le (drop at p.bytes) {i = 100 - at} (simp length-drop (omega arith)) in
+        let b : put_mid at (100 - at) p.bytes last ≡ take at p.bytes ++ copied (drop at p.bytes) x =
+        ap₂ (λ (u v : List ℕ). take at p.bytes ++ (u ++ v)) (l ∙ ap (λ (u : List ℕ). copied u x) t) none
+        ∙ ap (λ (u : List ℕ). take at p.bytes ++ u) (append-nil (copied (drop at p.bytes) x)) in
+        (λ k. record { count = p.count + 1; lens = set p.lens (f k) (length x); bytes = b k })
+        ∙ ap (λ (k : ℕ). record { count = p.count + 1; lens = set p.lens p.count (length x); bytes = take k p.bytes ++ copied (drop k p.bytes) x }) i
+        ∙ ap next e
+        ∙ next_kept items d
+        ∙ ap (λ (t : Bool). kept most (cond t (items ++ (x ∷ [])) items)) (sym (lt-ltb (length items) most d))
 
 -- ---- the image
 
@@ -153,7 +135,7 @@ module _ (ls ks xs ys : List ℕ) (fit : length ls + length ks + length xs + len
   abbrev start : List ℕ
   start = s ∷ q ∷ zeros 98
 
-  pub laid_over : (last : ℕ) (a b c d : List ℕ) → last ≡ 1 + s + q + sum_of ls → a ≡ over start 2 (ends (1 + s + q) ls) → b ≡ over a (2 + s) (ends last ks)
+  pub laid_over : (last : ℕ) (a b c d : List ℕ) → last ≡ 1 + s + q + sum ls → a ≡ over start 2 (ends (1 + s + q) ls) → b ≡ over a (2 + s) (ends last ks)
       → c ≡ over b (2 + s + q) xs → d ≡ over c (2 + s + q + length xs) ys
       → d ≡ s ∷ q ∷ (ends (1 + s + q) (ls ++ ks) ++ xs ++ ys ++ zeros (98 - (s + q + length xs + length ys)))
   laid_over last a b c d e f g h i =
@@ -199,49 +181,67 @@ laid_image ss qs ls ks xs ys out e f g h i =
     ∙ ap₂ (λ (u : List ℕ) (v : ℕ). length ss ∷ length qs ∷ (u ++ xs ++ ys ++ zeros v)) c n
     ∙ ap (λ (u : List ℕ). length ss ∷ length qs ∷ (u ++ zeros (100 - image_size ss qs))) (append_assoc p xs ys ∙ ap (λ (u : List ℕ). p ++ u) d)
 
--- what is answered, by the number of snippets n and of sequences k
-module _ (l j buffer : List ℕ) (n k : ℕ) (f : n ≡ get_or l 0 0) (g : k ≡ get_or j 0 0) where
-  pub no_snippets_lem : n < 1 → ImageLaid l j buffer 9 buffer
+-- what is answered, by the lengths of snippets ls and of sequences js
+module _ (k : Kept) (buffer ls js : List ℕ) (f : ls ≡ take k.snippets.count k.snippets.lens) (g : js ≡ take k.sequences.count k.sequences.lens) where
+  module _ (ss qs : List (List ℕ)) (e : k.snippets ≡ kept 15 ss) (i : k.sequences ≡ kept 16 qs) where
+    snippets_are : ls ≡ map length ss
+    snippets_are = f ∙ lens 15 ss k.snippets e
+
+    sequences_are : js ≡ map length qs
+    sequences_are = g ∙ lens 16 qs k.sequences i
+
+    many_snippets : length ls ≡ length ss
+    many_snippets = ap length snippets_are ∙ length-map ss length
+
+    many_sequences : length js ≡ length qs
+    many_sequences = ap length sequences_are ∙ length-map qs length
+
+  pub no_snippets_lem : length ls < 1 → ImageLaid k buffer 9 buffer
   no_snippets_lem h ss qs a b e i =
-      let c = count 15 ss l e in
+      let c = many_snippets ss qs e i in
       let t = lt-ltb (length ss) 1 (omega arith) in
       (simp t, simp t)
 
-  pub no_sequences_lem : 1 ≤ n → k < 1 → ImageLaid l j buffer 10 buffer
+  pub no_sequences_lem : 1 ≤ length ls → length js < 1 → ImageLaid k buffer 10 buffer
   no_sequences_lem h o ss qs a b e i =
-      let c = count 15 ss l e in
-      let d = count 16 qs j i in
+      let c = many_snippets ss qs e i in
+      let d = many_sequences ss qs e i in
       let t = le-ltb (length ss) 1 (omega arith) in
       let u = lt-ltb (length qs) 1 (omega arith) in
       (simp (t, u), simp (t, u))
 
-  module _ (h : 1 ≤ n) (o : 1 ≤ k) (u v : ℕ) (p : u ≡ sum_of (mid_of 1 (1 + n - 1) l)) (q : v ≡ sum_of (mid_of 1 (1 + k - 1) j)) where
-    pub too_large : 98 < n + k + u + v → ImageLaid l j buffer 8 buffer
+  module _ (h : 1 ≤ length ls) (o : 1 ≤ length js) (u v : ℕ) (p : u ≡ sum ls) (q : v ≡ sum js) where
+    module _ (ss qs : List (List ℕ)) (e : k.snippets ≡ kept 15 ss) (i : k.sequences ≡ kept 16 qs) where
+      u_is : u ≡ length (joined ss)
+      u_is = p ∙ ap sum (snippets_are ss qs e i) ∙ sum_of_lengths ss
+
+      v_is : v ≡ length (joined qs)
+      v_is = q ∙ ap sum (sequences_are ss qs e i) ∙ sum_of_lengths qs
+
+    pub too_large : 98 < length ls + length js + u + v → ImageLaid k buffer 8 buffer
     too_large w ss qs a b e i =
-        let c = count 15 ss l e in
-        let d = count 16 qs j i in
-        let r = sum_is 15 ss l e n f u p in
-        let t = sum_is 16 qs j i k g v q in
+        let c = many_snippets ss qs e i in
+        let d = many_sequences ss qs e i in
+        let r = u_is ss qs e i in
+        let t = v_is ss qs e i in
         let y = joined_length ss qs in
         let s = le-ltb (length ss) 1 (omega arith) in
         let z = le-ltb (length qs) 1 (omega arith) in
         let x = lt-ltb 100 (image_size ss qs) (omega arith) in
         (simp (s, z, x), simp (s, z, x))
 
-    pub built : n + k + u + v ≤ 98 → (out buffer' : List ℕ) (number : ℕ)
-        → out ≡ length (mid_of 1 (1 + n - 1) l) ∷ length (mid_of 1 (1 + k - 1) j) ∷ (ends (1 + length (mid_of 1 (1 + n - 1) l) + length (mid_of 1 (1 + k - 1) j)) (mid_of 1 (1 + n - 1) l ++ mid_of 1 (1 + k - 1) j)
-        ++ mid_of 16 (16 + u - 16) l ++ mid_of 17 (17 + v - 17) j
-        ++ zeros (98 - (length (mid_of 1 (1 + n - 1) l) + length (mid_of 1 (1 + k - 1) j) + length (mid_of 16 (16 + u - 16) l) + length (mid_of 17 (17 + v - 17) j))))
-        → number ≡ told_number (length_of (whole buffer (gives out))) → buffer' ≡ whole_out buffer (gives out) → ImageLaid l j buffer number buffer'
-    built w out buffer' number z m x ss qs a b e i =
-        let c = count 15 ss l e in
-        let d = count 16 qs j i in
-        let r = sum_is 15 ss l e n f u p in
-        let t = sum_is 16 qs j i k g v q in
+    pub built : length ls + length js + u + v ≤ 98 → (xs ys out buffer' : List ℕ) (number : ℕ) → xs ≡ take u k.snippets.bytes → ys ≡ take v k.sequences.bytes
+        → out ≡ image_from ls xs js ys
+        → number ≡ told_number (length_of (whole buffer (gives out))) → buffer' ≡ whole_out buffer (gives out) → ImageLaid k buffer number buffer'
+    built w xs ys out buffer' number j l z m x ss qs a b e i =
+        let c = many_snippets ss qs e i in
+        let d = many_sequences ss qs e i in
+        let r = u_is ss qs e i in
+        let t = v_is ss qs e i in
         let y = joined_length ss qs in
         let none : image_number ss qs ≡ 0 = simp (le-ltb (length ss) 1 (omega arith), le-ltb (length qs) 1 (omega arith), le-ltb 100 (image_size ss qs) (omega arith)) in
         let laid : out ≡ image_bytes ss qs =
-        laid_image ss qs _ _ _ _ out (lens 15 ss l e n f) (lens 16 qs j i k g) (bytes 15 ss l e a u r (omega arith)) (bytes 16 qs j i b v t (omega arith)) z in
+        laid_image ss qs ls js xs ys out (snippets_are ss qs e i) (sequences_are ss qs e i) (j ∙ bytes 15 ss k.snippets e u r (omega arith)) (l ∙ bytes 16 qs k.sequences i v t (omega arith)) z in
         let item : gives out ≡ told_by (image_number ss qs) (image_bytes ss qs) = λ i. told_by (sym none i) (laid i) in (
           m ∙ length_number (whole buffer (gives out)) ∙ ap (λ (t : Told (List ℕ)). told_number (whole buffer t)) item,
           x ∙ ap (whole_out buffer) item,

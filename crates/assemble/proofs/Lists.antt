@@ -11,22 +11,25 @@ use lib.Seq.{take_all, take_at, drop_at, drop-drop, take-append-le, take-append-
 use Rattle.laws.specs.Copied.{copied, over}
 use Rattle.laws.specs.Lists.{joined}
 use Rattle.memory.specs.Image.{end_pointers}
-use Rattle.assemble.specs.Kept.{sum_of, ends}
+use Rattle.std.specs.Prelude.{sum}
+use Rattle.std.proofs.lemmas.List.Sums.{sum_by-cons}
+use Rattle.assemble.specs.Kept.{ends}
 
 -- ---- of items
 
-pub sum_of_lengths : (items : List (List ℕ)) → sum_of (map length items) ≡ length (joined items)
+pub sum_of_lengths : (items : List (List ℕ)) → sum (map length items) ≡ length (joined items)
 sum_of_lengths [] = refl
-sum_of_lengths (x ∷ xs) = ap (λ (n : ℕ). length x + n) (sum_of_lengths xs) ∙ sym (length-append x (joined xs))
+sum_of_lengths (x ∷ xs) =
+    sum_by-cons (λ k. k) (length x) (map length xs) ∙ ap (λ (n : ℕ). length x + n) (sum_of_lengths xs) ∙ sym (length-append x (joined xs))
 
 pub ends_pointers : (items : List (List ℕ)) (before : ℕ) → ends before (map length items) ≡ end_pointers before items
 ends_pointers [] before = refl
 ends_pointers (x ∷ xs) before = ap (λ (l : List ℕ). (before + length x) ∷ l) (ends_pointers xs (before + length x))
 
-pub ends_append : (xs ys : List ℕ) (before : ℕ) → ends before (xs ++ ys) ≡ ends before xs ++ ends (before + sum_of xs) ys
+pub ends_append : (xs ys : List ℕ) (before : ℕ) → ends before (xs ++ ys) ≡ ends before xs ++ ends (before + sum xs) ys
 ends_append [] ys before = ap (λ (k : ℕ). ends k ys) (sym (add-zero before))
 ends_append (x ∷ xs) ys before =
-    let e : before + x + sum_of xs ≡ before + (x + sum_of xs) = omega arith in
+    let e : before + x + sum xs ≡ before + sum (x ∷ xs) = omega (arith, sum_by-cons (λ k. k) x xs) in
     ap (λ (l : List ℕ). (before + x) ∷ l) (ends_append xs ys (before + x) ∙ ap (λ (k : ℕ). ends (before + x) xs ++ ends k ys) e)
 
 pub joined_append : (xs ys : List (List ℕ)) → joined (xs ++ ys) ≡ joined xs ++ joined ys

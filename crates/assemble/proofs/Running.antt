@@ -1,26 +1,21 @@
--- Where a run stands: the bytes keep a memory's builder from which what is left gives what the whole gives. One turn, and the end.
+-- Where a run stands: the pools keep a memory's builder from which what is left gives what the whole gives. One turn, and the end.
 -- Assumes nothing.
 use mathlib.Core.Path.{◌≡◌, refl, sym, ap, ap₂, ◌∙◌, subst}
 use mathlib.Core.Bool.{Bool, true, false, cond}
 use mathlib.Core.List.{List, [], ◌∷◌, ◌++◌}
-use Prim.Native.Nat.{ℕ, zero, suc, ◌+◌, ◌*◌, ◌≤◌, ◌<◌, min}
-use native.Mathlib.Decide.{ℕ_discrete, dec_le}
+use Prim.Native.Nat.{ℕ, suc, ◌+◌, ◌*◌, ◌≤◌, ◌<◌, min}
 use native.Mathlib.Omega.{arith}
 use borrow.Author.Tests.{lt-ltb, ltb-true, ltb-false}
 use lib.Dec.{ltb}
-use lib.ListN.{length, take, get_or, set, get_or-eq_default, replicate}
+use lib.ListN.{length, set}
 use lib.Seq.{sets}
-use Rattle.laws.specs.Bytes.{All}
 use Rattle.laws.specs.Copied.{copied}
 use Rattle.laws.proofs.Answers.{sets_copied}
 use Rattle.errors.specs.Told.{Handed}
 use Rattle.calls.specs.Said.{Call}
-use Rattle.frame.specs.Read.{gain_at, timebase_at}
-use Rattle.pattern.specs.Calls.{gain, timebase}
-use Rattle.calls.specs.declared.Record.{Record}
 use Rattle.calls.specs.declared.Builders.{Builders}
-use Rattle.calls.specs.Calls.{started, calls_by_code, first_record, call_of, calls_in, called_by}
-use Rattle.calls.proofs.Turns.{calls_none, chosen_either}
+use Rattle.calls.specs.Calls.{started, first_record, call_of, calls_in}
+use Rattle.calls.proofs.Turns.{calls_none}
 use Rattle.memory.specs.declared.WaveformMemoryBuilder.{WaveformMemoryBuilder}
 use Rattle.assemble.specs.Lists.{with_place, first_refused}
 use Rattle.assemble.specs.Refusal.{refusal_number, first_number}
@@ -33,55 +28,10 @@ use Rattle.std.specs.Option.{option_or, option_map}
 use Rattle.std.specs.Result.{result_err}
 use Rattle.assemble.specs.Flat.{State, state, flat_called}
 use Rattle.assemble.proofs.Flat.{nothing_yet, flat_after, flat_answers}
-use Rattle.assemble.specs.Holding.{KeepsMemory, StepsMemory, shown_by}
+use Rattle.assemble.specs.declared.pool.Kept.{Kept}
+use Rattle.assemble.specs.Kept.{nothing_kept}
+use Rattle.assemble.specs.Holding.{KeepsMemory, StepsMemory}
 use Rattle.assemble.proofs.Holding.{keeps_none}
-
--- ---- one call
-
--- a call that adds nothing to the memory
-abbrev Small : Call → Type 0
-Small (Call.builder j) = Unit
-Small Call.add_snippet = ⊥
-Small Call.add_sequence = ⊥
-Small Call.unknown = Unit
-
--- every code but two says such a call
-front_small : (xs ys : List Call) (n : ℕ) (d : Call) → All Small xs → n < length xs → Small (get_or (xs ++ ys) n d)
-front_small [] ys n d h k = absurd (omega arith)
-front_small (x ∷ xs) ys zero d h k = h.0
-front_small (x ∷ xs) ys (suc n) d h k = front_small xs ys n d h.1 (omega arith)
-
--- none of 13 and 14, and not below
-beyond : (n : ℕ) → 13 ≤ n → ¬ (n ≡ 13) → ¬ (n ≡ 14) → Dec (15 ≤ n) → 15 ≤ n
-beyond n d h k (yes e) = e
-beyond n d h k (no e) = go (ℕ_discrete n 13) where
-  go : Dec (n ≡ 13) → 15 ≤ n
-  go (yes f) = absurd (h f)
-  go (no f) = absurd (k (omega arith))
-
-pub small_code : (r : Record) → ¬ (r.code ≡ 13) → ¬ (r.code ≡ 14) → Small (call_of r)
-small_code r h k = go (dec_le 13 r.code) where
-  go : Dec (13 ≤ r.code) → Small (call_of r)
-  go (no d) =
-      front_small (take 13 (calls_by_code r.a r.b)) (Call.add_snippet ∷ Call.add_sequence ∷ []) r.code Call.unknown
-      (tt, (tt, (tt, (tt, (tt, (tt, (tt, (chosen_either Small (gain (gain_at r.a)) r.a tt tt, (chosen_either Small (timebase (timebase_at r.a)) r.a tt tt, (tt, (tt, (tt, (tt, tt)))))))))))))
-      (omega arith)
-  go (yes d) = subst Small (sym (get_or-eq_default (calls_by_code r.a r.b) Call.unknown (beyond r.code d h k (dec_le 15 r.code)))) tt
-
-module _ (b : Builders) (call : Call) (l k : List ℕ) (t : Handed Builders) where
-  pub small_step : Small call → t ≡ called_by b call → StepsMemory b call l k t l k
-  small_step h f m w = (f ∙ same call h, kept call h) where
-    same : (c : Call) → Small c → called_by b c ≡ shown_by (flat_called (state b m) c)
-    same (Call.builder j) h = refl
-    same Call.add_snippet h = absurd h
-    same Call.add_sequence h = absurd h
-    same Call.unknown h = refl
-
-    kept : (c : Call) → Small c → KeepsMemory (flat_called (state b m) c).builder.memory l k
-    kept (Call.builder j) h = w
-    kept Call.add_snippet h = absurd h
-    kept Call.add_sequence h = absurd h
-    kept Call.unknown h = w
 
 -- ---- the bytes in chunks of four
 
@@ -109,18 +59,18 @@ calls_count (k ∷ a ∷ b ∷ c ∷ r) = let h = calls_count r in (omega (arith
 
 -- ---- where a run stands
 
-pub record Running (bytes answers₀ answers snippets sequences : List ℕ) (b : Builders) (ahead : List ℕ) (i told : ℕ) : Type 0 where
+pub record Running (bytes answers₀ answers : List ℕ) (kept : Kept) (b : Builders) (ahead : List ℕ) (i told : ℕ) : Type 0 where
   pub memory : WaveformMemoryBuilder
-  pub holds : KeepsMemory memory snippets sequences
+  pub holds : KeepsMemory memory kept
   pub rest : flat_after nothing_yet (calls_in bytes) ≡ flat_after (state b memory) (calls_in ahead)
   pub stored : sets answers₀ 0 (flat_answers nothing_yet (calls_in bytes)) ≡ sets answers i (flat_answers (state b memory) (calls_in ahead))
   pub tells : first_refused 0 (flat_answers nothing_yet (calls_in bytes)) ≡ cond (ltb 0 told) told (first_refused i (flat_answers (state b memory) (calls_in ahead)))
 
 -- before the first call
-pub begun : (bytes answers : List ℕ) {b : Builders} {ls qs : List ℕ} → b ≡ started → ls ≡ replicate 116 0 → qs ≡ replicate 117 0
-    → Running bytes answers answers ls qs b bytes 0 0
-begun bytes answers e f g =
-    rw (e, f, g)
+pub begun : (bytes answers : List ℕ) {b : Builders} {kept : Kept} → b ≡ started → kept ≡ nothing_kept
+    → Running bytes answers answers kept b bytes 0 0
+begun bytes answers e f =
+    rw (e, f)
     (record { memory = nothing_yet.memory; holds = keeps_none; rest = refl; stored = refl; tells = refl })
 
 abbrev pub refused_at : Error → ℕ → Refusal
@@ -156,13 +106,13 @@ first_last told = go (ltb 0 told) refl where
   go true e = refl
   go false e = let h = ltb-false 0 told e in omega arith
 
-module _ {bytes k₀ k ls qs : List ℕ} {b : Builders} {ahead : List ℕ} {i told : ℕ} (r : Running bytes k₀ k ls qs b ahead i told) where
+module _ {bytes k₀ k : List ℕ} {kept : Kept} {b : Builders} {ahead : List ℕ} {i told : ℕ} (r : Running bytes k₀ k kept b ahead i told) where
   -- one turn
-  pub turn : (call : Call) (t : Handed Builders) (ls' qs' k' : List ℕ) (b' : Builders) (n : ℕ) (chunk ahead' : List ℕ) (at i' told' : ℕ) → 0 < length ahead → ahead ≡ chunk ++ ahead'
-      → length chunk ≡ min 4 (length ahead) → at ≡ i → i' ≡ i + 1 → call ≡ call_of (first_record chunk) → StepsMemory b call ls qs t ls' qs' → n ≡ t.number → b' ≡ t.builder → k' ≡ set k at n
-      → told' ≡ cond (ltb 0 told) told (cond (ltb 0 n) (with_place n at) 0) → Running bytes k₀ k' ls' qs' b' ahead' i' told'
+  pub turn : (call : Call) (t : Handed Builders) (kept' : Kept) (k' : List ℕ) (b' : Builders) (n : ℕ) (chunk ahead' : List ℕ) (at i' told' : ℕ) → 0 < length ahead → ahead ≡ chunk ++ ahead'
+      → length chunk ≡ min 4 (length ahead) → at ≡ i → i' ≡ i + 1 → call ≡ call_of (first_record chunk) → StepsMemory b call kept t kept' → n ≡ t.number → b' ≡ t.builder → k' ≡ set k at n
+      → told' ≡ cond (ltb 0 told) told (cond (ltb 0 n) (with_place n at) 0) → Running bytes k₀ k' kept' b' ahead' i' told'
   unfolding flat_after flat_answers
-  turn call t ls' qs' k' b' n chunk ahead' at i' told' h e four ea ei ec steps en eb ek et =
+  turn call t kept' k' b' n chunk ahead' at i' told' h e four ea ei ec steps en eb ek et =
       let m = r.memory in
       let w = steps m r.holds in
       let f = flat_called (state b m) call in
@@ -197,9 +147,9 @@ module _ {bytes k₀ k ls qs : List ℕ} {b : Builders} {ahead : List ℕ} {i to
     unfolding flat_after
     left_builders = ap (λ (s : State). s.builders) (sym (r.rest ∙ ap (flat_after (state b r.memory)) none))
 
-    pub left_memory : (m : WaveformMemoryBuilder) → (flat_after nothing_yet (calls_in bytes)).memory ≡ m → KeepsMemory m ls qs
+    pub left_memory : (m : WaveformMemoryBuilder) → (flat_after nothing_yet (calls_in bytes)).memory ≡ m → KeepsMemory m kept
     unfolding flat_after
-    left_memory m e = subst (λ (x : WaveformMemoryBuilder). KeepsMemory x ls qs) (ap (λ (s : State). s.memory) (sym (r.rest ∙ ap (flat_after (state b r.memory)) none)) ∙ e) r.holds
+    left_memory m e = subst (λ (x : WaveformMemoryBuilder). KeepsMemory x kept) (ap (λ (s : State). s.memory) (sym (r.rest ∙ ap (flat_after (state b r.memory)) none)) ∙ e) r.holds
 
     pub left_answers : k ≡ copied k₀ (flat_answers nothing_yet (calls_in bytes))
     unfolding flat_answers

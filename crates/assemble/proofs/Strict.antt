@@ -10,6 +10,10 @@ use native.Mathlib.Omega.{arith}
 use borrow.Author.Tests.{lt-ltb, le-ltb, ltb-true, ltb-false}
 use lib.Dec.{ltb}
 use lib.ListN.{length, drop}
+use Rattle.std.specs.Prelude.{Option, None, Result, Ok, Err}
+use Rattle.std.specs.Result.{result_map_both}
+use Rattle.errors.specs.declared.Error.{Error}
+use Rattle.errors.specs.Number.{error_number, answer_number}
 use Rattle.errors.specs.Told.{Told, refuses, told_number}
 use Rattle.laws.specs.Whole.{whole, whole_out}
 use Rattle.laws.proofs.Whole.{whole_or_nothing}
@@ -17,6 +21,8 @@ use Rattle.pattern.specs.Calls.{memory_from}
 use Rattle.pattern.specs.Demand.{Pattern}
 use Rattle.pattern.proofs.Demand3.{demand3}
 use Rattle.assemble.specs.Lists.{groups_of, answers_of, built_of, last_place, with_place, first_refused}
+use Rattle.assemble.specs.declared.Refusal.{Refusal}
+use Rattle.assemble.specs.Refusal.{first_number, strict_number}
 use Rattle.assemble.specs.Items.{image_item, strict_item, leniently, strictly}
 use Rattle.assemble.specs.Strict.{AllAccepted, Assembled, Strict}
 use Rattle.assemble.proofs.Numbers.{answer_numbers, build_number}
@@ -42,9 +48,18 @@ module _ (calls : List ℕ) where
     pub strict_refused : 0 < told → (told ≡ strictly buffer calls) × (buffer ≡ whole_out buffer (strict_item calls))
     strict_refused h = same_item buffer (ap refuses e ∙ refused_item (omega arith))
 
-    pub strict_built : told ≤ 0 → (buffer' : List ℕ) (n : ℕ) → (n ≡ leniently buffer calls) × (buffer' ≡ whole_out buffer (image_item calls))
-        → (n ≡ strictly buffer calls) × (buffer' ≡ whole_out buffer (strict_item calls))
-    strict_built h buffer' n w = let s = same_item buffer (image_item_lem (omega arith)) in (w.0 ∙ s.0, w.1 ∙ s.1)
+  -- the build's refusal has no place
+  placed : (r : Result Unit Error) → strict_number (result_map_both (λ u. u) (λ (e : Error). record { error = e; place = 0 }) r) ≡ answer_number r
+  placed (Ok u) = refl
+  placed (Err e) = let add : error_number e + 0 ≡ error_number e = omega arith in add
+
+  pub strict_built : (buffer buffer' : List ℕ) (first : Option Refusal) → first ≡ None → first_number first ≡ f
+      → (built : Result Unit Error) (told : Result Unit Refusal) → (answer_number built ≡ leniently buffer calls) × (buffer' ≡ whole_out buffer (image_item calls))
+      → told ≡ result_map_both (λ u. u) (λ (e : Error). record { error = e; place = 0 }) built
+      → (strict_number told ≡ strictly buffer calls) × (buffer' ≡ whole_out buffer (strict_item calls))
+  strict_built buffer buffer' first none e built told w g =
+      let s = same_item buffer (image_item_lem (omega (arith, e, ap first_number none))) in
+      (ap strict_number g ∙ placed built ∙ w.0 ∙ s.0, w.1 ∙ s.1)
 
 -- ---- the lenient form
 

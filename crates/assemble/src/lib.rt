@@ -9,7 +9,7 @@
 
 mod pool;
 
-ghost use Rattle.std.specs.Prelude.{◌≡◌, false, length, replicate, set};
+ghost use Rattle.std.specs.Prelude.{◌≡◌, false, length};
 ghost use Rattle.laws.specs.Copied.{copied};
 ghost use Rattle.laws.specs.Whole.{whole_out};
 ghost use Rattle.errors.specs.Number.{answer_number};
@@ -17,23 +17,19 @@ ghost use Rattle.errors.specs.Told.{handed};
 ghost use Rattle.snippet.specs.Snippet.{built_snippet};
 ghost use Rattle.sequence.specs.Sequence.{built_sequence};
 ghost use Rattle.memory.specs.Memory.{with_snippet, with_sequence};
-ghost use Rattle.calls.specs.Calls.{calls_in, call_of};
+ghost use Rattle.calls.specs.Calls.{calls_in, first_record, call_of};
 ghost use Rattle.pattern.specs.Calls.{memory_from, with_built};
 ghost use Rattle.assemble.specs.Lists.{groups_of, answers_of, builders_of, first_refused};
 ghost use Rattle.assemble.specs.Items.{image_item, strict_item, leniently, strictly};
-ghost use Rattle.assemble.specs.Kept.{room_for};
 ghost use Rattle.assemble.specs.Holding.{KeepsMemory, StepsSnippets, StepsSequences, StepsMemory};
 ghost use Rattle.assemble.specs.Refusal.{refusal_number, first_number, strict_number};
 
-use calls::{ADD_SEQUENCE, ADD_SNIPPET, Builders, Record};
+use calls::{Builders, Call};
 use errors::Error;
+use memory::{MAX_SEQUENCES, MAX_SNIPPETS};
+use pool::{Kept, Pool};
 use sequence::SequenceBuilder;
 use snippet::SnippetBuilder;
-
-// The bytes that keep 15 snippets, and those that keep 16 sequences.
-const SNIPPETS_KEPT: usize = 116;
-
-const SEQUENCES_KEPT: usize = 117;
 
 // The last place of a call that has room in a number.
 const LAST_PLACE: usize = 16777215;
@@ -46,7 +42,8 @@ pub struct Refusal {
 }
 
 impl Refusal {
-    // The refusal's number and 256 times its place; a later place counts as the last that has room.
+    // The refusal's number and 256 times its place; a later place counts as the last that has room. No `From`: the number is C's word, and the
+    // error in it has a number of its own.
     pub fn number(self) -> u32
         ensures { result ≡ refusal_number self }
     {
@@ -54,10 +51,11 @@ impl Refusal {
     }
 }
 
-// What a run leaves: the builders, how many calls there were, and the first refusal.
+// What a run leaves: the builders, the items kept, how many calls there were, and the first refusal.
 #[derive(Clone, Copy)]
 struct Ran {
     builders: Builders,
+    kept: Kept,
     count: usize,
     first: Option<Refusal>,
 }
@@ -67,18 +65,14 @@ pub fn answers(calls: &[u8], answers: &mut [u8]) -> usize
     ensures count { result ≡ length (calls_in calls.now) }
     ensures answers { answers.new ≡ copied answers.old (answers_of calls.now) }
 {
-    let mut snippets = [0u8; SNIPPETS_KEPT];
-    let mut sequences = [0u8; SEQUENCES_KEPT];
-    run(calls, answers, &mut snippets, &mut sequences).count
+    run(calls, answers).count
 }
 
 // The snippet, the frame and the sequence under construction after the calls.
 pub fn builders(calls: &[u8]) -> Builders
     ensures { result ≡ builders_of calls.now }
 {
-    let mut snippets = [0u8; SNIPPETS_KEPT];
-    let mut sequences = [0u8; SEQUENCES_KEPT];
-    run(calls, &mut [], &mut snippets, &mut sequences).builders
+    run(calls, &mut []).builders
 }
 
 // Builds the image of what the accepted calls added, whatever other calls were refused; it goes whole to the front of `image`. Answers the
@@ -87,10 +81,7 @@ pub fn assemble(calls: &[u8], image: &mut [u8]) -> Result<(), Error>
     ensures answer { answer_number result ≡ leniently image.old calls.now }
     ensures image { image.new ≡ whole_out image.old (image_item calls.now) }
 {
-    let mut snippets = [0u8; SNIPPETS_KEPT];
-    let mut sequences = [0u8; SEQUENCES_KEPT];
-    run(calls, &mut [], &mut snippets, &mut sequences);
-    pool::image(&snippets, &sequences, image)
+    run(calls, &mut []).kept.image(image)
 }
 
 // Builds the image only if no call is refused. Answers the first refusal with its place (the build's own and BufferTooShort come with place 0); a
@@ -99,97 +90,77 @@ pub fn assemble_strict(calls: &[u8], image: &mut [u8]) -> Result<(), Refusal>
     ensures answer { strict_number result ≡ strictly image.old calls.now }
     ensures image { image.new ≡ whole_out image.old (strict_item calls.now) }
 {
-    let mut snippets = [0u8; SNIPPETS_KEPT];
-    let mut sequences = [0u8; SEQUENCES_KEPT];
-    match run(calls, &mut [], &mut snippets, &mut sequences).first {
+    let ran = run(calls, &mut []);
+    match ran.first {
         Some(refusal) => Err(refusal),
-        None => match pool::image(&snippets, &sequences, image) {
-            Ok(()) => Ok(()),
-            Err(error) => Err(Refusal { error, place: 0 }),
-        },
+        None => ran
+            .kept
+            .image(image)
+            .map_err(|error| Refusal { error, place: 0 }),
     }
 }
 
-// Runs the calls on new builders, the memory's kept in bytes that are zero; the answers go to the front of the buffer, as many as fit.
-fn run(calls: &[u8], answers: &mut [u8], snippets: &mut [u8], sequences: &mut [u8]) -> Ran
-    requires { (snippets.old ≡ replicate (room_for 15) 0) × (sequences.old ≡ replicate (room_for 16) 0) }
+// Runs the calls on new builders; the answers go to the front of the buffer, as many as fit.
+fn run(calls: &[u8], answers: &mut [u8]) -> Ran
     ensures builders { result.builders ≡ builders_of calls.now }
     ensures count { result.count ≡ length (calls_in calls.now) }
     ensures told { first_number result.first ≡ first_refused 0 (answers_of calls.now) }
     ensures answers { answers.new ≡ copied answers.old (answers_of calls.now) }
-    ensures memory { KeepsMemory (memory_from false (groups_of calls.now).memory) snippets.new sequences.new }
+    ensures memory { KeepsMemory (memory_from false (groups_of calls.now).memory) result.kept }
 {
-    let mut b = Builders::new();
-    let mut first = None;
     let records = calls.chunks(4);
-    let count = records.len();
+    let mut ran = Ran {
+        builders: Builders::new(),
+        kept: Kept::new(),
+        count: records.len(),
+        first: None,
+    };
     for (i, record) in records.enumerate() {
-        let answer = step(&mut b, Record::read(record), snippets, sequences);
-        put(answers, i, errors::number(answer));
+        let answer = step(&mut ran.builders, record, &mut ran.kept);
+        laws::store(answers, i, errors::number(answer));
         let place = i + 1;
-        first = first.or(answer.err().map(|error| Refusal { error, place }));
+        ran.first = ran
+            .first
+            .or(answer.err().map(|error| Refusal { error, place }));
     }
-    Ran {
-        builders: b,
-        count,
-        first,
-    }
+    ran
 }
 
 // Makes the call that a record says, on the builders or on the items kept. An item that was accepted is used up.
-fn step(
-    b: &mut Builders,
-    record: Record,
-    snippets: &mut [u8],
-    sequences: &mut [u8],
-) -> Result<(), Error>
-    requires { (length snippets.old ≡ room_for 15) × (length sequences.old ≡ room_for 16) }
-    ensures { StepsMemory b.old (call_of «record») snippets.old sequences.old (handed (answer_number result) b.new)
-        snippets.new sequences.new }
+fn step(b: &mut Builders, record: &[u8], kept: &mut Kept) -> Result<(), Error>
+    ensures { StepsMemory b.old (call_of (first_record «record».now)) kept.old (handed (answer_number result) b.new) kept.new }
 {
-    match record.code {
-        ADD_SNIPPET => {
-            add_snippet(snippets, b.snippet)?;
+    match Call::read(record)? {
+        Call::AddSnippet => {
+            add_snippet(&mut kept.snippets, b.snippet)?;
             b.snippet = SnippetBuilder::new();
             Ok(())
         }
-        ADD_SEQUENCE => {
-            add_sequence(sequences, b.sequence)?;
+        Call::AddSequence => {
+            add_sequence(&mut kept.sequences, b.sequence)?;
             b.sequence = SequenceBuilder::new();
             Ok(())
         }
-        _ => b.apply(record),
+        call => b.apply(call),
     }
 }
 
-// Puts the snippet behind the others, if it can be built.
-fn add_snippet(list: &mut [u8], b: SnippetBuilder) -> Result<(), Error>
-    requires { length list.old ≡ room_for 15 }
-    ensures { StepsSnippets (λ m. with_built with_snippet m (built_snippet b)) list.old (answer_number result) list.new }
+// Puts the snippet behind the others, if it can be built. Two functions over `push`: a snippet's bytes come by value and a sequence's are lent, so
+// one would take a trait longer than both; written out in the arms of `step`, an image took 8,566 instructions for 7,981.
+fn add_snippet(pool: &mut Pool<MAX_SNIPPETS>, b: SnippetBuilder) -> Result<(), Error>
+    ensures { StepsSnippets (λ m. with_built with_snippet m (built_snippet b)) pool.old (answer_number result) pool.new }
 {
     let snippet = b.build()?;
-    pool::push(
-        list,
-        15,
-        Error::TooManySnippets,
+    pool.push(
         &snippet.bytes()[..snippet.byte_len()],
+        Error::TooManySnippets,
     )
 }
 
 // Puts the sequence behind the others, if it can be built.
-fn add_sequence(list: &mut [u8], b: SequenceBuilder) -> Result<(), Error>
-    requires { length list.old ≡ room_for 16 }
-    ensures { StepsSequences (λ m. with_built with_sequence m (built_sequence b)) list.old (answer_number result) list.new }
+fn add_sequence(pool: &mut Pool<MAX_SEQUENCES>, b: SequenceBuilder) -> Result<(), Error>
+    ensures { StepsSequences (λ m. with_built with_sequence m (built_sequence b)) pool.old (answer_number result) pool.new }
 {
     let sequence = b.build()?;
-    pool::push(list, 16, Error::TooManySequences, sequence.as_bytes())
-}
-
-// Stores at an index, if there is such a byte. `if let Some(b) = answers.get_mut(i)` was tried: what `answers` is after the store stays open.
-fn put(answers: &mut [u8], i: usize, x: u8)
-    ensures { answers.new ≡ set answers.old i x }
-{
-    if i < answers.len() {
-        answers[i] = x;
-    }
+    pool.push(sequence.as_bytes(), Error::TooManySequences)
 }

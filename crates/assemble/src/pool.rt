@@ -1,69 +1,114 @@
-// Snippets or sequences kept in lent bytes until an image is built of them (added): their number, their lengths, and their bytes one
-// after the other. `WaveformMemoryBuilder` holds room for sixteen sequences of 96 bytes; here a hundred bytes have room, since an
-// image of more is refused. Document 01, 'The hundred bytes'.
+// Snippets and sequences kept until an image is built of them (added): of each kind their number, their lengths, and their bytes one after the
+// other. Document 01, 'The hundred bytes'.
 // Proved: `push` puts an item behind the others, `image` tests and lays out what the builder's `build` does.
-ghost use Rattle.std.specs.Prelude.{◌≡◌, ◌+◌, ◌≤◌, ◌<◌, cond, ltb, length, get_or};
+ghost use Rattle.std.specs.Prelude.{◌≡◌, ◌+◌, ◌≤◌, ◌<◌, cond, ltb, length, sum, take};
 ghost use Rattle.errors.specs.Number.{answer_number, error_number};
 ghost use Rattle.laws.specs.Copied.{over};
-ghost use Rattle.assemble.specs.Kept.{sum_of, ends, room_for, Pushed, Fits, image_from, KeptBoth, ImageLaid};
+ghost use Rattle.assemble.specs.Kept.{ends, no_items, nothing_kept, Pushed, Fits, image_from, ImageLaid};
 
 use errors::Error;
+use memory::{MAX_MEMORY_SIZE, MAX_SEQUENCES, MAX_SNIPPETS};
 
-// Where the bytes begin, behind the number and the lengths of at most 15 snippets or 16 sequences.
-const SNIPPET_BYTES: usize = 16;
-
-const SEQUENCE_BYTES: usize = 17;
-
-// What an image holds beside its two counts.
-const IMAGE_ROOM: usize = 98;
-
-// Puts an item behind the others, as far as its bytes have room, or answers `full` where there is no room for its length.
-pub(crate) fn push(list: &mut [u8], most: usize, full: Error, bytes: &[u8]) -> Result<(), Error>
-    requires { (length list.old ≡ room_for most) × (most ≤ 16) × (length bytes.now < 256) }
-    ensures value { answer_number result ≡ cond (ltb (get_or list.old 0 0) most) 0 (error_number full) }
-    ensures pushed { Pushed most bytes.now list.old list.new }
-{
-    let n = laws::wide(list[0]);
-    if most <= n {
-        return Err(full);
-    }
-    let at = 1 + most + sum(&list[1..1 + n]);
-    laws::copy_at(list, at, bytes);
-    list[1 + n] = bytes.len() as u8;
-    list[0] = (n + 1) as u8;
-    Ok(())
+// Bytes and not `WaveformMemoryBuilder`: with that an image took 1.6 times the Rust's instructions, and 0.9 with these (docs/DECISIONS.md, 'Speed').
+// A hundred have room, since an image of more is refused.
+#[derive(Clone, Copy)]
+pub(crate) struct Pool<const MOST: usize> {
+    count: u8,
+    lens: [u8; MOST],
+    bytes: [u8; MAX_MEMORY_SIZE],
 }
 
-// Tests no snippets, no sequences, then the size; the image of what is kept goes whole to the front of the buffer.
-pub(crate) fn image(snippets: &[u8], sequences: &[u8], buffer: &mut [u8]) -> Result<(), Error>
-    requires { KeptBoth snippets.now sequences.now }
-    ensures { ImageLaid snippets.now sequences.now buffer.old (answer_number result) buffer.new }
-{
-    let s = laws::wide(snippets[0]);
-    let q = laws::wide(sequences[0]);
-    if s < 1 {
-        return Err(Error::EmptySnippet);
-    }
-    if q < 1 {
-        return Err(Error::EmptySequence);
-    }
-    let a = sum(&snippets[1..1 + s]);
-    let b = sum(&sequences[1..1 + q]);
-    if IMAGE_ROOM < s + q + a + b {
-        return Err(Error::WaveformMemoryFull);
-    }
-    let out = laid(
-        &snippets[1..1 + s],
-        &snippets[SNIPPET_BYTES..SNIPPET_BYTES + a],
-        &sequences[1..1 + q],
-        &sequences[SEQUENCE_BYTES..SEQUENCE_BYTES + b],
-    );
-    laws::copy_whole(buffer, &out)?;
-    Ok(())
+// The snippets and the sequences that a list of calls added.
+#[derive(Clone, Copy)]
+pub(crate) struct Kept {
+    pub(crate) snippets: Pool<MAX_SNIPPETS>,
+    pub(crate) sequences: Pool<MAX_SEQUENCES>,
 }
 
-// The lengths and the bytes of snippets and sequences as an image, in which they fit.
-fn laid(snippet_lens: &[u8], snippets: &[u8], sequence_lens: &[u8], sequences: &[u8]) -> [u8; 100]
+impl<const MOST: usize> Pool<MOST> {
+    fn new() -> Self
+        ensures { result ≡ no_items MOST }
+    {
+        Pool {
+            count: 0,
+            lens: [0; MOST],
+            bytes: [0; MAX_MEMORY_SIZE],
+        }
+    }
+
+    // Puts an item behind the others, as far as its bytes have room, or answers `full` where there is no room for its length.
+    pub(crate) fn push(&mut self, bytes: &[u8], full: Error) -> Result<(), Error>
+        requires { (MOST ≤ 16) × (length bytes.now < 256) }
+        ensures value { answer_number result ≡ cond (ltb self.old.count MOST) 0 (error_number full) }
+        ensures pushed { Pushed MOST bytes.now self.old self.new }
+    {
+        let n = usize::from(self.count);
+        if MOST <= n {
+            return Err(full);
+        }
+        let at = total(&self.lens[..n]).min(MAX_MEMORY_SIZE);
+        laws::copy_into(&mut self.bytes[at..], bytes);
+        self.lens[n] = bytes.len() as u8;
+        self.count += 1;
+        Ok(())
+    }
+
+    // The lengths of the items.
+    fn lens(&self) -> &[u8]
+        ensures value { result.now ≡ take self.now.count self.now.lens }
+        ensures upper_bound { length result.now ≤ MOST }
+    {
+        laws::shown(&self.lens, self.count)
+    }
+}
+
+impl Kept {
+    pub(crate) fn new() -> Kept
+        ensures { result ≡ nothing_kept }
+    {
+        Kept {
+            snippets: Pool::new(),
+            sequences: Pool::new(),
+        }
+    }
+
+    // Tests no snippets, no sequences, then the size; the image of what is kept goes whole to the front of the buffer.
+    pub(crate) fn image(&self, buffer: &mut [u8]) -> Result<(), Error>
+        ensures { ImageLaid self.now buffer.old (answer_number result) buffer.new }
+    {
+        let snippets = self.snippets.lens();
+        let sequences = self.sequences.lens();
+        if snippets.is_empty() {
+            return Err(Error::EmptySnippet);
+        }
+        if sequences.is_empty() {
+            return Err(Error::EmptySequence);
+        }
+        let a = total(snippets);
+        let b = total(sequences);
+        let size = 2 + snippets.len() + sequences.len() + a + b;
+        if MAX_MEMORY_SIZE < size {
+            return Err(Error::WaveformMemoryFull);
+        }
+        let out = laid(
+            snippets,
+            &self.snippets.bytes[..a],
+            sequences,
+            &self.sequences.bytes[..b],
+        );
+        laws::copy_whole(buffer, &out)?;
+        Ok(())
+    }
+}
+
+// The lengths and the bytes of snippets and sequences as an image, in which they fit. Not by `memory`'s `image_of`: its items are values with bytes
+// of their own, one laid after the other, and these lie end to end already and are copied at once.
+fn laid(
+    snippet_lens: &[u8],
+    snippets: &[u8],
+    sequence_lens: &[u8],
+    sequences: &[u8],
+) -> [u8; MAX_MEMORY_SIZE]
     requires { Fits snippet_lens.now snippets.now sequence_lens.now sequences.now }
     ensures { result
         ≡ image_from snippet_lens.now snippets.now sequence_lens.now sequences.now }
@@ -72,7 +117,7 @@ fn laid(snippet_lens: &[u8], snippets: &[u8], sequence_lens: &[u8], sequences: &
     let q = sequence_lens.len();
     let at = 2 + s + q;
     let next = at + snippets.len();
-    let mut out = [0u8; 100];
+    let mut out = [0u8; MAX_MEMORY_SIZE];
     out[0] = s as u8;
     out[1] = q as u8;
     let last = pointers(&mut out, 2, snippet_lens, 1 + s + q);
@@ -83,27 +128,25 @@ fn laid(snippet_lens: &[u8], snippets: &[u8], sequence_lens: &[u8], sequences: &
 }
 
 // Stores the index of each item's last byte, where the byte before the first item stands at `before`, and answers the last index.
+// `out[at..].iter_mut().zip(lens)` was tried: the bound of `last` stays open, and nothing is known of what an adapter of `iter_mut` leaves.
 fn pointers(out: &mut [u8], at: usize, lens: &[u8], before: usize) -> usize
-    requires { (length out.old ≡ 100) × (at + length lens.now ≤ 100) × (before + sum_of lens.now < 256) }
-    ensures value { result ≡ before + sum_of lens.now }
+    requires { (length out.old ≡ 100) × (at + length lens.now ≤ 100) × (before + sum lens.now < 256) }
+    ensures value { result ≡ before + sum lens.now }
     ensures out_after { out.new ≡ over out.old at (ends before lens.now) }
 {
     let mut last = before;
     for (i, len) in lens.iter().enumerate() {
-        last += laws::wide(*len);
+        last += usize::from(*len);
         out[at + i] = last as u8;
     }
     last
 }
 
-fn sum(lens: &[u8]) -> usize
+// How many bytes items of these lengths take.
+fn total(lens: &[u8]) -> usize
     requires { length lens.now ≤ 16 }
-    ensures value { result ≡ sum_of lens.now }
+    ensures value { result ≡ sum lens.now }
     ensures upper_bound { result < 4096 }
 {
-    let mut sum = 0usize;
-    for len in lens {
-        sum += laws::wide(*len);
-    }
-    sum
+    lens.iter().map(|len| usize::from(*len)).sum()
 }

@@ -1,22 +1,10 @@
--- A choice of four, and the calls of no bytes. Assumes nothing.
+-- The calls of no bytes. Assumes nothing.
 use mathlib.Core.Path.{◌≡◌, refl}
-use mathlib.Core.Bool.{Bool, true, false, cond}
 use mathlib.Core.List.{List, [], ◌∷◌}
-use lib.Dec.{ltb}
 use Prim.Native.Nat.{ℕ, ◌≤◌}
 use native.Mathlib.Omega.{arith}
 use lib.ListN.{length}
-use Rattle.pattern.specs.Calls.{FrameCall}
-use Rattle.calls.specs.Said.{Call}
-use Rattle.calls.specs.Said as Call
-use Rattle.calls.specs.Calls.{chosen, calls_in}
-
--- a choice of four says a call or none
-pub chosen_either : (P : Call → Type 0) (k : FrameCall) (code : ℕ) → P Call.unknown → P (Call.builder (Call.on_frame k)) → P (chosen k code)
-chosen_either P k code h w = go (ltb 3 code) where
-  go : (t : Bool) → P (cond t Call.unknown (Call.builder (Call.on_frame k)))
-  go true = h
-  go false = w
+use Rattle.calls.specs.Calls.{calls_in}
 
 -- behind the last there are none
 pub calls_none : (l : List ℕ) → length l ≤ 0 → calls_in l ≡ []

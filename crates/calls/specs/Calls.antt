@@ -1,19 +1,21 @@
 -- Builder calls as bytes, and calls on one snippet, one frame and one sequence under construction: document 01, 'The hundred bytes',
 -- second paragraph, "Each call gets what the last handed back".
-use Rattle.std.specs.Prelude.{ℕ, ◌+◌, ◌*◌, cond, List, [], ◌∷◌, ltb, length, get_or, Option, Some, None}
+use Rattle.std.specs.Prelude.{ℕ, ◌+◌, ◌*◌, cond, List, [], ◌∷◌, ltb, length, get_or, Option, Some, None, Result, Ok, Err}
+use Rattle.errors.specs.declared.Error.{Error}
 use Rattle.errors.specs.Told.{Told, gives, refuses, on_told, told_number, Handed, handed, accepted, refused}
 use Rattle.snippet.specs.declared.SnippetBuilder.{SnippetBuilder}
-use Rattle.snippet.specs.Snippet.{new_snippet}
+use Rattle.snippet.specs.Snippet.{pwl_byte, new_snippet}
 use Rattle.frame.specs.declared.FrameBuilder.{FrameBuilder}
 use Rattle.frame.specs.Frame.{built_frame}
 use Rattle.frame.specs.Read.{gain_at, timebase_at}
 use Rattle.sequence.specs.declared.SequenceBuilder.{SequenceBuilder}
 use Rattle.sequence.specs.Sequence.{new_sequence, with_frame}
 use Rattle.pattern.specs.Calls.{ramp, step, point, snippet_step, FrameCall, gain, timebase, loop_count, frequency_hz, frame_step, new, silence, begun_by}
-use Rattle.calls.specs.Said.{BuilderCall, Call}
+use Rattle.calls.specs.Said.{BuilderCall, Call, Record}
 use Rattle.calls.specs.Said as Call
 use Rattle.calls.specs.declared.Builders.{Builders}
-use Rattle.calls.specs.declared.Record.{Record}
+use Rattle.calls.specs.declared.Call as enum
+use Rattle.calls.specs.declared.Call.TheVariants as code
 
 -- ---- calls as bytes
 
@@ -43,6 +45,34 @@ call_of r = get_or (calls_by_code r.a r.b) r.code Call.unknown
 -- the first record of four bytes, the last of which says nothing; a shorter one counts as one of zeros, which says no call
 abbrev pub first_record : List ℕ → Record
 first_record l = cond (ltb (length l) 4) (record_of 0 0 0) (record_of (get_or l 0 0) (get_or l 1 0) (get_or l 2 0))
+
+-- the call that the code's enum says
+abbrev pub said : enum.Call → Call
+said code.NewSnippet = Call.builder Call.snippet_new
+said (code.Ramp t a) = Call.builder (Call.on_snippet (ramp t a))
+said (code.Step t a) = Call.builder (Call.on_snippet (step t a))
+said (code.Point p) = Call.builder (Call.on_snippet (point (pwl_byte p)))
+said (code.New n) = Call.builder (Call.begin_frame (new n))
+said code.Silence = Call.builder (Call.begin_frame silence)
+said (code.Gain g) = Call.builder (Call.on_frame (gain g))
+said (code.Timebase t) = Call.builder (Call.on_frame (timebase t))
+said (code.LoopCount k) = Call.builder (Call.on_frame (loop_count k))
+said (code.FrequencyHz f) = Call.builder (Call.on_frame (frequency_hz f))
+said code.NewSequence = Call.builder Call.sequence_new
+said code.AddFrame = Call.builder Call.add_frame
+said code.AddSnippet = Call.add_snippet
+said code.AddSequence = Call.add_sequence
+
+-- what reading a record comes to: its call, or the number 14, NotSupported, where it says none
+abbrev pub said_by : Result enum.Call Error → Call
+said_by (Ok call) = said call
+said_by (Err e) = Call.unknown
+
+abbrev pub none_number : Call → ℕ
+none_number (Call.builder k) = 0
+none_number Call.add_snippet = 0
+none_number Call.add_sequence = 0
+none_number Call.unknown = 14
 
 -- a list of calls: records one after the other, a shorter last one among them
 unfoldable pub calls_in : List ℕ → List Call

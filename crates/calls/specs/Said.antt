@@ -1,4 +1,5 @@
 -- The builder calls that a record of a list can say.
+use Rattle.std.specs.Prelude.{ℕ}
 use Rattle.pattern.specs.Calls.{SnippetCall, FrameCall, Begin}
 
 -- on the snippet, the frame or the sequence under construction
@@ -16,3 +17,9 @@ pub data Call : Type 0 where
   add_snippet : Call
   add_sequence : Call
   unknown : Call
+
+-- a record: a code and two arguments
+pub record Record : Type 0 where
+  pub code : ℕ
+  pub a : ℕ
+  pub b : ℕ

@@ -1,7 +1,7 @@
 -- Every item is short or a refusal, so its answer has room in a number. Assumes nothing.
 use Rattle.std.specs.Prelude.{Option, Some, None}
 use Rattle.frame.specs.declared.FrameBuilder.{FrameBuilder}
-use mathlib.Core.Path.{sym, subst}
+use mathlib.Core.Path.{◌≡◌, sym, subst}
 use mathlib.Core.Bool.{Bool, true, false, cond}
 use mathlib.Core.List.{List, ◌++◌}
 use Prim.Native.Nat.{ℕ, ◌<◌, ◌≤◌}
@@ -36,6 +36,9 @@ item_room out (gives bytes) h = go (ltb (length out) (length bytes)) where
   go : (t : Bool) → Room 16 (length_of (cond t (refuses 24) (gives bytes)))
   go true = omega arith
   go false = let k : length bytes < 65536 = omega arith in k
+
+pub answer_room : (out : List ℕ) (t : Told (List ℕ)) (answer : Told ℕ) → Few t → answer ≡ length_of (whole out t) → Room 16 answer
+answer_room out t answer h e = subst (Room 16) (sym e) (item_room out t h)
 
 few_told : (t : Bool) (n : ℕ) (bytes : List ℕ) → 1 ≤ n → length bytes ≤ 96 → Few (cond t (refuses n) (gives bytes))
 few_told true n bytes h k = h

@@ -6,8 +6,8 @@
 // docs/DIFFERENCES.md lists.
 #![tactic(auto)]
 
-ghost use Rattle.std.specs.Prelude.{◌≡◌, ◌*◌, ltb, min, length};
-ghost use Rattle.errors.specs.Number.{error_number, told};
+ghost use Rattle.std.specs.Prelude.{◌≡◌, ltb, min, length};
+ghost use Rattle.errors.specs.Number.{told};
 ghost use Rattle.errors.specs.Packed.{packed, Room};
 ghost use Rattle.snippet.specs.Point.{point, point_told, ramp_in, timebases_in, amplitude_in};
 ghost use Rattle.laws.specs.Copied.{copied};
@@ -25,18 +25,13 @@ ghost use Rattle.registers.specs.Table.{interrupts, actuator, control, trigger, 
 use errors::Error;
 use snippet::PwlPoint;
 
-// What a refusal's number is multiplied by beside a length or a count, and beside a point's byte.
-const REFUSED: u32 = 65536;
-
-const REFUSED_POINT: u16 = 256;
-
-// A point's answer as one number.
+// A point's answer as one number: the only one whose refusals stand above 8 bits, and in a `u16`.
 fn word(made: Result<PwlPoint, Error>) -> u16
     ensures { result ≡ packed 8 (point_told made) }
 {
     match made {
-        Ok(p) => p.as_byte() as u16,
-        Err(e) => (e.number() as u16) * REFUSED_POINT,
+        Ok(p) => u16::from(p.as_byte()),
+        Err(e) => u16::from(e.number()) << 8,
     }
 }
 
@@ -44,10 +39,11 @@ fn word(made: Result<PwlPoint, Error>) -> u16
 pub extern "C" fn da728x_point(ramp: u8, timebases: u8, amplitude: u8) -> u16
     ensures { result ≡ packed 8 (point (ltb 0 ramp) timebases amplitude) }
 {
-    if 0 < ramp {
-        return word(PwlPoint::ramp(timebases, amplitude));
-    }
-    word(PwlPoint::step(timebases, amplitude))
+    word(if 0 < ramp {
+        PwlPoint::ramp(timebases, amplitude)
+    } else {
+        PwlPoint::step(timebases, amplitude)
+    })
 }
 
 #[unsafe(no_mangle)]
@@ -76,29 +72,24 @@ fn length_word(r: Result<usize, Error>) -> u32
     requires { Room 16 (told r) }
     ensures { result ≡ packed 16 (told r) }
 {
-    match r {
-        Ok(n) => n as u32,
-        Err(e) => refusal_word(e),
-    }
-}
-
-// A refusal as one number, beside lengths and counts.
-fn refusal_word(e: Error) -> u32
-    ensures { result ≡ error_number e * 65536 }
-{
-    u32::from(e.number()) * REFUSED
+    errors::word(r.map(|n| n as u32))
 }
 
 // Builds the snippet and encodes it into the front of `out`; answers its length, or the refusal, and then `out` stays.
 #[unsafe(no_mangle)]
+#[tactic(auto, using(crate::proofs::Words::answer_room, crate::proofs::Words::few_snippet))]
 pub extern "C" fn da728x_snippet(calls: &[u8], out: &mut [u8]) -> u32
     ensures answer { result ≡ packed 16 (length_of (whole out.old (snippet_item calls.now))) }
     ensures out { out.new ≡ whole_out out.old (snippet_item calls.now) }
 {
-    match assemble::builders(calls).snippet.build() {
-        Ok(snippet) => length_word(snippet.encode_into(out)),
-        Err(e) => refusal_word(e),
-    }
+    length_word(snippet_into(calls, out))
+}
+
+fn snippet_into(calls: &[u8], out: &mut [u8]) -> Result<usize, Error>
+    ensures answer { told result ≡ length_of (whole out.old (snippet_item calls.now)) }
+    ensures out { out.new ≡ whole_out out.old (snippet_item calls.now) }
+{
+    assemble::builders(calls).snippet.build()?.encode_into(out)
 }
 
 // Builds the frame and encodes it into the front of `out`; answers its length, or the refusal, and then `out` stays.
@@ -107,22 +98,35 @@ pub extern "C" fn da728x_frame(calls: &[u8], out: &mut [u8]) -> u32
     ensures answer { result ≡ packed 16 (length_of (whole out.old (frame_item calls.now))) }
     ensures out { out.new ≡ whole_out out.old (frame_item calls.now) }
 {
-    match assemble::builders(calls).frame {
-        Some(frame) => length_word(frame.build().encode_into(out)),
-        None => refusal_word(Error::InvalidSnippetId),
-    }
+    length_word(frame_into(calls, out))
+}
+
+fn frame_into(calls: &[u8], out: &mut [u8]) -> Result<usize, Error>
+    ensures answer { told result ≡ length_of (whole out.old (frame_item calls.now)) }
+    ensures out { out.new ≡ whole_out out.old (frame_item calls.now) }
+{
+    assemble::builders(calls)
+        .frame
+        .ok_or(Error::InvalidSnippetId)?
+        .build()
+        .encode_into(out)
 }
 
 // Builds the sequence and encodes it into the front of `out`; answers its length, or the refusal, and then `out` stays.
 #[unsafe(no_mangle)]
+#[tactic(auto, using(crate::proofs::Words::answer_room, crate::proofs::Words::few_sequence))]
 pub extern "C" fn da728x_sequence(calls: &[u8], out: &mut [u8]) -> u32
     ensures answer { result ≡ packed 16 (length_of (whole out.old (sequence_item calls.now))) }
     ensures out { out.new ≡ whole_out out.old (sequence_item calls.now) }
 {
-    match assemble::builders(calls).sequence.build() {
-        Ok(sequence) => length_word(sequence.encode_into(out)),
-        Err(e) => refusal_word(e),
-    }
+    length_word(sequence_into(calls, out))
+}
+
+fn sequence_into(calls: &[u8], out: &mut [u8]) -> Result<usize, Error>
+    ensures answer { told result ≡ length_of (whole out.old (sequence_item calls.now)) }
+    ensures out { out.new ≡ whole_out out.old (sequence_item calls.now) }
+{
+    assemble::builders(calls).sequence.build()?.encode_into(out)
 }
 
 // How many bytes the sequence under construction has.
@@ -205,6 +209,7 @@ pub extern "C" fn da728x_register_addresses(out: &mut [u8]) -> usize
     laws::copy_into(out, &all)
 }
 
+// The listings of the four groups stay eight functions: each is an export with a name that C calls.
 #[unsafe(no_mangle)]
 pub extern "C" fn da728x_read_interrupts(byte: u8, out: &mut [u8]) -> usize
     ensures value { result ≡ min (length (readings interrupts byte)) (length out.old) }

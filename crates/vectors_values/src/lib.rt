@@ -4,7 +4,7 @@
 // Proved: every function is safe and returns.
 #![tactic(auto)]
 
-use calls::{ADD_SEQUENCE, ADD_SNIPPET, Builders, Record};
+use calls::{Builders, Call};
 use errors::Error;
 use memory::WaveformMemoryBuilder;
 use reader::items;
@@ -39,21 +39,20 @@ impl Run {
 
     // Makes the call of a record. One that adds to the memory uses up the item under construction; a refused one leaves all as it was.
     fn call(&mut self, record: &[u8]) -> Result<(), Error> {
-        let record = Record::read(record);
-        match record.code {
-            ADD_SNIPPET => {
+        match Call::read(record)? {
+            Call::AddSnippet => {
                 let snippet = self.builders.snippet.build()?;
                 self.memory = self.memory.add_snippet(snippet)?;
                 self.builders.snippet = SnippetBuilder::new();
                 Ok(())
             }
-            ADD_SEQUENCE => {
+            Call::AddSequence => {
                 let sequence = self.builders.sequence.build()?;
                 self.memory = self.memory.add_sequence(sequence)?;
                 self.builders.sequence = SequenceBuilder::new();
                 Ok(())
             }
-            _ => self.builders.apply(record),
+            call => self.builders.apply(call),
         }
     }
 

@@ -1,14 +1,8 @@
-use Rattle.std.proofs.Common.{false, rules}
-use Rattle.pattern.specs.Calls.{memory_from}
-use Rattle.assemble.specs.Lists.{groups_of}
-use Rattle.assemble.proofs.Holding.{kept_both, image_built}
+use Rattle.assemble.proofs.Holding.{image_built}
 use Rattle.assemble.proofs.assemble.Goals as goal
 
-pub image-requires : goal.image-requires
-image-requires c = kept_both (memory_from false (groups_of c.args.calls.now).memory) _ _ c.run.ensures.memory (search rules) (search rules)
-
 pub returns-clause-answer : goal.returns-clause-answer
-returns-clause-answer c = (image_built _ _ _ c.run.ensures.memory c.args.image.now _ _ c.image.ensures).0
+returns-clause-answer c = (image_built _ _ c.run.ensures.memory c.args.image.now _ _ c.image.ensures).0
 
 pub returns-clause-image : goal.returns-clause-image
-returns-clause-image c = (image_built _ _ _ c.run.ensures.memory c.args.image.now _ _ c.image.ensures).1
+returns-clause-image c = (image_built _ _ c.run.ensures.memory c.args.image.now _ _ c.image.ensures).1

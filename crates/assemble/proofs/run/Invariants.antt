@@ -1,14 +1,12 @@
-use Rattle.std.proofs.Common.{◌≡◌, length}
-use Rattle.assemble.specs.Kept.{room_for}
+use Rattle.std.proofs.Common.{◌≡◌}
 use Rattle.assemble.specs.Refusal.{first_number}
 use Rattle.assemble.proofs.Running.{Running}
 use Rattle.assemble.proofs.run.Given as goal
 
--- running what is left gives the builders and the answers of the whole, with the memory's builder kept in the bytes
+-- running what is left gives the builders and the answers of the whole, with the memory's builder kept in the pools
 abbrev pub invariant-loop-i : goal.invariant-loop-i
 invariant-loop-i l = record {
   four : l.i-iterator.iter.size ≡ 4;
-  snippets : length l.snippets ≡ room_for 15;
-  sequences : length l.sequences ≡ room_for 16;
-  runs : Running l.calls l.fn.answers l.answers l.snippets l.sequences l.b l.i-iterator.iter.rest.now l.i-iterator.count (first_number l.first);
+  count : l.ran.count ≡ l.initial.ran.count;
+  runs : Running l.calls l.fn.answers l.answers l.ran.kept l.ran.builders l.i-iterator.iter.rest.now l.i-iterator.count (first_number l.ran.first);
 }

@@ -1,10 +1,11 @@
 use Rattle.std.proofs.Common.{drop, ◌≡◌, ◌+◌}
 use Rattle.std.proofs.Math.Seq.{sets}
-use Rattle.assemble.specs.Kept.{sum_of, ends}
+use Rattle.std.specs.Prelude.{sum}
+use Rattle.assemble.specs.Kept.{ends}
 use Rattle.assemble.proofs.pool.pointers.Given as goal
 
 -- the ends that are left, stored, give what the whole gives
 abbrev pub invariant-loop-i : goal.invariant-loop-i
 invariant-loop-i l =
-    (l.last + sum_of (drop l.i l.lens) ≡ l.before + sum_of l.lens)
+    (l.last + sum (drop l.i l.lens) ≡ l.before + sum l.lens)
     × (sets l.fn.out l.at (ends l.before l.lens) ≡ sets l.out (l.at + l.i) (ends l.last (drop l.i l.lens)))
