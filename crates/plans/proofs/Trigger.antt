@@ -167,7 +167,7 @@ pub trigger : Trigger
 unfolding with_of
 trigger =
     record {
-      bytes = (byte "0" tt (λ p m n. with_masked _ 3 4 n), (byte "1" tt (λ p m n. with_masked _ 3 4 n), (byte "2" tt (λ p m n. with_masked _ 3 4 n), tt)));
+      bytes = (byte "0" refl (λ p m n. with_masked _ 3 4 n), (byte "1" refl (λ p m n. with_masked _ 3 4 n), (byte "2" refl (λ p m n. with_masked _ 3 4 n), tt)));
       code = code;
       writes = writes;
       sent = λ chip last register byte image. refl;
