@@ -130,7 +130,7 @@ fn run(calls: &[u8], answers: &mut [u8]) -> Ran
 fn step(b: &mut Builders, record: &[u8], kept: &mut Kept) -> Result<(), Error>
     ensures { StepsMemory b.old (call_of (first_record «record».now)) kept.old (handed (answer_number result) b.new) kept.new }
 {
-    match Call::read(record)? {
+    match Call::read(record) {
         Call::AddSnippet => {
             add_snippet(&mut kept.snippets, b.snippet)?;
             b.snippet = SnippetBuilder::new();

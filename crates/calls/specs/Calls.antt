@@ -1,7 +1,6 @@
 -- Builder calls as bytes, and calls on one snippet, one frame and one sequence under construction: document 01, 'The hundred bytes',
 -- second paragraph, "Each call gets what the last handed back".
-use Rattle.std.specs.Prelude.{ℕ, ◌+◌, ◌*◌, cond, List, [], ◌∷◌, ltb, length, get_or, Option, Some, None, Result, Ok, Err}
-use Rattle.errors.specs.declared.Error.{Error}
+use Rattle.std.specs.Prelude.{ℕ, ◌+◌, ◌*◌, cond, List, [], ◌∷◌, ltb, length, get_or, Option, Some, None}
 use Rattle.errors.specs.Told.{Told, gives, refuses, on_told, told_number, Handed, handed, accepted, refused}
 use Rattle.snippet.specs.declared.SnippetBuilder.{SnippetBuilder}
 use Rattle.snippet.specs.Snippet.{pwl_byte, new_snippet}
@@ -62,17 +61,7 @@ said code.NewSequence = Call.builder Call.sequence_new
 said code.AddFrame = Call.builder Call.add_frame
 said code.AddSnippet = Call.add_snippet
 said code.AddSequence = Call.add_sequence
-
--- what reading a record comes to: its call, or the number 14, NotSupported, where it says none
-abbrev pub said_by : Result enum.Call Error → Call
-said_by (Ok call) = said call
-said_by (Err e) = Call.unknown
-
-abbrev pub none_number : Call → ℕ
-none_number (Call.builder k) = 0
-none_number Call.add_snippet = 0
-none_number Call.add_sequence = 0
-none_number Call.unknown = 14
+said code.Unknown = Call.unknown
 
 -- a list of calls: records one after the other, a shorter last one among them
 unfoldable pub calls_in : List ℕ → List Call

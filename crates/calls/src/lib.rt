@@ -8,14 +8,14 @@
 ghost use Rattle.std.specs.Prelude.{◌≡◌};
 ghost use Rattle.errors.specs.Number.{answer_number, told};
 ghost use Rattle.errors.specs.Told.{handed};
-ghost use Rattle.calls.specs.Calls.{first_record, call_of, said, said_by, none_number, called_by, started, frame_begun};
+ghost use Rattle.calls.specs.Calls.{first_record, call_of, said, called_by, started, frame_begun};
 
 use errors::Error;
 use frame::{FrameBuilder, Gain, Timebase};
 use sequence::SequenceBuilder;
 use snippet::{PwlPoint, SnippetBuilder};
 
-// The last code of a gain or a timebase.
+// The last code of a gain or a timebase. Tested here: `From` takes every code, as it always did, so it cannot refuse one.
 const LAST_CHOICE: u8 = 3;
 
 // A builder call, or one that adds to a memory. specs/Said.antt has the calls, Calls.antt their codes.
@@ -35,6 +35,8 @@ pub enum Call {
     AddFrame,
     AddSnippet,
     AddSequence,
+    // A record that says no call, which is refused: no `Option`, since a place in the list is a call's, whatever it says.
+    Unknown,
 }
 
 // A snippet, a frame and a sequence under construction.
@@ -46,16 +48,16 @@ pub struct Builders {
 }
 
 impl Call {
-    // The call that the first record says, by its code and two arguments; where it says none, and for a shorter record, NotSupported.
+    // The call that the first record says, by its code and two arguments; `Unknown` where it says none, as a shorter record does.
+    // `read` and no `From`: of longer bytes it reads the first record.
     #[inline]
-    pub fn read(calls: &[u8]) -> Result<Call, Error>
-        ensures call { said_by result ≡ call_of (first_record calls.now) }
-        ensures number { answer_number result ≡ none_number (call_of (first_record calls.now)) }
+    pub fn read(calls: &[u8]) -> Call
+        ensures { said result ≡ call_of (first_record calls.now) }
     {
         let [code, a, b, _, ..] = *calls else {
-            return Err(Error::NotSupported);
+            return Call::Unknown;
         };
-        Ok(match code {
+        match code {
             1 => Call::NewSnippet,
             2 => Call::Ramp {
                 timebases: a,
@@ -76,8 +78,8 @@ impl Call {
             12 => Call::AddFrame,
             13 => Call::AddSnippet,
             14 => Call::AddSequence,
-            _ => return Err(Error::NotSupported),
-        })
+            _ => Call::Unknown,
+        }
     }
 }
 
@@ -123,7 +125,9 @@ impl Builders {
                 self.sequence = self.sequence.add_frame(self.begun()?.build())?;
                 self.frame = None;
             }
-            Call::AddSnippet | Call::AddSequence => return Err(Error::NotSupported),
+            Call::AddSnippet | Call::AddSequence | Call::Unknown => {
+                return Err(Error::NotSupported);
+            }
         }
         Ok(())
     }

@@ -39,7 +39,7 @@ impl Run {
 
     // Makes the call of a record. One that adds to the memory uses up the item under construction; a refused one leaves all as it was.
     fn call(&mut self, record: &[u8]) -> Result<(), Error> {
-        match Call::read(record)? {
+        match Call::read(record) {
             Call::AddSnippet => {
                 let snippet = self.builders.snippet.build()?;
                 self.memory = self.memory.add_snippet(snippet)?;
