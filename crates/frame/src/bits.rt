@@ -1,7 +1,7 @@
 // The bytes of a frame, packed and unpacked by shifts and masks (the body of `build` in waveform/frame.rs; document 01, 'Points, frames,
 // sequences' and 'Which form goes where').
 // Proved: each is the arithmetic that its contract says, for every argument; src/lib.rt ties it to document 01's bytes.
-ghost use Rattle.std.specs.Prelude.{◌≡◌, ◌+◌, ◌*◌, ◌/◌, ◌%◌};
+ghost use Rattle.std.specs.Prelude.{◌≡◌, ◌+◌, ◌*◌, ◌/◌, ◌%◌, ltb, leb};
 
 // Gain code in bits 6..5, timebase code in bits 4..3, low three bits of the number in bits 2..0.
 pub(crate) fn first(gain: u8, timebase: u8, id: u8) -> u8
@@ -38,11 +38,11 @@ pub(crate) fn low1(x: u8) -> u8
     x & 1
 }
 
-// Bit 7.
-pub(crate) fn top(x: u8) -> u8
-    ensures { result ≡ x / 128 }
+// Bit 7: of the byte behind a frame's first one, whether it is the frame's second.
+pub(crate) fn is_second(b: u8) -> bool
+    ensures { result ≡ leb 128 b }
 {
-    x >> 7
+    0x80 <= b
 }
 
 // The gain code of a first byte.
@@ -81,17 +81,17 @@ pub(crate) fn count_in(b: u8) -> u8
 }
 
 // Bit 2 of a second byte: whether a frequency is there.
-pub(crate) fn present_in(b: u8) -> u8
-    ensures { result ≡ b / 4 % 2 }
+pub(crate) fn has_frequency(b: u8) -> bool
+    ensures { result ≡ ltb 0 (b / 4 % 2) }
 {
-    (b >> 2) & 1
+    0 < (b >> 2) & 1
 }
 
 // Bit 1 of a second byte: bit 8 of the frequency.
-pub(crate) fn high_in(b: u8) -> u8
-    ensures { result ≡ b / 2 % 2 }
+pub(crate) fn has_high_bit(b: u8) -> bool
+    ensures { result ≡ ltb 0 (b / 2 % 2) }
 {
-    (b >> 1) & 1
+    0 < (b >> 1) & 1
 }
 
 // The frequency of a second and a third byte.

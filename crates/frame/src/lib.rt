@@ -111,6 +111,14 @@ impl Frame {
         self.as_bytes().len()
     }
 
+    // The three bytes, of which the first `byte_len` are the frame's.
+    pub fn bytes(&self) -> &[u8; MAX_FRAME_BYTES]
+        ensures { result.now ≡ self.now.bytes }
+    {
+        let Frame { bytes, .. } = self;
+        bytes
+    }
+
     // The frame's bytes.
     pub fn as_bytes(&self) -> &[u8]
         ensures { result.now ≡ frame_bytes self.now }
@@ -285,8 +293,8 @@ impl FrameBuilder {
         ensures refusal { IfErr result (λ e. e ≡ Error.NotAnImage) }
     {
         match bytes {
-            [a, rest @ ..] if bits::top(*a) < 1 => match rest {
-                [b, rest @ ..] if 0 < bits::top(*b) => FrameBuilder::read_second(*a, *b, rest),
+            [a, rest @ ..] if !bits::is_second(*a) => match rest {
+                [b, rest @ ..] if bits::is_second(*b) => FrameBuilder::read_second(*a, *b, rest),
                 _ => Ok((FrameBuilder::one_byte(*a), 1)),
             },
             _ => Err(Error::NotAnImage),
@@ -298,8 +306,8 @@ impl FrameBuilder {
         ensures value { read_told result ≡ second_at a b rest.now }
         ensures refusal { IfErr result (λ e. e ≡ Error.NotAnImage) }
     {
-        if bits::present_in(b) < 1 {
-            if bits::high_in(b) < 1 {
+        if !bits::has_frequency(b) {
+            if !bits::has_high_bit(b) {
                 return Ok((FrameBuilder::two_bytes(a, b), 2));
             }
             return Err(Error::NotAnImage);

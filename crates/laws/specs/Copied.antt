@@ -9,3 +9,7 @@ copied buffer bytes = take (length buffer) bytes ++ drop (length bytes) buffer
 -- bytes laid over a list from an index on, where they fit: at + length bytes ≤ length l
 abbrev pub over : List ℕ → ℕ → List ℕ → List ℕ
 over l at bytes = take at l ++ bytes ++ drop (at + length bytes) l
+
+-- as many of the bytes as fit, from an index on
+abbrev pub placed : List ℕ → ℕ → List ℕ → List ℕ
+placed l at bytes = take at l ++ copied (drop at l) bytes

@@ -7,7 +7,7 @@
 ghost use Rattle.std.specs.Prelude.{◌≡◌, ◌+◌, ◌≤◌, min, length, set, take};
 ghost use Rattle.errors.specs.Told.{gives};
 ghost use Rattle.errors.specs.Number.{told};
-ghost use Rattle.laws.specs.Copied.{copied, over};
+ghost use Rattle.laws.specs.Copied.{copied, over, placed};
 ghost use Rattle.laws.specs.Lists.{at};
 ghost use Rattle.laws.specs.Whole.{whole, whole_out, length_of};
 
@@ -34,6 +34,15 @@ pub fn copy_whole(buffer: &mut [u8], bytes: &[u8]) -> Result<usize, Error>
     Ok(copy_into(buffer, bytes))
 }
 
+// Copies as much of the bytes as fits from an index on.
+pub fn copy_at(buffer: &mut [u8], at: usize, bytes: &[u8])
+    ensures { buffer.new ≡ placed buffer.old at bytes.now }
+{
+    if at < buffer.len() {
+        copy_into(&mut buffer[at..], bytes);
+    }
+}
+
 // Lays bytes over the buffer's from an index on. That they fit is a premise, since no answer is left for bytes that do not; its callers prove it.
 pub fn lay(buffer: &mut [u8], at: usize, bytes: &[u8])
     requires { at + length bytes.now ≤ length buffer.old }
@@ -46,6 +55,7 @@ pub fn lay(buffer: &mut [u8], at: usize, bytes: &[u8])
 pub fn store(buffer: &mut [u8], i: usize, x: u8)
     ensures { buffer.new ≡ set buffer.old i x }
 {
+    // by `if let Some(b) = buffer.get_mut(i)` it was tried: what the buffer is after the store stays open
     if i < buffer.len() {
         buffer[i] = x;
     }

@@ -153,17 +153,16 @@ impl WaveformMemoryBuilder {
     }
 
     // Appends a snippet, or TooManySnippets for a 16th.
-    pub fn add_snippet(self, snippet: Snippet) -> Result<WaveformMemoryBuilder, Error>
+    pub fn add_snippet(mut self, snippet: Snippet) -> Result<WaveformMemoryBuilder, Error>
         ensures { handed_by self result ≡ with_snippet self snippet }
     {
-        let mut next = self;
         append(
-            &mut next.snippets,
-            &mut next.num_snippets,
+            &mut self.snippets,
+            &mut self.num_snippets,
             snippet,
             Error::TooManySnippets,
         )?;
-        Ok(next)
+        Ok(self)
     }
 
     // The number of the next snippet, from 1.
@@ -174,17 +173,16 @@ impl WaveformMemoryBuilder {
     }
 
     // Appends a sequence, or TooManySequences for a 17th.
-    pub fn add_sequence(self, sequence: Sequence) -> Result<WaveformMemoryBuilder, Error>
+    pub fn add_sequence(mut self, sequence: Sequence) -> Result<WaveformMemoryBuilder, Error>
         ensures { handed_by self result ≡ with_sequence self sequence }
     {
-        let mut next = self;
         append(
-            &mut next.sequences,
-            &mut next.num_sequences,
+            &mut self.sequences,
+            &mut self.num_sequences,
             sequence,
             Error::TooManySequences,
         )?;
-        Ok(next)
+        Ok(self)
     }
 
     // The number of the next sequence, from 0.

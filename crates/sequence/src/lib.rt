@@ -46,6 +46,14 @@ impl Sequence {
         self.as_bytes().len()
     }
 
+    // The 96 bytes, of which the first `byte_len` are the sequence's.
+    pub fn bytes(&self) -> &[u8; MAX_SEQUENCE_BYTES]
+        ensures { result.now ≡ self.now.«data» }
+    {
+        let Sequence { data, .. } = self;
+        data
+    }
+
     // The sequence's bytes.
     pub fn as_bytes(&self) -> &[u8]
         ensures { result.now ≡ sequence_bytes self.now }
@@ -82,7 +90,7 @@ impl SequenceBuilder {
     }
 
     // The 96 bytes are tested before the 32 frames.
-    pub fn add_frame(self, frame: Frame) -> Result<SequenceBuilder, Error>
+    pub fn add_frame(mut self, frame: Frame) -> Result<SequenceBuilder, Error>
         ensures { handed_by self result ≡ with_frame self frame }
     {
         let at = self.len as usize;
@@ -93,11 +101,10 @@ impl SequenceBuilder {
         if MAX_FRAMES_PER_SEQUENCE <= self.frame_count {
             return Err(Error::TooManySequences);
         }
-        let mut next = self;
-        next.data[at..at + n].copy_from_slice(frame.as_bytes());
-        next.len += n as u8;
-        next.frame_count += 1;
-        Ok(next)
+        self.data[at..at + n].copy_from_slice(frame.as_bytes());
+        self.len += n as u8;
+        self.frame_count += 1;
+        Ok(self)
     }
 
     pub fn current_len(&self) -> usize

@@ -160,17 +160,16 @@ impl SnippetBuilder {
     }
 
     // A point that was made before.
-    pub fn point(self, point: PwlPoint) -> Result<SnippetBuilder, Error>
+    pub fn point(mut self, point: PwlPoint) -> Result<SnippetBuilder, Error>
         ensures { handed_by self result ≡ with_point self point }
     {
         let n = self.len as usize;
         if MAX_POINTS_PER_SNIPPET <= n {
             return Err(Error::TooManySnippets);
         }
-        let mut next = self;
-        next.points[n] = point;
-        next.len += 1;
-        Ok(next)
+        self.points[n] = point;
+        self.len += 1;
+        Ok(self)
     }
 
     pub fn build(self) -> Result<Snippet, Error>
