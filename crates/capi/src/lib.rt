@@ -85,6 +85,7 @@ pub extern "C" fn da728x_snippet(calls: &[u8], out: &mut [u8]) -> u32
     length_word(snippet_into(calls, out))
 }
 
+// Three functions, each beside its export: `?` needs a `Result`, which an export is not, and the items share no trait.
 fn snippet_into(calls: &[u8], out: &mut [u8]) -> Result<usize, Error>
     ensures answer { told result ≡ length_of (whole out.old (snippet_item calls.now)) }
     ensures out { out.new ≡ whole_out out.old (snippet_item calls.now) }
@@ -209,7 +210,7 @@ pub extern "C" fn da728x_register_addresses(out: &mut [u8]) -> usize
     laws::copy_into(out, &all)
 }
 
-// The listings of the four groups stay eight functions: each is an export with a name that C calls.
+// The listings of the four groups stay eight functions: each is an export with a name that C calls, as all here are.
 #[unsafe(no_mangle)]
 pub extern "C" fn da728x_read_interrupts(byte: u8, out: &mut [u8]) -> usize
     ensures value { result ≡ min (length (readings interrupts byte)) (length out.old) }

@@ -1,7 +1,7 @@
 // The refusals (errors.rs), each with document 01's number ('Who can cause which answer') or document 02's.
 // The Rust's names; `Gpio` is left out, since no ported operation drives a pin; `NotAnImage`, `OutOfTurn` and those above 19 are added.
 // `I2c` carries the bus's own failure code. Proved: `number` is the papers' list, `bus_code` that code (specs/Number.antt); `word` puts a value and a
-// refusal into one number (specs/Packed.antt). Left out: the texts for printing.
+// refusal into one number (specs/Packed.antt). Left out: the texts for printing, which is the user's side.
 #![tactic(auto)]
 
 ghost use Rattle.std.specs.Prelude.{◌≡◌};
@@ -47,6 +47,7 @@ impl Error {
         }
     }
 
+    // A method and no `From`, as the one above: an error has two numbers, and a conversion does not say which.
     pub fn number(self) -> u8
         ensures { result ≡ error_number self }
     {

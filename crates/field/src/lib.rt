@@ -10,8 +10,8 @@
 ghost use Rattle.std.specs.Prelude.{◌≡◌, ◌%◌, ◌^◌, ◌<◌, ◌≤◌};
 ghost use Rattle.field.specs.Field.{get_of, with_of, flag_of, code_of};
 
-// Where a field that is updated on the chip lies: its first bit, and how many bits it has. The functions take the two numbers, as
-// each getter and `with_` writes them for its field: a `Place` there would be longer and say no more.
+// Where a field that is updated on the chip lies: its first bit, and how many bits it has. The functions below take the two
+// numbers, as most getters and `with_` write them for a field that has no `Place`, which would be longer there and say no more.
 #[derive(Debug, Clone, Copy, PartialEq, Eq)]
 pub struct Place {
     pub shift: u8,

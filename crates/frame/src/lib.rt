@@ -4,7 +4,7 @@
 // proofs/Written.antt and Reading.antt: `read` (added) undoes `build`, and reads nothing else. `FrameFields` and `word` (added) give the fields by
 // name and as one number. src/bits.rt packs and unpacks the bytes.
 // `build` gives the frame itself, since it cannot refuse; `encode_into` copies all bytes or none (document 02, CR 5); no function here takes a
-// closure. Left out: printing.
+// closure.
 #![tactic(auto)]
 
 mod bits;
@@ -41,7 +41,7 @@ pub enum Timebase {
     Ms87_04,
 }
 
-// The first `len` bytes are the frame's: an array with its length, as in the Rust (fixed memory, no heap).
+// The first `len` bytes are the frame's: an array with its length, as in the Rust: no heap.
 #[derive(Debug, Clone, Copy)]
 pub struct Frame {
     bytes: [u8; MAX_FRAME_BYTES],
@@ -274,12 +274,17 @@ impl FrameBuilder {
         ensures value { result ≡ frame_word self }
         ensures upper_bound { result < 2 ^ 48 }
     {
-        let a = self.snippet_id as u64;
-        let b = (u8::from(self.gain) as u64) * 0x100;
-        let c = (u8::from(self.timebase) as u64) * 0x1_0000;
-        let d = (self.loop_count.unwrap_or(255) as u64) * 0x100_0000;
-        let e = (self.frequency.unwrap_or(65535) as u64) * 0x1_0000_0000;
-        a + b + c + d + e
+        let [low, high] = self.frequency.unwrap_or(65535).to_le_bytes();
+        u64::from_le_bytes([
+            self.snippet_id,
+            self.gain.into(),
+            self.timebase.into(),
+            self.loop_count.unwrap_or(255),
+            low,
+            high,
+            0,
+            0,
+        ])
     }
 }
 

@@ -1,7 +1,7 @@
 // The waveform memory, its image and its builder (waveform/memory.rs; document 01, 'The hundred bytes').
 // Proved: each function answers what specs/ says of its arguments, whatever the counts hold; `build` lays out the image over zeros,
 // and its tail stays zero; the acceleration flag changes nothing. `[Option<Snippet>; 15]` is an array of structs with a count: the builder
-// appends only, so that the count says which there are. No function here takes a closure. Left out: printing.
+// appends only, so that the count says which there are. No function here takes a closure.
 #![tactic(auto)]
 
 ghost use Rattle.std.specs.Prelude.{◌≡◌, ℕ, List, map, ◌+◌, ◌*◌, ◌≤◌, ◌<◌, cond, ltb, leb, length, set, take};
@@ -25,7 +25,7 @@ pub const MAX_SNIPPETS: usize = 15;
 
 pub const MAX_SEQUENCES: usize = 16;
 
-// The first `len` bytes are the memory's. As in the Rust: fixed memory, no heap; the counts stand beside the bytes, since `from_bytes` stores any
+// The first `len` bytes are the memory's: an array with its length, as in the Rust (no heap). The counts stand beside the bytes, since `from_bytes` stores any
 // four values, also counts that the bytes do not say.
 #[derive(Debug, Clone, Copy)]
 pub struct WaveformMemory {
@@ -42,7 +42,7 @@ pub enum WaveformMemoryTimebase {
     TIMEBASE_136_544_2176_4352,
 }
 
-// Arrays with their counts, as document 01 asks of `[Option<Snippet>; 15]`: fixed memory, no heap.
+// Arrays with their counts, as document 01 asks of `[Option<Snippet>; 15]`: no heap.
 #[derive(Debug, Clone, Copy)]
 pub struct WaveformMemoryBuilder {
     snippets: [Snippet; MAX_SNIPPETS],
@@ -327,7 +327,7 @@ fn put<T: Item>(image: &mut [u8], items: &[T], pointer: usize, at: usize) -> usi
     ensures image_after { image.new ≡ laid image.old pointer at (map T.bytes_of items.now) }
 {
     let mut next = at;
-    // by index, since an iterator over the pointers would hold the array that the items go into
+    // by index: an item goes into the same array, which an iterator over the pointers would hold, and a part that `split_at_mut` lends is longer to say
     for (i, item) in items.iter().enumerate() {
         let behind = next + item.size();
         image[pointer + i] = (behind - 1) as u8;

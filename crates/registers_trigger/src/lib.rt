@@ -17,8 +17,9 @@ ghost use Rattle.registers_trigger.specs.Gpi.{Digit, gpi_name, gpi_with};
 use field::{flag, get, with, with_flag};
 use registers::Register;
 
-// The byte of a register, of a type that its address makes its own. One in each of the four crates, as the language has a type's
-// methods in the type's crate.
+// The byte of a register, of a type that its address makes its own. One in each of the four crates: a type's methods stand in the type's crate,
+// and one crate of all would have twice the functions that a check is kept to. Each method is written out below, as the Rust's attribute makes
+// it, over one pair of functions (`field`): a macro can write no contract.
 #[derive(Debug, Clone, Copy, PartialEq, Eq, Default)]
 pub struct Byte<const ADDRESS: u8>(u8);
 

@@ -1,7 +1,7 @@
 // Sequences and their builder (waveform/sequence.rs; document 01, 'Points, frames, sequences').
 // The sequence under construction carries its 96 bytes with a length and a frame count.
 // Proved: each function answers what specs/ says of its arguments, whatever the builder's fields hold; a builder that a call refuses is as it
-// was. `encode_into` copies all bytes or none (document 02, CR 5); no function here takes a closure. Left out: printing.
+// was. `encode_into` copies all bytes or none (document 02, CR 5); no function here takes a closure.
 #![tactic(auto)]
 
 ghost use Rattle.std.specs.Prelude.{◌≡◌, ◌≤◌, length};
@@ -17,7 +17,7 @@ pub const MAX_FRAMES_PER_SEQUENCE: u8 = 32;
 
 pub const MAX_SEQUENCE_BYTES: usize = 96;
 
-// The first `len` bytes are the sequence's. An array with its length, as in the Rust: fixed memory, no heap; so is the builder, as document 01
+// The first `len` bytes are the sequence's. An array with its length, as in the Rust: no heap; so is the builder, as document 01
 // asks ("carries its 96 bytes with a length and a frame count").
 #[derive(Debug, Clone, Copy)]
 pub struct Sequence {

@@ -2,7 +2,7 @@
 // Proved: each function answers what specs/ says of its arguments, whatever the builder's fields hold; a builder that a call refuses is as it
 // was. proofs/Points.antt: same kind, length and amplitude exactly when same byte.
 // `bytes` (added) gives the bytes of all sixteen points, of which the first `byte_len` are the snippet's; `encode_into` copies all bytes or none
-// (document 02, CR 5); no function here takes a closure. Left out: printing.
+// (document 02, CR 5); no function here takes a closure.
 #![tactic(auto)]
 
 ghost use Rattle.std.specs.Prelude.{◌≡◌, true, false, map, ◌≤◌, length, take};
@@ -21,7 +21,7 @@ pub struct PwlPoint {
     byte: u8,
 }
 
-// The first `len` points are the snippet's. An array with its count, as in the Rust: fixed memory, no heap; so is the builder.
+// The first `len` points are the snippet's. An array with its count, as in the Rust, and so is the builder: no heap, and what allocates nothing in the kit (`arrayvec`) is not `Copy`.
 #[derive(Debug, Clone, Copy)]
 pub struct Snippet {
     points: [PwlPoint; MAX_POINTS_PER_SNIPPET],

@@ -4,10 +4,12 @@
 // Proved: every function is safe and returns.
 #![tactic(auto)]
 
+ghost use Rattle.std.specs.Prelude.{◌<◌};
+
 use calls::{Builders, Call};
 use errors::Error;
 use memory::WaveformMemoryBuilder;
-use reader::items;
+use reader::{Lists, items};
 use sequence::SequenceBuilder;
 use snippet::SnippetBuilder;
 
@@ -96,30 +98,32 @@ pub fn assemble_strict(calls: &[u8], image: &mut [u8]) -> u64 {
 
 /// 256 times how many snippets and how many sequences, or the refusal above them.
 pub fn read_counts(image: &[u8]) -> u64 {
-    match reader::read(image) {
-        Ok(lists) => (u64::from(lists.snippets.count) << 8) | u64::from(lists.sequences.count),
-        Err(e) => u64::from(e.number()) << 16,
-    }
+    told(image, 16, |lists| {
+        (u64::from(lists.snippets.count) << 8) | u64::from(lists.sequences.count)
+    })
 }
 
 /// The byte of a point, 256 where there is none, or the refusal above them.
 pub fn read_point(image: &[u8], i: usize, j: usize) -> u64 {
-    match reader::read(image) {
-        Ok(lists) => match items::point_at(&lists.snippets, i, j) {
-            Some(point) => u64::from(point.as_byte()),
-            None => NO_POINT,
-        },
-        Err(e) => u64::from(e.number()) << 16,
-    }
+    told(image, 16, |lists| {
+        items::point_at(&lists.snippets, i, j).map_or(NO_POINT, |point| u64::from(point.as_byte()))
+    })
 }
 
 /// The word of a frame's fields, 2 to the power of 48 where there is none, or the refusal above them.
 pub fn read_frame(image: &[u8], i: usize, j: usize) -> u64 {
+    told(image, 56, |lists| {
+        items::frame_at(&lists.sequences, i, j).map_or(NO_FRAME, |frame| frame.word())
+    })
+}
+
+// What is told of the lists whose image the bytes are, or the refusal above so many bits.
+fn told<F: FnOnce(&Lists) -> u64>(image: &[u8], bits: u32, word: F) -> u64
+    requires callable { F.IsAlwaysCallable word }
+    requires few { bits < 64 }
+{
     match reader::read(image) {
-        Ok(lists) => match items::frame_at(&lists.sequences, i, j) {
-            Some(frame) => frame.word(),
-            None => NO_FRAME,
-        },
-        Err(e) => u64::from(e.number()) << 56,
+        Ok(lists) => word(&lists),
+        Err(e) => u64::from(e.number()) << bits,
     }
 }
