@@ -1,6 +1,4 @@
 // An image read item by item.
-ghost use Rattle.std.specs.Prelude.{◌<◌};
-
 use vectors_bytes::number;
 use vectors_values::{NO_FRAME, NO_POINT};
 
@@ -26,19 +24,22 @@ pub fn frames<F: Fn(usize, usize) -> u64>(told: &[u8], frame: F) -> bool
 // Reads all places of item 0, of 1 and so on up to the first item that has none, and compares each word, as well as that after an
 // item's last place, with the next one told, of so many bytes. `none` is the least word of no place.
 fn items<F: Fn(usize, usize) -> u64>(told: &[u8], size: usize, none: u64, read: F) -> bool
-    requires callable { F.IsAlwaysCallable read }
-    requires sized { 0 < size }
+    requires { F.IsAlwaysCallable read }
 {
-    let mut words = told.chunks_exact(size);
+    let mut rest = told;
     for i in 0..256 {
         for j in 0..256 {
             let word = read(i, j);
-            if words.next().map(number) != Some(word) {
+            let Some((next, after)) = rest.split_at_checked(size) else {
+                return false;
+            };
+            if number(next) != word {
                 return false;
             }
+            rest = after;
             if none <= word {
                 if j == 0 {
-                    return words.next().is_none() && words.remainder().is_empty();
+                    return rest.is_empty();
                 }
                 break;
             }
