@@ -15,7 +15,7 @@ use frame::{FrameBuilder, Gain, Timebase};
 use sequence::SequenceBuilder;
 use snippet::{PwlPoint, SnippetBuilder};
 
-// The last code of a gain or a timebase.
+// The last code of a gain or a timebase. Tested here: `From` takes every code, as it always did, so it cannot refuse one.
 const LAST_CHOICE: u8 = 3;
 
 // A builder call, or one that adds to a memory. specs/Said.antt has the calls, Calls.antt their codes.
@@ -47,6 +47,7 @@ pub struct Builders {
 
 impl Call {
     // The call that the first record says, by its code and two arguments; where it says none, and for a shorter record, NotSupported.
+    // `read` and no `TryFrom`: of longer bytes it reads the first record.
     #[inline]
     pub fn read(calls: &[u8]) -> Result<Call, Error>
         ensures call { said_by result ≡ call_of (first_record calls.now) }

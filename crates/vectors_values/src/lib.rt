@@ -1,5 +1,5 @@
 // Lists of builder calls run, and images built and read, by the types that Rattle programs have: `WaveformMemoryBuilder`, `reader::read`
-// and its `items`. The functions exported for C do the same over items kept in bytes and over the image in place; each function here
+// and its lists. The functions exported for C do the same over items kept in bytes and over the image in place; each function here
 // answers in the form of the exported one with its name.
 // Proved: every function is safe and returns.
 #![tactic(auto)]
@@ -7,7 +7,6 @@
 use calls::{Builders, Call};
 use errors::Error;
 use memory::WaveformMemoryBuilder;
-use reader::items;
 use sequence::SequenceBuilder;
 use snippet::SnippetBuilder;
 
@@ -105,7 +104,7 @@ pub fn read_counts(image: &[u8]) -> u64 {
 /// The byte of a point, 256 where there is none, or the refusal above them.
 pub fn read_point(image: &[u8], i: usize, j: usize) -> u64 {
     match reader::read(image) {
-        Ok(lists) => match items::point_at(&lists.snippets, i, j) {
+        Ok(lists) => match lists.snippets.point_at(i, j) {
             Some(point) => u64::from(point.as_byte()),
             None => NO_POINT,
         },
@@ -116,7 +115,7 @@ pub fn read_point(image: &[u8], i: usize, j: usize) -> u64 {
 /// The word of a frame's fields, 2 to the power of 48 where there is none, or the refusal above them.
 pub fn read_frame(image: &[u8], i: usize, j: usize) -> u64 {
     match reader::read(image) {
-        Ok(lists) => match items::frame_at(&lists.sequences, i, j) {
+        Ok(lists) => match lists.sequences.frame_at(i, j) {
             Some(frame) => frame.word(),
             None => NO_FRAME,
         },
