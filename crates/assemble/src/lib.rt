@@ -47,7 +47,8 @@ impl Refusal {
     pub fn number(self) -> u32
         ensures { result ≡ refusal_number self }
     {
-        u32::from(self.error.number()) + 256 * self.place.map_or(0, |place| place.min(LAST_PLACE)) as u32
+        let place = self.place.map_or(0, |place| place.min(LAST_PLACE));
+        u32::from(self.error.number()) + 256 * place as u32
     }
 }
 
