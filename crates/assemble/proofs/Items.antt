@@ -4,11 +4,11 @@ use Rattle.std.proofs.lemmas.List.{take-map}
 use mathlib.Core.Path.{◌≡◌, refl, sym, ap, ◌∙◌}
 use mathlib.Core.Bool.{Bool, true, false, cond}
 use mathlib.Core.List.{List, [], ◌∷◌, map}
-use Prim.Native.Nat.{ℕ, zero, suc, ◌<◌}
+use Prim.Native.Nat.{ℕ, ◌<◌}
 use native.Mathlib.Omega.{arith}
 use borrow.Author.Tests.{lt-ltb, le-ltb}
 use lib.Dec.{ltb}
-use lib.ListN.{length, take, length-append}
+use lib.ListN.{length, length-append}
 use Rattle.errors.specs.Told.{Told, gives, refuses, on_told, told_by, built}
 use Rattle.snippet.specs.Snippet.{pwl_byte, no_snippet, snippet_bytes}
 use Rattle.sequence.specs.Sequence.{no_sequence, sequence_bytes}

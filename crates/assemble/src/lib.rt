@@ -42,8 +42,8 @@ pub struct Refusal {
 }
 
 impl Refusal {
-    // The refusal's number and 256 times its place, 0 where it has none; a later place counts as the last that has room. No `From`: the number is C's word, and the
-    // error in it has a number of its own.
+    // The refusal's number and 256 times its place, 0 where it has none; a later place counts as the last that has room. No `From`: the number
+    // is C's word, and the error in it has a number of its own.
     pub fn number(self) -> u32
         ensures { result ≡ refusal_number self }
     {

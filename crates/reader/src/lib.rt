@@ -20,7 +20,7 @@ use errors::Error;
 use frame::FrameBuilder;
 
 // Lists end to end, 96 elements and MOST lists at most: a list's end before the index in `ends`, and the first `count` are in use. Each is
-// an array beside its count: no library crate has a heap, and the kit's `arrayvec::ArrayVec` is not `Copy`, as every type here is.
+// an array beside its count: no library crate has a heap, and the kit's `arrayvec::ArrayVec` is not `Copy`, as these lists are.
 #[derive(Debug, Clone, Copy)]
 pub struct Runs<T: Copy, const MOST: usize> {
     pub items: [T; 96],
