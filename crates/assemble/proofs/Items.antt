@@ -1,13 +1,14 @@
 -- The items under construction hold what the accepted calls added. Assumes nothing.
 use Rattle.std.specs.Prelude.{Some, None}
+use Rattle.std.proofs.lemmas.List.{take-map}
 use mathlib.Core.Path.{◌≡◌, refl, sym, ap, ◌∙◌}
 use mathlib.Core.Bool.{Bool, true, false, cond}
 use mathlib.Core.List.{List, [], ◌∷◌, map}
-use Prim.Native.Nat.{ℕ, zero, suc, ◌<◌}
+use Prim.Native.Nat.{ℕ, ◌<◌}
 use native.Mathlib.Omega.{arith}
 use borrow.Author.Tests.{lt-ltb, le-ltb}
 use lib.Dec.{ltb}
-use lib.ListN.{length, take, length-append}
+use lib.ListN.{length, length-append}
 use Rattle.errors.specs.Told.{Told, gives, refuses, on_told, told_by, built}
 use Rattle.snippet.specs.Snippet.{pwl_byte, no_snippet, snippet_bytes}
 use Rattle.sequence.specs.Sequence.{no_sequence, sequence_bytes}
@@ -30,11 +31,6 @@ built_told : {I B : Type 0} (bytes : I → List ℕ) (n : ℕ) (none item : I) (
 built_told bytes n none item b true h = simp (lt-ltb 0 n h)
 built_told bytes n none item b false h = refl
 
-map_take : {A B : Type 0} (f : A → B) (n : ℕ) (l : List A) → take n (map f l) ≡ map f (take n l)
-map_take f zero l = refl
-map_take f (suc n) [] = refl
-map_take f (suc n) (x ∷ l) = ap (λ r. f x ∷ r) (map_take f n l)
-
 -- a sequence has bytes exactly if it has frames
 frames_some : (fs : List FrameBuilder) (n : ℕ) → n ≡ length (frames_bytes fs) → ltb n 1 ≡ ltb (length fs) 1
 frames_some [] n e = ap (λ (k : ℕ). ltb k 1) e
@@ -53,7 +49,7 @@ module _ (calls : List ℕ) where
   whole_snippet =
       let b = snippet_from (groups_of calls).snippet in
       let h = (snippet_holds (groups_of calls).snippet).shows in
-      let shown = map_take pwl_byte b.len b.points ∙ h.shown in
+      let shown = take-map pwl_byte b.len b.points ∙ h.shown in
       built_told snippet_bytes 9 no_snippet (record { points = b.points; len = b.len }) b (ltb b.len 1) (omega arith) ∙ (λ i. cond (ltb (h.counted i) 1) (refuses 9) (gives (shown i)))
 
   whole_sequence : let fs = frames_from (groups_of calls).sequence in sequence_item calls ≡ cond (ltb (length fs) 1) (refuses 10) (gives (frames_bytes fs))

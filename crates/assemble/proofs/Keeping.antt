@@ -23,7 +23,8 @@ use Rattle.memory.proofs.Images.{joined_length}
 use Rattle.assemble.specs.declared.pool.Pool.{Pool}
 use Rattle.assemble.specs.declared.pool.Kept.{Kept}
 use Rattle.assemble.specs.Kept.{kept, ends, Pushed, image_from, ImageLaid}
-use Rattle.assemble.proofs.Lists.{sum_of_lengths, ends_pointers, ends_append, ends_length, joined_append, copied_more, over_more}
+use Rattle.laws.proofs.Lists.{joined_append}
+use Rattle.assemble.proofs.Lists.{sum_of_lengths, ends_pointers, ends_append, ends_length, copied_more, over_more}
 
 abbrev zeros : ℕ → List ℕ
 zeros n = replicate n 0
@@ -37,9 +38,6 @@ module _ (most : ℕ) (items : List (List ℕ)) (p : Pool most) (e : p ≡ kept 
   pub lens : take p.count p.lens ≡ map length items
   unfolding kept
   lens = ap (λ (x : Pool most). take x.count x.lens) e ∙ take_at (map length items) (zeros (most - length items)) (length items) (length-map items length)
-
-  pub sum_is : sum (take p.count p.lens) ≡ length (joined items)
-  sum_is = ap sum lens ∙ sum_of_lengths items
 
   -- the bytes, where they fit
   pub bytes : (a : ℕ) → a ≡ length (joined items) → a ≤ 100 → take a p.bytes ≡ joined items

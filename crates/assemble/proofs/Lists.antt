@@ -32,10 +32,6 @@ ends_append (x ∷ xs) ys before =
     let e : before + x + sum xs ≡ before + sum (x ∷ xs) = omega (arith, sum_by-cons (λ k. k) x xs) in
     ap (λ (l : List ℕ). (before + x) ∷ l) (ends_append xs ys (before + x) ∙ ap (λ (k : ℕ). ends (before + x) xs ++ ends k ys) e)
 
-pub joined_append : (xs ys : List (List ℕ)) → joined (xs ++ ys) ≡ joined xs ++ joined ys
-joined_append [] ys = refl
-joined_append (x ∷ xs) ys = ap (λ (l : List ℕ). x ++ l) (joined_append xs ys) ∙ sym (append_assoc x (joined xs) (joined ys))
-
 pub ends_length : (l : List ℕ) (before : ℕ) → length (ends before l) ≡ length l
 ends_length [] before = refl
 ends_length (x ∷ l) before = ap suc (ends_length l (before + x))

@@ -15,7 +15,6 @@ use Rattle.errors.specs.Told.{Handed}
 use Rattle.calls.specs.Said.{Call}
 use Rattle.calls.specs.declared.Builders.{Builders}
 use Rattle.calls.specs.Calls.{started, first_record, call_of, calls_in}
-use Rattle.calls.proofs.Turns.{calls_none}
 use Rattle.memory.specs.declared.WaveformMemoryBuilder.{WaveformMemoryBuilder}
 use Rattle.assemble.specs.Lists.{with_place, first_refused}
 use Rattle.assemble.specs.Refusal.{refusal_number, first_number}
@@ -57,6 +56,12 @@ calls_count (k ∷ a ∷ []) = (omega arith, omega arith)
 calls_count (k ∷ a ∷ b ∷ []) = (omega arith, omega arith)
 calls_count (k ∷ a ∷ b ∷ c ∷ r) = let h = calls_count r in (omega (arith, h.0), omega (arith, h.1))
 
+-- behind the last there are none
+calls_none : (l : List ℕ) → length l ≤ 0 → calls_in l ≡ []
+unfolding calls_in
+calls_none [] h = refl
+calls_none (x ∷ l) h = absurd (omega arith)
+
 -- ---- where a run stands
 
 pub record Running (bytes answers₀ answers : List ℕ) (kept : Kept) (b : Builders) (ahead : List ℕ) (i told : ℕ) : Type 0 where
@@ -74,7 +79,7 @@ begun bytes answers e f =
     (record { memory = nothing_yet.memory; holds = keeps_none; rest = refl; stored = refl; tells = refl })
 
 abbrev pub refused_at : Error → ℕ → Refusal
-refused_at e place = record { error = e; place = place }
+refused_at e place = record { error = e; place = Some place }
 
 -- the first refusal, with one answer more
 first_more : (told n i : ℕ) (ns : List ℕ) (told' : ℕ) → told' ≡ cond (ltb 0 told) told (cond (ltb 0 n) (with_place n i) 0)

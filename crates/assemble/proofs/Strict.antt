@@ -49,13 +49,13 @@ module _ (calls : List ℕ) where
     strict_refused h = same_item buffer (ap refuses e ∙ refused_item (omega arith))
 
   -- the build's refusal has no place
-  placed : (r : Result Unit Error) → strict_number (result_map_both (λ u. u) (λ (e : Error). record { error = e; place = 0 }) r) ≡ answer_number r
+  placed : (r : Result Unit Error) → strict_number (result_map_both (λ u. u) (λ (e : Error). record { error = e; place = None }) r) ≡ answer_number r
   placed (Ok u) = refl
   placed (Err e) = let add : error_number e + 0 ≡ error_number e = omega arith in add
 
   pub strict_built : (buffer buffer' : List ℕ) (first : Option Refusal) → first ≡ None → first_number first ≡ f
       → (built : Result Unit Error) (told : Result Unit Refusal) → (answer_number built ≡ leniently buffer calls) × (buffer' ≡ whole_out buffer (image_item calls))
-      → told ≡ result_map_both (λ u. u) (λ (e : Error). record { error = e; place = 0 }) built
+      → told ≡ result_map_both (λ u. u) (λ (e : Error). record { error = e; place = None }) built
       → (strict_number told ≡ strictly buffer calls) × (buffer' ≡ whole_out buffer (strict_item calls))
   strict_built buffer buffer' first none e built told w g =
       let s = same_item buffer (image_item_lem (omega (arith, e, ap first_number none))) in

@@ -5,8 +5,13 @@ use Rattle.errors.specs.Number.{error_number}
 use Rattle.assemble.specs.declared.Refusal.{Refusal}
 use Rattle.assemble.specs.Lists.{last_place}
 
+-- a later place counts as the last, and the build's refusal has none
+abbrev pub place_number : Option ℕ → ℕ
+place_number None = 0
+place_number (Some place) = min place last_place
+
 abbrev pub refusal_number : Refusal → ℕ
-refusal_number r = error_number r.error + 256 * min r.place last_place
+refusal_number r = error_number r.error + 256 * place_number r.place
 
 -- 0 where nothing was refused
 abbrev pub first_number : Option Refusal → ℕ

@@ -34,20 +34,21 @@ use snippet::SnippetBuilder;
 // The last place of a call that has room in a number.
 const LAST_PLACE: usize = 16777215;
 
-// Why a list of calls makes no image: a refusal, and the place of its call, counted from 1. The build's own has place 0.
+// Why a list of calls makes no image: a refusal, and the place of its call, counted from 1. The build's own has no place.
 #[derive(Debug, Clone, Copy, PartialEq, Eq)]
 pub struct Refusal {
     pub error: Error,
-    pub place: usize,
+    pub place: Option<usize>,
 }
 
 impl Refusal {
-    // The refusal's number and 256 times its place; a later place counts as the last that has room. No `From`: the number is C's word, and the
-    // error in it has a number of its own.
+    // The refusal's number and 256 times its place, 0 where it has none; a later place counts as the last that has room. No `From`: the number
+    // is C's word, and the error in it has a number of its own.
     pub fn number(self) -> u32
         ensures { result ≡ refusal_number self }
     {
-        u32::from(self.error.number()) + 256 * self.place.min(LAST_PLACE) as u32
+        let place = self.place.map_or(0, |place| place.min(LAST_PLACE));
+        u32::from(self.error.number()) + 256 * place as u32
     }
 }
 
@@ -84,7 +85,7 @@ pub fn assemble(calls: &[u8], image: &mut [u8]) -> Result<(), Error>
     run(calls, &mut []).kept.image(image)
 }
 
-// Builds the image only if no call is refused. Answers the first refusal with its place (the build's own and BufferTooShort come with place 0); a
+// Builds the image only if no call is refused. Answers the first refusal with its place (the build's own and BufferTooShort come without one); a
 // refusal leaves `image`.
 pub fn assemble_strict(calls: &[u8], image: &mut [u8]) -> Result<(), Refusal>
     ensures answer { strict_number result ≡ strictly image.old calls.now }
@@ -96,7 +97,7 @@ pub fn assemble_strict(calls: &[u8], image: &mut [u8]) -> Result<(), Refusal>
         None => ran
             .kept
             .image(image)
-            .map_err(|error| Refusal { error, place: 0 }),
+            .map_err(|error| Refusal { error, place: None }),
     }
 }
 
@@ -118,7 +119,7 @@ fn run(calls: &[u8], answers: &mut [u8]) -> Ran
     for (i, record) in records.enumerate() {
         let answer = step(&mut ran.builders, record, &mut ran.kept);
         laws::store(answers, i, errors::number(answer));
-        let place = i + 1;
+        let place = Some(i + 1);
         ran.first = ran
             .first
             .or(answer.err().map(|error| Refusal { error, place }));
@@ -145,8 +146,8 @@ fn step(b: &mut Builders, record: &[u8], kept: &mut Kept) -> Result<(), Error>
     }
 }
 
-// Puts the snippet behind the others, if it can be built. Two functions over `push`: a snippet's bytes come by value and a sequence's are lent, so
-// one would take a trait longer than both; written out in the arms of `step`, an image took 8,566 instructions for 7,981.
+// Puts the snippet behind the others, if it can be built. Two functions over `push`, which takes bytes: memory's trait `Item` lends none out, but
+// lays an item where it has room. Written out in the arms of `step`, an image took 8,566 instructions for 7,981.
 fn add_snippet(pool: &mut Pool<MAX_SNIPPETS>, b: SnippetBuilder) -> Result<(), Error>
     ensures { StepsSnippets (λ m. with_built with_snippet m (built_snippet b)) pool.old (answer_number result) pool.new }
 {

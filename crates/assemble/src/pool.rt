@@ -9,8 +9,9 @@ ghost use Rattle.assemble.specs.Kept.{ends, no_items, nothing_kept, Pushed, Fits
 use errors::Error;
 use memory::{MAX_MEMORY_SIZE, MAX_SEQUENCES, MAX_SNIPPETS};
 
-// Bytes and not `WaveformMemoryBuilder`: with that an image took 1.6 times the Rust's instructions, and 0.9 with these (docs/DECISIONS.md, 'Speed').
-// A hundred have room, since an image of more is refused.
+// Bytes and not `WaveformMemoryBuilder`: with that an image took 1.6 times the Rust's instructions, and 0.9 with these, both by an older kit
+// (docs/DECISIONS.md, 'Speed'). A hundred have room, since an image of more is refused. Arrays beside a count: there is no heap, and the kit's
+// `arrayvec::ArrayVec` is not `Copy`, as these are.
 #[derive(Clone, Copy)]
 pub(crate) struct Pool<const MOST: usize> {
     count: u8,
@@ -96,8 +97,7 @@ impl Kept {
             sequences,
             &self.sequences.bytes[..b],
         );
-        laws::copy_whole(buffer, &out)?;
-        Ok(())
+        laws::copy_whole(buffer, &out).map(|_| ())
     }
 }
 

@@ -62,6 +62,7 @@ fn tell(rt: &impl Print, answer: Result<(), Refusal>) -> io::Result<()> {
         Ok(()) => print!(rt; "  made"),
         Err(Refusal { place, error }) => {
             let error = show::Refusal(error);
+            let place = place.unwrap_or(0);
             println!(rt; "  refused with {error} at call {place}")
         }
     }

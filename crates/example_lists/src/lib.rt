@@ -3,7 +3,7 @@
 
 mod text;
 
-use reader::{Frames, Points, items};
+use reader::{Frames, Points};
 use show::Refusal;
 use snippet::PwlPoint;
 use std::io;
@@ -39,7 +39,7 @@ pub fn read(rt: &impl Print, image: &[u8]) -> io::Result<()> {
 
 fn snippet(rt: &impl Print, points: &Points, i: u8) -> io::Result<()> {
     print!(rt; "  snippet {} ", u16::from(i) + 1)?;
-    let points = items::list(points, usize::from(i)).unwrap_or(&[]);
+    let points = points.list(usize::from(i)).unwrap_or(&[]);
     for (j, byte) in points.iter().enumerate() {
         let before = if j == 0 { "  " } else { ", " };
         print!(rt; "{before}{}", PointText(PwlPoint::from_byte(*byte)))?;
@@ -49,7 +49,7 @@ fn snippet(rt: &impl Print, points: &Points, i: u8) -> io::Result<()> {
 
 fn sequence(rt: &impl Print, frames: &Frames, i: u8) -> io::Result<()> {
     print!(rt; "  sequence {i}")?;
-    for frame in items::list(frames, usize::from(i)).unwrap_or(&[]) {
+    for frame in frames.list(usize::from(i)).unwrap_or(&[]) {
         print!(rt; "\n    {}", FrameText(*frame))?;
     }
     println!(rt)

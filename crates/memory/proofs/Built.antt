@@ -23,13 +23,11 @@ use Rattle.memory.proofs.Images.{image_size_lem}
 abbrev answered : ℕ → List (List ℕ) → List (List ℕ) → WaveformMemoryBuilder → Built WaveformMemory WaveformMemoryBuilder
 answered n snippets sequences b = built n (cond (ltb 0 n) no_memory (memory_of snippets sequences)) b
 
+-- there are as many items as values
+some_items : {A : Type 0} (f : A → List ℕ) (l : List A) → 1 ≤ length l → ltb (length (map f l)) 1 ≡ false
+some_items f l h = le-ltb (length (map f l)) 1 (omega (arith, length-map l f))
+
 module _ (ss : List Snippet) (qs : List Sequence) where
-  some_snippet : 1 ≤ length ss → ltb (length (map snippet_bytes ss)) 1 ≡ false
-  some_snippet g = le-ltb (length (map snippet_bytes ss)) 1 (omega (arith, length-map ss snippet_bytes))
-
-  some_sequence : 1 ≤ length qs → ltb (length (map sequence_bytes qs)) 1 ≡ false
-  some_sequence h = le-ltb (length (map sequence_bytes qs)) 1 (omega (arith, length-map qs sequence_bytes))
-
   -- x and y are how many bytes they take
   sized : (x y : ℕ) → x ≡ length (joined (map snippet_bytes ss)) → y ≡ length (joined (map sequence_bytes qs))
       → 2 + length ss + length qs + x + y ≡ image_size (map snippet_bytes ss) (map sequence_bytes qs)
@@ -50,11 +48,11 @@ module _ {b : WaveformMemoryBuilder} {ss : List Snippet} {qs : List Sequence} (e
     pub too_long : 100 < 2 + length ss + length qs + x + y → built 8 no_memory b ≡ built_memory b
     too_long l =
         let full = lt-ltb 100 (image_size (map snippet_bytes ss) (map sequence_bytes qs)) (omega (arith, sized ss qs x y ex ey)) in
-        told 8 (simp (some_snippet ss qs g, some_sequence ss qs h, full)) (λ i. no_memory)
+        told 8 (simp (some_items snippet_bytes ss g, some_items sequence_bytes qs h, full)) (λ i. no_memory)
 
     pub done : {image : List ℕ} → image ≡ image_bytes (map snippet_bytes ss) (map sequence_bytes qs) → 2 + length ss + length qs + x + y ≤ 100
         → built 0 (record { «data» = image; len = 2 + length ss + length qs + x + y; num_snippets = length ss; num_sequences = length qs }) b ≡ built_memory b
     done k l =
         let fits = le-ltb 100 (image_size (map snippet_bytes ss) (map sequence_bytes qs)) (omega (arith, sized ss qs x y ex ey)) in
-        told 0 (simp (some_snippet ss qs g, some_sequence ss qs h, fits))
+        told 0 (simp (some_items snippet_bytes ss g, some_items sequence_bytes qs h, fits))
         (λ i. record { «data» = k i; len = sized ss qs x y ex ey i; num_snippets = sym (length-map ss snippet_bytes) i; num_sequences = sym (length-map qs sequence_bytes) i })

@@ -9,6 +9,7 @@ use lib.ListN.{length, set, replicate, length-append, length-replicate, replicat
 use lib.Seq.{set-append_seam}
 use Rattle.laws.specs.Copied.{over}
 use Rattle.laws.proofs.Copies.{over_at}
+use Rattle.laws.proofs.Lists.{joined_append}
 use Rattle.laws.specs.Lists.{joined}
 use Rattle.memory.specs.Image.{end_pointers, image_size, image_bytes}
 use Rattle.memory.specs.Laid.{with_laid, laid}
@@ -75,8 +76,7 @@ laid_image ss qs h =
     ∙ simp (k, append_assoc)
 
 pub joined_length : (ss qs : List (List ℕ)) → length (joined (ss ++ qs)) ≡ length (joined ss) + length (joined qs)
-joined_length [] qs = omega arith
-joined_length (x ∷ ss) qs = simp (length-append, joined_length ss qs) (omega arith)
+joined_length ss qs = ap length (joined_append ss qs) ∙ length-append (joined ss) (joined qs)
 
 -- s snippets and q sequences, put one after the other as the code does
 module _ (ss qs : List (List ℕ)) (s q : ℕ) (e : length ss ≡ s) (f : length qs ≡ q) where

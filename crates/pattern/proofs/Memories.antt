@@ -4,11 +4,12 @@ use mathlib.Core.Path.{◌≡◌, refl, sym, ap, ap₂, ◌∙◌, subst}
 use mathlib.Core.Logic.{inl, inr}
 use mathlib.Core.Bool.{Bool}
 use mathlib.Core.List.{List, [], ◌∷◌, ◌++◌, map, append-nil}
-use Prim.Native.Nat.{ℕ, zero, suc, ◌≤◌, ◌<◌}
+use Prim.Native.Nat.{ℕ, ◌≤◌, ◌<◌}
 use native.Mathlib.Decide.{dec_le}
 use native.Mathlib.Omega.{arith}
 use borrow.Author.Tests.{lt-ltb, le-ltb, le-leb, lt-leb}
-use lib.ListN.{length, take, length-map}
+use lib.ListN.{length, length-map}
+use Rattle.std.proofs.lemmas.List.{take-map}
 use Rattle.laws.proofs.Lists.{all_append}
 use Rattle.laws.specs.Bytes.{All}
 use Rattle.errors.specs.Told.{Handed}
@@ -78,11 +79,6 @@ holds_of b is ss qs e f s q gs gq =
 abbrev Added : List Item → Handed WaveformMemoryBuilder → Item → Type 0
 Added is s i = Outcome s.number (Holds s.builder (is ++ (i ∷ []))) (Holds s.builder is)
 
-map_take : {A B : Type 0} (f : A → B) (n : ℕ) (l : List A) → take n (map f l) ≡ map f (take n l)
-map_take f zero l = refl
-map_take f (suc n) [] = refl
-map_take f (suc n) (x ∷ l) = ap (λ r. f x ∷ r) (map_take f n l)
-
 with_snippet_lem : (b : WaveformMemoryBuilder) (is : List Item) (s : SnippetBuilder) (ps : List Point) → Holds b is → snippet.Holds s ps
     → Added is (with_built_snippet b (built_snippet s)) (points ps)
 with_snippet_lem b is s ps h k = some (dec_le 1 s.len) where
@@ -94,7 +90,7 @@ with_snippet_lem b is s ps h k = some (dec_le 1 s.len) where
       (inl (
         refl,
         holds_of _ _ _ _ (snippets_append is (points ps ∷ [])) (sequences_append is (points ps ∷ []) ∙ append-nil (sequences_of is))
-            (shows_more 15 snippet_bytes point_bytes b.snippets b.num_snippets (snippets_of is) (record { points = s.points; len = s.len }) ps h.snippets q' (map_take code.pwl_byte s.len s.points ∙ k.shows.shown))
+            (shows_more 15 snippet_bytes point_bytes b.snippets b.num_snippets (snippets_of is) (record { points = s.points; len = s.len }) ps h.snippets q' (take-map code.pwl_byte s.len s.points ∙ k.shows.shown))
             h.sequences
             (all_append SnippetAdmitted (snippets_of is) (ps ∷ []) h.snippet (record { nonempty = omega (arith, k.shows.counted); few = omega (arith, k.shows.counted, k.shows.room); each = k.good }, tt))
             h.sequence,

@@ -18,7 +18,7 @@ use Rattle.reader.specs.declared.Runs.{Runs}
 use Rattle.reader.specs.Reading.{Points, Frames, no_runs, laid}
 use Rattle.reader.specs.Flat.{push_item, push_items, end_run}
 use Rattle.reader.specs.Walk.{run_frames, push_snippet, push_sequence}
-use Rattle.reader.proofs.Cuts.{in_turn}
+use Rattle.reader.proofs.Cuts.{in_turn, cond_then}
 use Rattle.reader.proofs.Flats.{joined_snoc, add_list}
 use Rattle.reader.proofs.Running.{rest}
 
@@ -81,13 +81,9 @@ raw_same (bs ∷ items) xs e =
     let (ys, e₃, e₄) = then_some (every raw_snippet items) (λ ys. some (x ∷ ys)) e₂ in
     cons_eq (some_inj (cond_some (leb 1 (length bs) && leb (length bs) 16) (some bs) e₁).1) (raw_same items ys e₃) ∙ some_inj e₄
 
-cond_some_then : {A B : Type 0} (t : Bool) (a : A) (f : A → B) → cond t (some (f a)) none ≡ and_then (cond t (some a) none) (λ x. some (f x))
-cond_some_then true a f = refl
-cond_some_then false a f = refl
-
-snippet_raw : (bs : List ℕ) (o : Points) → push_snippet bs o ≡ and_then (raw_snippet bs) (λ x. some (end_run (push_items o x)))
+pub snippet_raw : (bs : List ℕ) (o : Points) → push_snippet bs o ≡ and_then (raw_snippet bs) (λ x. some (end_run (push_items o x)))
 unfolding push_snippet
-snippet_raw bs o = cond_some_then (leb 1 (length bs) && leb (length bs) 16) bs (λ x. end_run (push_items o x))
+snippet_raw bs o = cond_then (leb 1 (length bs) && leb (length bs) 16) (some bs) (λ x. some (end_run (push_items o x)))
 
 pub tracks_snippets : (items : List (List ℕ)) → length (joined items) ≤ 96 → length items ≤ 15
     → Tracks 15 0 [] (in_turn push_snippet items (no_runs 15 0)) (every raw_snippet items)
@@ -125,7 +121,7 @@ sequence_long : (bs : List ℕ) (fs : List FrameBuilder) → read_sequence bs �
 unfolding read_sequence
 sequence_long bs fs e = frames_long 32 bs fs (cond_some (leb 1 (length bs)) (read_frames 32 bs) e).1
 
-sequence_raw : (bs : List ℕ) (o : Frames) → push_sequence bs o ≡ and_then (read_sequence bs) (λ x. some (end_run (push_items o x)))
+pub sequence_raw : (bs : List ℕ) (o : Frames) → push_sequence bs o ≡ and_then (read_sequence bs) (λ x. some (end_run (push_items o x)))
 unfolding push_sequence read_sequence
 sequence_raw bs o =
     ap (λ (m : Option Frames). cond (leb 1 (length bs)) (and_then m (λ f. some (end_run f))) none) (run_frames_lem 32 bs o)

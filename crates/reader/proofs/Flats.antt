@@ -9,6 +9,7 @@ use borrow.Author.Tests.{lt-ltb}
 use lib.ListN.{length, take, drop, set, replicate, length-append}
 use lib.Seq.{take_at, drop_at, set-append_seam, append_snoc}
 use Rattle.laws.specs.Lists.{joined}
+use Rattle.laws.proofs.Lists.{joined_append}
 use Rattle.memory.specs.Image.{end_pointers}
 use Rattle.content.proofs.Items.{length_pointers}
 use Rattle.reader.specs.declared.Runs.{Runs}
@@ -17,8 +18,7 @@ use Rattle.reader.specs.Flat.{push_item, push_items, end_run}
 
 module _ {A : Type 0} where
   pub joined_snoc : (xs : List (List A)) (x : List A) → joined (xs ++ x ∷ []) ≡ joined xs ++ x
-  joined_snoc [] x = append-nil x
-  joined_snoc (y ∷ xs) x = ap (λ (l : List A). y ++ l) (joined_snoc xs x) ∙ sym (append_assoc y (joined xs) x)
+  joined_snoc xs x = joined_append xs (x ∷ []) ∙ ap (λ (l : List A). joined xs ++ l) (append-nil x)
 
   ends_snoc : (xs : List (List A)) (p : ℕ) (x : List A) → end_pointers p (xs ++ x ∷ []) ≡ end_pointers p xs ++ (p + length (joined xs ++ x)) ∷ []
   ends_snoc [] p x = refl

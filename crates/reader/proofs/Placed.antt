@@ -31,12 +31,6 @@ module _ {A : Type 0} where
   elem_take (x ∷ l) (suc k) zero h = refl
   elem_take (x ∷ l) (suc k) (suc i) h = elem_take l k i (omega arith)
 
-  elem_past : (l : List A) (k i : ℕ) → k ≤ i → get_elem? (take k l) i ≡ none
-  elem_past l zero i h = refl
-  elem_past [] (suc k) i h = refl
-  elem_past (x ∷ l) (suc k) zero h = absurd (omega arith)
-  elem_past (x ∷ l) (suc k) (suc i) h = elem_past l k i (omega arith)
-
   pub elem_drop : (l : List A) (n i : ℕ) → get_elem? (drop n l) i ≡ get_elem? l (n + i)
   elem_drop l zero i = ap (get_elem? l) (omega arith)
   elem_drop [] (suc n) i = refl

@@ -12,38 +12,44 @@ use crate::{Frames, Points, Runs};
 use frame::FrameBuilder;
 use snippet::PwlPoint;
 
-// The j-th point of the i-th snippet, both counted from 0, if there is one.
-pub fn point_at(points: &Points, i: usize, j: usize) -> Option<PwlPoint>
-    ensures { point_at_told result ≡ element (runs_in points.now) i j }
-{
-    let byte = at(points, i, j)?;
-    Some(PwlPoint::from_byte(byte))
+// Two indexes and no type of their own: C hands two numbers through to here.
+impl Points {
+    // The j-th point of the i-th snippet, both counted from 0, if there is one.
+    pub fn point_at(&self, i: usize, j: usize) -> Option<PwlPoint>
+        ensures { point_at_told result ≡ element (runs_in self.now) i j }
+    {
+        self.at(i, j).map(PwlPoint::from_byte)
+    }
 }
 
-// The j-th frame of the i-th sequence, both counted from 0, if there is one.
-pub fn frame_at(frames: &Frames, i: usize, j: usize) -> Option<FrameBuilder>
-    ensures { at_told result ≡ element (runs_in frames.now) i j }
-{
-    at(frames, i, j)
+impl Frames {
+    // The j-th frame of the i-th sequence, both counted from 0, if there is one.
+    pub fn frame_at(&self, i: usize, j: usize) -> Option<FrameBuilder>
+        ensures { at_told result ≡ element (runs_in self.now) i j }
+    {
+        self.at(i, j)
+    }
 }
 
-// The j-th element of the i-th list.
-fn at<T: Copy, const MOST: usize>(runs: &Runs<T, MOST>, i: usize, j: usize) -> Option<T>
-    ensures { at_told result ≡ element (runs_in runs.now) i j }
-{
-    list(runs, i)?.get(j).copied()
-}
+impl<T: Copy, const MOST: usize> Runs<T, MOST> {
+    // The j-th element of the i-th list.
+    fn at(&self, i: usize, j: usize) -> Option<T>
+        ensures { at_told result ≡ element (runs_in self.now) i j }
+    {
+        self.list(i)?.get(j).copied()
+    }
 
-// The i-th list, counted from 0, if there is one.
-pub fn list<T: Copy, const MOST: usize>(runs: &Runs<T, MOST>, i: usize) -> Option<&[T]>
-    ensures { at_told (option_map (λ l. l.now) result) ≡ get_elem? (runs_in runs.now) i }
-{
-    let ends = laws::shown(&runs.ends, runs.count);
-    let to = usize::from(*ends.get(i)?).min(96);
-    let from = start(ends, i).min(to);
-    // Of an array of any T the check knows no part with a start: of a slice of all it does.
-    let items = &runs.items[..];
-    Some(&items[from..to])
+    // The i-th list, counted from 0, if there is one.
+    pub fn list(&self, i: usize) -> Option<&[T]>
+        ensures { at_told (option_map (λ l. l.now) result) ≡ get_elem? (runs_in self.now) i }
+    {
+        let ends = laws::shown(&self.ends, self.count);
+        let to = usize::from(*ends.get(i)?).min(96);
+        let from = start(ends, i).min(to);
+        // Of an array of any T the check knows no part with a start: of a slice of all it does.
+        let items = &self.items[..];
+        Some(&items[from..to])
+    }
 }
 
 // Where the i-th list starts: at the end of the one before.

@@ -5,7 +5,7 @@
 // dropped, since a hundred bytes hold no more.
 #![tactic(auto)]
 
-pub mod items;
+mod items;
 
 ghost use Rattle.std.specs.Prelude.{◌≡◌, ◌+◌, ◌≤◌, ◌<◌, List, ℕ, length, take, drop};
 ghost use Rattle.std.specs.Iterator.{YieldsFirst, item_count};
@@ -20,7 +20,7 @@ use errors::Error;
 use frame::FrameBuilder;
 
 // Lists end to end, 96 elements and MOST lists at most: a list's end before the index in `ends`, and the first `count` are in use. Each is
-// an array beside its count, since no library crate has a heap.
+// an array beside its count: no library crate has a heap, and the kit's `arrayvec::ArrayVec` is not `Copy`, as these lists are.
 #[derive(Debug, Clone, Copy)]
 pub struct Runs<T: Copy, const MOST: usize> {
     pub items: [T; 96],
@@ -236,7 +236,7 @@ pub fn counts_fit(s: usize, q: usize) -> bool
     1 <= s && s <= 15 && 1 <= q && q <= 16
 }
 
-// Adds an image's snippets and its sequences, and answers how many there are of each.
+// Adds an image's snippets and its sequences, and answers how many there are of each. A pair, in the order of the image's first two bytes.
 pub fn scan<S: Gather, Q: Gather>(
     image: &[u8],
     snippets: &mut S,

@@ -5,19 +5,19 @@ use mathlib.Core.Path.{◌≡◌, refl, sym, ap, ◌∙◌}
 use mathlib.Core.Bool.{Bool, true, false, cond, ◌&&◌}
 use mathlib.Core.List.{List, [], ◌∷◌}
 use mathlib.Core.Option.{Option, none, some}
-use Prim.Native.Nat.{ℕ, zero, suc, ◌+◌, ◌≤◌}
+use Prim.Native.Nat.{ℕ, ◌+◌, ◌≤◌}
 use borrow.Author.Tests.{le-leb}
 use lib.Dec.{ltb, leb, eqb}
 use lib.ListN.{length, take, drop, get_or}
 use Rattle.laws.specs.Bytes.{Bytes}
 use Rattle.errors.specs.declared.Error.{Error}
 use Rattle.frame.specs.declared.FrameBuilder.{FrameBuilder}
-use Rattle.frame.specs.Read.{Parsed, read_frame}
 use Rattle.content.specs.Content.{Content}
-use Rattle.content.specs.ReadImage.{and_then, every, read_frames, all_zero, counts_fit, read_image}
+use Rattle.content.specs.ReadImage.{and_then, every, read_frames, read_sequence, all_zero, counts_fit, read_image}
 use Rattle.reader.specs.Reading.{Reading, Points, Frames, reading_of}
-use Rattle.reader.specs.Flat.{push_item, push_items, end_run}
-use Rattle.reader.specs.Walk.{frames_from, run_frames, snippet_fits, push_snippet, push_sequence, Walked, item, walk, Scan, sequences_then, after_snippets, snippets_then, after_counts, scan, Scans}
+use Rattle.reader.specs.Flat.{push_items, end_run}
+use Rattle.reader.specs.Walk.{frames_from, snippet_fits, push_snippet, push_sequence, Walked, item, walk, Scan, sequences_then, after_snippets, snippets_then, after_counts, scan, Scans}
+use Rattle.reader.proofs.Capacity.{raw_snippet, snippet_raw, sequence_raw}
 use Rattle.reader.proofs.Running.{ok, every_ok}
 use Rattle.reader.proofs.Whole.{no_points, no_frames, reading_from, whole}
 use Rattle.readings.specs.InPlace.{present, sequence_fits, kept, header_of}
@@ -29,32 +29,19 @@ some_found : {A : Type 0} (t : Bool) (a : A) → present (cond t (some a) none) 
 some_found true a = refl
 some_found false a = refl
 
-more_found : (f : FrameBuilder) (m : Option (List FrameBuilder)) → present m ≡ present (and_then m (λ fs. some (f ∷ fs)))
-more_found f none = refl
-more_found f (some fs) = refl
-
-frames_found : (k : ℕ) (bs : List ℕ) (o : Frames) → present (run_frames k bs o) ≡ present (read_frames k bs)
-frames_found zero [] o = refl
-frames_found zero (b ∷ bs) o = refl
-frames_found (suc k) [] o = refl
-frames_found (suc k) (b ∷ bs) o = go (λ r o'. frames_found k r o') (read_frame (b ∷ bs)) where
-  go : ((r : List ℕ) (o' : Frames) → present (run_frames k r o') ≡ present (read_frames k r)) → (m : Option Parsed)
-      → present (and_then m (λ p. run_frames k p.rest (push_item o p.frame)))
-      ≡ present (and_then m (λ p. and_then (read_frames k p.rest) (λ fs. some (p.frame ∷ fs))))
-  go ih none = refl
-  go ih (some p) = ih p.rest (push_item o p.frame) ∙ more_found p.frame (read_frames k p.rest)
+then_found : {A B : Type 0} (m : Option A) (f : A → B) → present (and_then m (λ x. some (f x))) ≡ present m
+then_found none f = refl
+then_found (some x) f = refl
 
 snippet_found : (bs : List ℕ) (o : Points) → present (push_snippet bs o) ≡ snippet_fits bs
-unfolding push_snippet
-snippet_found bs o = some_found (leb 1 (length bs) && leb (length bs) 16) (end_run (push_items o bs))
+snippet_found bs o = ap present (snippet_raw bs o) ∙ then_found (raw_snippet bs) (λ x. end_run (push_items o x)) ∙ some_found (snippet_fits bs) bs
 
 sequence_found : (bs : List ℕ) (o : Frames) → present (push_sequence bs o) ≡ sequence_fits bs
-unfolding push_sequence
-sequence_found bs o = go (leb 1 (length bs)) (run_frames 32 bs o) (present (read_frames 32 bs)) (frames_found 32 bs o) where
-  go : (t : Bool) (m : Option Frames) (n : Bool) → present m ≡ n → present (cond t (and_then m (λ f. some (end_run f))) none) ≡ (t && n)
-  go false m n h = refl
-  go true none n h = h
-  go true (some f) n h = h
+unfolding read_sequence
+sequence_found bs o = ap present (sequence_raw bs o) ∙ then_found (read_sequence bs) (λ fs. end_run (push_items o fs)) ∙ go (leb 1 (length bs)) where
+  go : (t : Bool) → present (cond t (read_frames 32 bs) none) ≡ (t && present (read_frames 32 bs))
+  go true = refl
+  go false = refl
 
 -- ---- the items that end at the pointers
 
@@ -176,7 +163,7 @@ all_ok (Err e ∷ fs) = false
 
 ok_found : (fs : List (Result FrameBuilder Error)) → all_ok fs ≡ present (every ok fs)
 ok_found [] = refl
-ok_found (Ok f ∷ fs) = ok_found fs ∙ more_found f (every ok fs)
+ok_found (Ok f ∷ fs) = ok_found fs ∙ sym (then_found (every ok fs) (λ fs. f ∷ fs))
 ok_found (Err e ∷ fs) = refl
 
 pub frames_ok : (l : List ℕ) → all_ok (frames_from 32 l) ≡ present (read_frames 32 l)

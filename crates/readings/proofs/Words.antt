@@ -3,7 +3,7 @@
 use Rattle.std.specs.Prelude.{Option, Some, None}
 use mathlib.Core.Path.{◌≡◌, refl, sym, ap, ◌∙◌}
 use mathlib.Core.List.{List, [], ◌∷◌}
-use Prim.Native.Nat.{ℕ, zero, suc, ◌+◌, ◌*◌, ◌/◌, ◌^◌, ◌<◌}
+use Prim.Native.Nat.{ℕ, zero, suc, ◌+◌, ◌*◌, ◌/◌, ◌^◌, ◌≤◌, ◌<◌}
 use native.Mathlib.Omega.{arith}
 use lib.ListN.{length, take, drop, length-append}
 use lib.Seq.{take_at, drop_at}
@@ -11,8 +11,8 @@ use Rattle.laws.specs.Bytes.{All}
 use Rattle.laws.specs.Lists.{low_bytes}
 use Rattle.frame.specs.declared.FrameBuilder.{FrameBuilder}
 use Rattle.frame.specs.Agreement.{FrameAdmitted}
-use Rattle.frame.proofs.Parts.{loop_byte, frequency_word, LoopAdmitted, FrequencyAdmitted}
-use Rattle.frame.specs.Frame.{gain_code, timebase_code}
+use Rattle.frame.proofs.Parts.{loop_byte, frequency_word}
+use Rattle.frame.specs.Frame.{on_given, gain_code, timebase_code}
 use Rattle.frame.specs.Read.{gain_at, timebase_at}
 use Rattle.frame.specs.Word.{frame_word}
 use Rattle.frame.proofs.Reading.{gain_back, timebase_back}
@@ -31,31 +31,29 @@ words_length (f ∷ fs) = let n = words_length fs in omega (arith, length-append
 
 -- ---- the fields
 
-loop_small : (k : Option ℕ) → LoopAdmitted k → loop_byte k < 256
-loop_small None h = omega arith
-loop_small (Some k) h = omega arith
+-- a number, if there is one, in one that says by a greater one that there is none
+module _ (most none : ℕ) (above : most < none) where
+  abbrev Within : Option ℕ → Type 0
+  Within o = on_given o Unit (λ n. n ≤ most)
 
-frequency_small : (f : Option ℕ) → FrequencyAdmitted f → frequency_word f < 65536
-frequency_small None h = omega arith
-frequency_small (Some f) h = omega arith
+  abbrev code : Option ℕ → ℕ
+  code o = on_given o none (λ n. n)
 
-loop_told : (j k : Option ℕ) → LoopAdmitted j → LoopAdmitted k → loop_byte j ≡ loop_byte k → j ≡ k
-loop_told None None h g e = refl
-loop_told None (Some k) h g e = absurd (omega arith)
-loop_told (Some j) None h g e = absurd (omega arith)
-loop_told (Some j) (Some k) h g e = ap Some e
+  code_small : (o : Option ℕ) → Within o → code o ≤ none
+  code_small None h = omega arith
+  code_small (Some n) h = omega arith
 
-frequency_told : (a b : Option ℕ) → FrequencyAdmitted a → FrequencyAdmitted b → frequency_word a ≡ frequency_word b → a ≡ b
-frequency_told None None h g e = refl
-frequency_told None (Some b) h g e = absurd (omega arith)
-frequency_told (Some a) None h g e = absurd (omega arith)
-frequency_told (Some a) (Some b) h g e = ap Some e
+  code_told : (a b : Option ℕ) → Within a → Within b → code a ≡ code b → a ≡ b
+  code_told None None h g e = refl
+  code_told None (Some n) h g e = absurd (omega arith)
+  code_told (Some n) None h g e = absurd (omega arith)
+  code_told (Some m) (Some n) h g e = ap Some e
 
 -- ---- a frame
 
 pub word_small : (f : FrameBuilder) → FrameAdmitted f → frame_word f < 2 ^ 48
 word_small f a =
-    omega (arith, a.number_fits, (gain_back f.gain).1, (timebase_back f.timebase).1, loop_small f.loop_count a.loop_fits, frequency_small f.frequency a.frequency_fits)
+    omega (arith, a.number_fits, (gain_back f.gain).1, (timebase_back f.timebase).1, code_small 15 255 (omega arith) f.loop_count a.loop_fits, code_small 511 65535 (omega arith) f.frequency a.frequency_fits)
 
 -- two numbers by their low byte and the rest
 low : (a b x y : ℕ) → a < 256 → b < 256 → a + x * 256 ≡ b + y * 256 → (a ≡ b) × (x ≡ y)
@@ -73,11 +71,12 @@ word_told f g a b e =
     let p = low f.snippet_id g.snippet_id (t f) (t g) (omega (arith, a.number_fits)) (omega (arith, b.number_fits)) (omega arith) in
     let q = low (gain_code f.gain) (gain_code g.gain) (s f) (s g) (omega arith) (omega arith) p.1 in
     let u = low (timebase_code f.timebase) (timebase_code g.timebase) (r f) (r g) (omega arith) (omega arith) q.1 in
-    let v = low (loop_byte f.loop_count) (loop_byte g.loop_count) (frequency_word f.frequency) (frequency_word g.frequency) (loop_small f.loop_count a.loop_fits) (loop_small g.loop_count b.loop_fits) u.1 in
+    let loop = code_small 15 255 (omega arith) in
+    let v = low (loop_byte f.loop_count) (loop_byte g.loop_count) (frequency_word f.frequency) (frequency_word g.frequency) (omega (arith, loop f.loop_count a.loop_fits)) (omega (arith, loop g.loop_count b.loop_fits)) u.1 in
     let gains = sym gf.0 ∙ ap gain_at q.0 ∙ gg.0 in
     let timebases = sym tf.0 ∙ ap timebase_at u.0 ∙ tg.0 in
-    let loops = loop_told f.loop_count g.loop_count a.loop_fits b.loop_fits v.0 in
-    let frequencies = frequency_told f.frequency g.frequency a.frequency_fits b.frequency_fits v.1 in
+    let loops = code_told 15 255 (omega arith) f.loop_count g.loop_count a.loop_fits b.loop_fits v.0 in
+    let frequencies = code_told 511 65535 (omega arith) f.frequency g.frequency a.frequency_fits b.frequency_fits v.1 in
     λ i. record { snippet_id = p.0 i; gain = gains i; timebase = timebases i; loop_count = loops i; frequency = frequencies i }
 
 -- ---- its bytes

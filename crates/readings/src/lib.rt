@@ -25,14 +25,11 @@ use reader::{Gather, Lists, ReadFrames};
 // How many bytes all lists of an image are.
 pub const LISTS_SIZE: usize = 703;
 
-// Where an image has no such point.
+// Where an image has no such point. No Option: `point_answer` and `frame_answer`, which C's functions promise, have these two words.
 const NO_POINT: u32 = 256;
 
 // Where an image has no such frame.
 const NO_FRAME: u64 = 1 << 48;
-
-// A refusal stands above the 56 bits of a frame; here alone, since no other answer has as many.
-const NO_IMAGE: u64 = 18 << 56;
 
 // C reads all lists at fixed places, so that it can lay a struct over their bytes: the offsets stay.
 // In the bytes of all lists, behind the points: the ends of the snippets.
@@ -72,7 +69,8 @@ pub fn frame(image: &[u8], i: usize, j: usize) -> u64
             None => NO_FRAME,
         },
         Ok(_) => NO_FRAME,
-        Err(_) => NO_IMAGE,
+        // A refusal stands above the 56 bits of a frame; here alone, since no other answer has as many.
+        Err(error) => u64::from(error.number()) << 56,
     }
 }
 
@@ -98,7 +96,7 @@ fn read_counts(image: &[u8]) -> Result<u32, Error>
 fn both(s: u8, q: u8) -> u32
     ensures { result ≡ s * 256 + q }
 {
-    u32::from(s) * 256 + u32::from(q)
+    u32::from(u16::from_be_bytes([s, q]))
 }
 
 fn read_point(image: &[u8], i: usize, j: usize) -> Result<u32, Error>

@@ -1,5 +1,5 @@
 // Lists of builder calls run, and images built and read, by the types that Rattle programs have: `WaveformMemoryBuilder`, `reader::read`
-// and its `items`. The functions exported for C do the same over items kept in bytes and over the image in place; each function here
+// and its lists. The functions exported for C do the same over items kept in bytes and over the image in place; each function here
 // answers in the form of the exported one with its name.
 // Proved: every function is safe and returns.
 #![tactic(auto)]
@@ -9,7 +9,7 @@ ghost use Rattle.std.specs.Prelude.{◌<◌};
 use calls::{Builders, Call};
 use errors::Error;
 use memory::WaveformMemoryBuilder;
-use reader::{Lists, items};
+use reader::Lists;
 use sequence::SequenceBuilder;
 use snippet::SnippetBuilder;
 
@@ -106,14 +106,20 @@ pub fn read_counts(image: &[u8]) -> u64 {
 /// The byte of a point, 256 where there is none, or the refusal above them.
 pub fn read_point(image: &[u8], i: usize, j: usize) -> u64 {
     told(image, 16, |lists| {
-        items::point_at(&lists.snippets, i, j).map_or(NO_POINT, |point| u64::from(point.as_byte()))
+        lists
+            .snippets
+            .point_at(i, j)
+            .map_or(NO_POINT, |point| u64::from(point.as_byte()))
     })
 }
 
 /// The word of a frame's fields, 2 to the power of 48 where there is none, or the refusal above them.
 pub fn read_frame(image: &[u8], i: usize, j: usize) -> u64 {
     told(image, 56, |lists| {
-        items::frame_at(&lists.sequences, i, j).map_or(NO_FRAME, |frame| frame.word())
+        lists
+            .sequences
+            .frame_at(i, j)
+            .map_or(NO_FRAME, |frame| frame.word())
     })
 }
 

@@ -45,6 +45,10 @@ lists_done (some c) r e =
     lists_in (Ok x) = x
     lists_in (Err y) = r
 
+-- the bytes that were laid
+laid_item : (o : Option Content) (r : Lists) (bytes : List ℕ) → bytes ≡ laid_bytes r.snippets r.sequences → Ok r ≡ reading_of o → gives bytes ≡ lists_item o
+laid_item o r bytes b e = ap gives b ∙ (lists_done o r e).0
+
 -- what is answered where they were lent to the copying
 module _ (out bytes : List ℕ) (counts : Told ℕ) where
   abbrev answer : Told (List ℕ) → Told ℕ
@@ -66,26 +70,22 @@ pub returns-in_err-copy_whole-clause-answer : goal.returns-in_err-copy_whole-cla
 returns-in_err-copy_whole-clause-answer c =
     let o = read_image c.args.image.now in
     let out = c.args.out.now in
-    let item = ap gives c.lay.ensures ∙ (lists_done o _ c.in_ok-lists.ensures.value).0 in
     ap told (passed _ c.from_residual-in_err-copy_whole.ensures.1)
     ∙ no_room out c.lay.result (counts_answer o) _ c.in_err-copy_whole.ensures.result_value
-    ∙ ap (λ t. on_told (whole out t) (λ b. counts_answer o) refuses) item
+    ∙ ap (λ t. on_told (whole out t) (λ b. counts_answer o) refuses) (laid_item _ _ _ c.lay.ensures c.in_ok-lists.ensures.value)
 
 pub returns-in_err-copy_whole-clause-buffer : goal.returns-in_err-copy_whole-clause-buffer
 returns-in_err-copy_whole-clause-buffer c =
-    let item = ap gives c.lay.ensures ∙ (lists_done (read_image c.args.image.now) _ c.in_ok-lists.ensures.value).0 in
-    c.copy_whole.ensures.buffer_after ∙ ap (whole_out c.args.out.now) item
+    c.copy_whole.ensures.buffer_after ∙ ap (whole_out c.args.out.now) (laid_item _ _ _ c.lay.ensures c.in_ok-lists.ensures.value)
 
 pub returns-clause-answer : goal.returns-clause-answer
 returns-clause-answer c =
     let o = read_image c.args.image.now in
     let out = c.args.out.now in
-    let w = lists_done o _ c.in_ok-lists.ensures.value in
-    ap gives c.both.ensures ∙ w.1
+    ap gives c.both.ensures ∙ (lists_done o _ c.in_ok-lists.ensures.value).1
     ∙ in_room out c.lay.result (counts_answer o) _ c.in_ok-copy_whole.ensures.result_value
-    ∙ ap (λ t. on_told (whole out t) (λ b. counts_answer o) refuses) (ap gives c.lay.ensures ∙ w.0)
+    ∙ ap (λ t. on_told (whole out t) (λ b. counts_answer o) refuses) (laid_item _ _ _ c.lay.ensures c.in_ok-lists.ensures.value)
 
 pub returns-clause-buffer : goal.returns-clause-buffer
 returns-clause-buffer c =
-    let item = ap gives c.lay.ensures ∙ (lists_done (read_image c.args.image.now) _ c.in_ok-lists.ensures.value).0 in
-    c.copy_whole.ensures.buffer_after ∙ ap (whole_out c.args.out.now) item
+    c.copy_whole.ensures.buffer_after ∙ ap (whole_out c.args.out.now) (laid_item _ _ _ c.lay.ensures c.in_ok-lists.ensures.value)

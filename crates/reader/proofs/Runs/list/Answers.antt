@@ -9,7 +9,7 @@ use Rattle.laws.proofs.Lists.{length_of_map, take_shown}
 use Rattle.reader.specs.Items.{at_told}
 use Rattle.reader.specs.Places.{start_in}
 use Rattle.reader.specs.Reading.{parts}
-use Rattle.reader.proofs.items.list.Goals as goal
+use Rattle.reader.proofs.Runs.list.Goals as goal
 
 -- the i-th of the parts, which are as many as the ends
 part_at : {A : Type 0} (es : List ℕ) (from i : ℕ) (l : List A) → i < length es
@@ -39,7 +39,7 @@ part_shown l from to a b eb ea = go (dec_le from b) where
 
 pub returns-in_err-get : goal.returns-in_err-get
 returns-in_err-get g c =
-    let r = c.args.runs.now in
+    let r = c.args.self.now in
     let es = c.shown-ends.result.now in
     let i = c.args.i in
     let h : length es ≤ i = search rules in
@@ -48,7 +48,7 @@ returns-in_err-get g c =
 
 pub returns : goal.returns
 returns g c =
-    let r = c.args.runs.now in
+    let r = c.args.self.now in
     let es = c.shown-ends.result.now in
     let i = c.args.i in
     let n : length r.items ≡ 96 = search (rules, length_of_map) in

@@ -4,7 +4,7 @@ use Rattle.std.proofs.Math.ListN.{get_elem?}
 use Rattle.content.specs.ReadImage.{and_then}
 use Rattle.reader.specs.Items.{at_told}
 use Rattle.reader.proofs.Placed.{got}
-use Rattle.reader.proofs.items.at.Goals as goal
+use Rattle.reader.proofs.Runs.at.Goals as goal
 
 pub returns : goal.returns
 returns g c =
