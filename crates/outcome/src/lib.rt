@@ -120,6 +120,7 @@ pub fn zeroing(session: &[u8]) -> Option<Change>
 }
 
 // What an answer that gave this turn makes of the record that was lent with it; the session is as the answer left it.
+#[inline]
 #[tactic(auto, unfolding(crate::specs::Outcome::change_by))]
 pub fn change_by(driver: DA728x, session: &[u8], turn: Turn) -> Option<Change>
     ensures { result ≡ spec.change_by session.now (turn_report turn) driver }
