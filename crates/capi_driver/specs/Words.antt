@@ -1,7 +1,7 @@
 -- What the functions exported for C answer as one number, and how they take what the bus answered and the bytes to upload: document 01,
 -- "functions exported for C on numbers and byte slices"; "The count of exchanges made stands in every session result"; "8 also for `from_bytes`";
 -- document 02, CR 10.
-use Rattle.std.specs.Prelude.{ℕ, ◌+◌, ◌-◌, ◌*◌, Bool, cond, ◌&&◌, List, [], ◌∷◌, ◌++◌, eqb, length, set, get_or, replicate, is_some, Option, Some, None}
+use Rattle.std.specs.Prelude.{ℕ, ◌+◌, ◌-◌, ◌*◌, Bool, cond, List, [], ◌∷◌, ◌++◌, eqb, length, set, get_or, replicate, is_some, Option, Some, None}
 use Rattle.std.specs.Option.{unwrap_or}
 use Rattle.laws.specs.Lists.{at}
 use Rattle.field.specs.Field.{code_of}
@@ -36,12 +36,6 @@ abbrev pub record_out : List ℕ → Option Change → List ℕ
 record_out l None = l
 record_out l (Some (To r)) = cond (eqb (length l) 38) (record_bytes r) l
 record_out l (Some (Sequences n)) = cond (eqb (length l) 38) (set l 37 n) l
-
--- the same of an answer to an upload, by the bytes of its session: the address is at 117, the image's count at 154. Of a private contract alone, and equal to
--- the rule above (proofs/Counts.antt)
-abbrev pub count_out : List ℕ → List ℕ → Bool → ℕ → List ℕ
-count_out l st ended number =
-    cond (eqb (length l) 38 && eqb (at st 117) (at l 0)) (cond (ended && eqb number 0) (set l 37 (at st 154)) (cond (eqb number 19) l (set l 37 0))) l
 
 -- what the operation answers, the count, and whether every exchange was made
 unfoldable pub result_word : Outcome → ℕ

@@ -18,7 +18,7 @@ ghost use Rattle.outcome.specs.Outcome.{change_by, outcome_of};
 ghost use Rattle.driver.specs.Operations as spec;
 ghost use Rattle.errors.specs.Number.{answer_number, handed_by};
 ghost use Rattle.memory.specs.Memory.{no_memory};
-ghost use Rattle.capi_driver.specs.Words.{count_out, exchange_word, reply_of, report_word, record_out, result_word, image_of, upload_of};
+ghost use Rattle.capi_driver.specs.Words.{exchange_word, reply_of, report_word, record_out, result_word, image_of, upload_of};
 
 use da728x::DA728x;
 use errors::Error;
@@ -49,7 +49,7 @@ pub extern "C" fn da728x_configure(record: &[u8], settings: &[u8], session: &mut
         ≡ spec.started_in session.old (spec.configure (record_at «record».now) (actuator_config_at settings.now 0)
         (device_config_at settings.now 18)).start }
 {
-    // in this order less is copied
+    // in this order, since with the actuator first the plan took 825 instructions for 793
     let d = da728x::device_config(settings);
     let a = da728x::actuator_config(settings);
     errors::number(driver::configure(&DA728x::chip_from_bytes(record), a, d, session))
@@ -164,19 +164,25 @@ pub extern "C" fn da728x_upload_waveform_memory(
     ensures session_after { session.new
         ≡ spec.started_in session.old (upload_of (record_at «record».old) image.now (ltb 0 lock_after)) }
 {
-    match loaded(image) {
-        Ok(memory) => {
-            let mut driver = DA728x::from_bytes(record);
-            put(outcome::zeroing(session), record);
-            errors::number(driver::upload_waveform_memory(
-                &mut driver,
-                &memory,
-                0 < lock_after,
-                session,
-            ))
-        }
-        Err(e) => e.number(),
-    }
+    errors::number(upload(record, image, 0 < lock_after, session))
+}
+
+// The record stays as it is where the image is refused.
+fn upload(
+    record: &mut [u8],
+    image: &[u8],
+    lock_after: bool,
+    session: &mut [u8],
+) -> Result<(), Error>
+    ensures value { answer_number result ≡ spec.start_number (upload_of (record_at «record».old) image.now lock_after) }
+    ensures record_after { «record».new
+        ≡ record_out «record».old (spec.change_from session.old (upload_of (record_at «record».old) image.now lock_after)) }
+    ensures session_after { session.new ≡ spec.started_in session.old (upload_of (record_at «record».old) image.now lock_after) }
+{
+    let memory = loaded(image)?;
+    let mut driver = DA728x::chip_from_bytes(record);
+    put(outcome::zeroing(session), record);
+    driver::upload_waveform_memory(&mut driver, &memory, lock_after, session)
 }
 
 // The memory of an image's bytes, or the refusal of more than a hundred. No `TryFrom`: neither type is of this crate.
@@ -261,11 +267,11 @@ pub extern "C" fn da728x_pending(session: &[u8], bytes: &mut [u8]) -> u32
     exchange_word(e)
 }
 
-// This and the other words below are for C, which gets one number; no `From`, since neither of the two types is of this crate.
+// This and the other words below are for C, which gets one number; no `From`, since a number and a type of `exchange` or `outcome` are not of this crate.
 fn exchange_word(e: Exchange) -> u32
     ensures { result ≡ exchange_word e }
 {
-    e.len as u32 + 256 * (e.address as u32) + 65536 * (e.wanted as u32)
+    u32::from_le_bytes([e.len, e.address, e.wanted, 0])
 }
 
 #[tactic(auto, unfolding(driver::specs::Operations::change_after))]
@@ -290,31 +296,16 @@ pub extern "C" fn da728x_answer(
     told
 }
 
-// The record after an answer that gave this turn; it is looked at only where it may change, and an upload's count goes to its place.
+// The record after an answer that gave this turn; it is looked at only where it may change. Session and turn, the one lent and the other copied: a
+// struct of both would be taken apart at once.
 #[tactic(auto, unfolding(outcome::specs::Outcome::change_by))]
 fn store(record: &mut [u8], session: &[u8], turn: Turn)
     ensures { «record».new
         ≡ record_out «record».old (change_by session.now (turn_report turn) (record_at «record».old)) }
 {
-    if outcome::is_upload(session) {
-        store_count(record, session, turn);
-    } else if outcome::may_change(session, turn) {
+    if outcome::is_upload(session) || outcome::may_change(session, turn) {
         let change = outcome::change_by(DA728x::chip_from_bytes(record), session, turn);
         put(change, record);
-    }
-}
-
-// On bytes alone: by way of records an upload's exchange took 529 instructions, and takes 385.
-fn store_count(record: &mut [u8], session: &[u8], turn: Turn)
-    requires { length session.now ≡ 280 }
-    ensures { «record».new ≡ count_out «record».old session.now turn.ended (answer_number turn.answer) }
-{
-    if record.len() == da728x::RECORD_SIZE && record[0] == session[exchange::RECORD] {
-        if turn.is_last() {
-            record[37] = session[exchange::PLAN - 1];
-        } else if turn.is_taken() {
-            record[37] = 0;
-        }
     }
 }
 
@@ -326,7 +317,7 @@ fn put(change: Option<Change>, out: &mut [u8])
         match change {
             None => {}
             Some(Change::To(next)) => out.copy_from_slice(&next.to_bytes()),
-            Some(Change::Sequences(n)) => out[37] = n,
+            Some(Change::Sequences(n)) => out[da728x::SEQUENCES] = n,
         }
     }
 }
@@ -346,10 +337,9 @@ fn reply(kind: u8, byte: u8) -> Reply
 fn word(t: Turn) -> u32
     ensures { result ≡ report_word (turn_report t) }
 {
-    let number = errors::number(t.answer) as u32;
-    let code = errors::bus_code(t.answer) as u32;
-    let ended = t.ended as u32;
-    number + 256 * code + 65536 * (t.made as u32) + 16777216 * ended
+    let number = errors::number(t.answer);
+    let code = errors::bus_code(t.answer);
+    u32::from_le_bytes([number, code, t.made, t.ended.into()])
 }
 
 #[unsafe(no_mangle)]

@@ -40,8 +40,6 @@ pub fn configure_checks(
     if !(4000..=49999).contains(&actuator.impedance_mOhm) {
         return Err(Error::InvalidCurrentOrImpedance);
     }
-    // told below, behind the others; asked here, where it costs less
-    let above = triggers_above_15(device);
     if outside_band(device.driving_mode, actuator.frequency_Hz) {
         return Err(Error::InvalidDriveFrequency);
     }
@@ -52,7 +50,7 @@ pub fn configure_checks(
     if actuator.max_current_mA < 29 {
         return Err(Error::InvalidCurrentOrImpedance);
     }
-    if above {
+    if triggers_above_15(device) {
         return Err(Error::InvalidValue);
     }
     if device.rapid_stop {
@@ -60,6 +58,8 @@ pub fn configure_checks(
     }
     Ok(())
 }
+
+// Functions: the types are of `config`. Each is one line of specs/Checks.antt, which says ETWM each time.
 
 // Whether a frequency lies outside the band of the driving mode.
 pub fn outside_band(mode: DrivingMode, hz: u16) -> bool

@@ -80,6 +80,7 @@ pub enum Variant {
     DA7282,
 }
 
+// A pair for each choice: the gate refuses an `impl` that a macro here writes, and a trait with each choice's codes would be longer.
 impl From<ActuatorType> for u8 {
     ghost from_gives = { λ actuator_type code. code ≡ actuator_code actuator_type };
 

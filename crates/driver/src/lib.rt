@@ -3,7 +3,7 @@
 // record in force is lent with each answer. `answer` changes it by the answer that completes `new` or `configure`, and by every one to an
 // upload that is taken: its count of sequences is 0 until the last. The start of an upload sets it to 0 (document 02, CR 10).
 // `set_custom_drive_waveform`, which has no finished body in the Rust, writes the registers that document 02 (CR 8) names.
-// Left out: the `defmt` prints.
+// Left out: the `defmt` prints. Functions and no methods: a type's methods stand in its crate, and small crates keep a check short.
 //
 // Proved: the answer is the papers' number and the session's bytes are those of the operation's steps (specs/Operations.antt).
 // proofs/Refusals.antt: for which fault each of the eighteen starts is refused, and by which number. proofs/Answers.antt: what is sent, in
@@ -86,6 +86,7 @@ pub fn configure(
 
 // ---- what the chip says
 
+// Two functions, this and `get_status`, as the Rust and C have them; each is one call of `read`.
 pub fn get_chip_rev(driver: &DA728x, session: &mut [u8]) -> Result<(), Error>
     ensures result_value { answer_number result ≡ spec.start_number (spec.get_chip_rev driver.now).start }
     ensures session_after { session.new ≡ spec.started_in session.old (spec.get_chip_rev driver.now).start }
@@ -178,7 +179,7 @@ pub fn disable(driver: &DA728x, session: &mut [u8]) -> Result<(), Error>
         driver.address,
         Register::TOP_CTL1.address(),
         TOP_CTL1::OPERATION_MODE_PLACE,
-        0,
+        OperationMode::INACTIVE.into(),
     );
     Ok(())
 }
@@ -206,6 +207,7 @@ fn drive_points(session: &mut [u8], driver: &DA728x, points: [u8; 3])
     ensures { session.new
         ≡ begun_in session.old (blank 0 driver.now.address) (spec.drive_point_steps (at points 0) (at points 1) (at points 2)) }
 {
+    // Three lines and no loop: each register is a type of its own, and its field has the digit in the Rust's name.
     let [p1, p2, p3] = points;
     let swg_c1 = SWG_C1::new().with_CUSTOM_WAVE_GEN_COEFF1(p1);
     let swg_c2 = SWG_C2::new().with_CUSTOM_WAVE_GEN_COEFF2(p2);
@@ -241,6 +243,7 @@ pub fn set_timebase(
     Ok(())
 }
 
+// Two functions, as the Rust and C have them; each is one call of `write`.
 pub fn unlock_waveform_memory(driver: &DA728x, session: &mut [u8]) -> Result<(), Error>
     ensures result_value { answer_number result ≡ spec.start_number (spec.unlock_waveform_memory driver.now).start }
     ensures session_after { session.new ≡ spec.started_in session.old (spec.unlock_waveform_memory driver.now).start }
@@ -383,15 +386,11 @@ fn play(session: &mut [u8], driver: &DA728x, value: u8)
     ensures { session.new ≡ begun_in session.old (blank 0 driver.now.address) (Write (address_of "SEQ_CTL2") value ∷ start_steps) }
 {
     write(session, driver, Register::SEQ_CTL2, value);
-    exchange::push(session, Step::Read(Register::TOP_CTL1.address()));
-    exchange::push(
+    exchange::push_update(
         session,
-        Step::Update(
-            Register::TOP_CTL1.address(),
-            TOP_CTL1::SEQ_START_PLACE.shift,
-            TOP_CTL1::SEQ_START_PLACE.width,
-            1,
-        ),
+        Register::TOP_CTL1.address(),
+        TOP_CTL1::SEQ_START_PLACE,
+        1,
     );
 }
 

@@ -21,11 +21,13 @@ impl Chip {
 
     /// What the chip answers: a write stores its bytes from the register on, a read gives the register's byte.
     pub fn transfer(&mut self, e: &Exchange) -> Reply {
-        let register = e.bytes[0];
+        let Some((register, bytes)) = e.sent().split_first() else {
+            return Reply::Done;
+        };
         if 0 < e.wanted {
-            return Reply::Byte(self.registers[usize::from(register)]);
+            return Reply::Byte(self.registers[usize::from(*register)]);
         }
-        self.store(register, e.bytes.get(1..usize::from(e.len)).unwrap_or(&[]));
+        self.store(*register, bytes);
         Reply::Done
     }
 

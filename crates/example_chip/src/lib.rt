@@ -78,15 +78,15 @@ impl Bench {
 // ---- what is printed of an exchange
 
 fn tell(rt: &impl Print, e: &Exchange, reply: Reply, turn: Turn) -> io::Result<()> {
+    let Some((register, sent)) = e.sent().split_first() else {
+        return Ok(());
+    };
     let made = turn.made;
-    let register = RegisterName(e.bytes[0]);
+    let register = RegisterName(*register);
     print!(rt; "   {made:2}")?;
     match reply {
         Reply::Byte(x) => print!(rt; "  read   {register}{}", Bytes(&[x]))?,
-        Reply::Done | Reply::Failed(_) => {
-            let sent = e.bytes.get(1..usize::from(e.len)).unwrap_or(&[]);
-            print!(rt; "  write  {register}{}", Column(sent))?;
-        }
+        Reply::Done | Reply::Failed(_) => print!(rt; "  write  {register}{}", Column(sent))?,
     }
     if let Err(e) = turn.answer {
         let code = e.bus_code();

@@ -12,7 +12,8 @@ pub fn drive(rt: &impl Print, memory: &WaveformMemory) -> io::Result<()> {
         "\n4. The driver on a simulated DA7280 at address 4A: count, exchange, register, bytes"
     )?;
     println!(rt; "\nnew")?;
-    let mut bench = Bench::new(unknown());
+    // lent until `new` has made a record
+    let mut bench = Bench::new(DA728x::new(0, Variant::DA7280));
     let begun = driver::new(0x4A, Variant::DA7280, &mut bench.session);
     bench.run(rt, begun)?;
     if outcome::result(&bench.session).value.is_none() {
@@ -22,16 +23,7 @@ pub fn drive(rt: &impl Print, memory: &WaveformMemory) -> io::Result<()> {
     fail(rt, &mut bench)
 }
 
-// Lent until `new` has made a record.
-fn unknown() -> DA728x {
-    DA728x {
-        address: 0,
-        variant: Variant::DA7280,
-        settings: None,
-        sequences: 0,
-    }
-}
-
+// Functions here and below: `Bench` is of another crate.
 fn operate(rt: &impl Print, bench: &mut Bench, memory: &WaveformMemory) -> io::Result<()> {
     println!(rt; "\nconfigure: LRA, 170 Hz, 8 ohms; RTWM_MODE, WIDEBAND")?;
     configure(rt, bench, OperationMode::RTWM_MODE, DrivingMode::WIDEBAND)?;

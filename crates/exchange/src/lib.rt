@@ -12,6 +12,7 @@ ghost use Rattle.std.specs.Option.{unwrap_or, is_none, option_to_list};
 ghost use Rattle.errors.specs.Number.{answer_number};
 ghost use Rattle.laws.specs.Copied.{over};
 ghost use Rattle.laws.specs.Lists.{at};
+ghost use Rattle.exchange.specs.declared.Step.TheVariants.{Read, Update};
 ghost use Rattle.exchange.specs.Steps.{exchange, memory_address, chunk, exchange_for, step_bytes, step_of};
 ghost use Rattle.exchange.specs.State.{is_unbroken, address_in, count_in, room_in, image_in, step_count, read_count, encoded_step, left, none_left, slot_of, completed, head_of, begun_with, begun_in, pushed};
 ghost use Rattle.exchange.specs.Stage.{stage_code, stage_at};
@@ -19,6 +20,7 @@ ghost use Rattle.exchange.specs.Turn.{pending_of, fitting_of, resized, fit_of, g
 
 use da728x::RECORD_SIZE;
 use errors::Error;
+use field::Place;
 use registers::Register;
 
 // Public functions take bytes of any length and test for this one themselves: an array of it would ask more of their callers.
@@ -59,6 +61,7 @@ enum Stage {
     BrokenOff,
 }
 
+// A pair for each choice: the gate refuses an `impl` that a macro here writes, and a trait with each choice's codes would be longer.
 impl From<Stage> for u8 {
     ghost from_gives = { λ stage code. code ≡ stage_code stage };
 
@@ -86,7 +89,8 @@ pub enum Step {
     Write(u8, u8),
     // The register.
     Read(u8),
-    // The register, and a field of the byte read last, replaced by a value: shift, width, value.
+    // The register, and a field of the byte read last, replaced by a value: shift, width, value. Two numbers and no `Place`: the claims say them
+    // so (`Update 0x22 4 1 1`).
     Update(u8, u8, u8, u8),
     // The register, and what it must read.
     Match(u8, u8),
@@ -100,6 +104,7 @@ pub enum Step {
 #[derive(Debug, Clone, Copy, PartialEq, Eq)]
 pub struct Exchange {
     pub address: u8,
+    // An array with its length: no heap, and a slice can't be lent, since the register before the bytes stands nowhere in the session.
     pub bytes: [u8; 33],
     pub len: u8,
     // A number, as document 01 has it ("0 or 1 bytes wanted") and as C gets it.
@@ -115,6 +120,7 @@ impl Exchange {
     {
         let mut bytes = [0u8; 33];
         bytes[0] = register;
+        // `lay`, here and below: its contract says the whole buffer in one word, `over`.
         laws::lay(&mut bytes, 1, rest);
         Exchange {
             address,
@@ -181,6 +187,7 @@ pub struct Opening<'a> {
     pub address: u8,
     pub reads: u8,
     pub room: usize,
+    // A byte: `outcome`, which stands above, names the purposes, and a session may hold any.
     pub purpose: u8,
     pub image: &'a [u8; 100],
     pub record: &'a [u8; RECORD_SIZE],
@@ -228,6 +235,17 @@ pub fn push(session: &mut [u8], step: Step)
             laws::lay(session, PLAN + 5 * usize::from(n), &<[u8; 5]>::from(step));
         }
     }
+}
+
+// Reads a register, and writes it back with a field replaced.
+pub fn push_update(session: &mut [u8], register: u8, place: Place, value: u8)
+    ensures { session.new ≡ pushed (pushed session.old (Read register)) (Update register place.shift place.width value) }
+{
+    push(session, Step::Read(register));
+    push(
+        session,
+        Step::Update(register, place.shift, place.width, value),
+    );
 }
 
 // A step in five bytes.
@@ -406,7 +424,7 @@ fn go_on(session: &mut [u8], stage: Stage, came: Option<u8>)
     ensures { session.new ≡ moved session.old (stage_code stage) (option_to_list came) }
 {
     let made = session[MADE] + 1;
-    let [a, b, c] = [session[LAST], session[LAST + 1], session[LAST + 2]];
+    let [a, b, c] = *session[LAST..].first_chunk::<3>().unwrap();
     let bytes = match came {
         None => [stage.into(), made, a, b, c],
         Some(x) => [stage.into(), made, x, a, b],
@@ -430,10 +448,10 @@ pub fn made(session: &[u8]) -> u8
 pub fn is_over(session: &[u8]) -> bool
     ensures { result ≡ none_left (left session.now) }
 {
-    match session.as_array::<SESSION_SIZE>() {
-        None => true,
-        Some(session) => current(session).is_none(),
-    }
+    session
+        .as_array::<SESSION_SIZE>()
+        .and_then(current)
+        .is_none()
 }
 
 // Whether every step was made.

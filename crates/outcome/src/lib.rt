@@ -7,7 +7,7 @@ ghost use Rattle.std.specs.Prelude.{◌≡◌, cond, ◌&&◌, ◌||◌, eqb};
 ghost use Rattle.std.specs.Prelude.{Some, None};
 ghost use Rattle.exchange.specs.State.{is_session, completed, purpose_in, record_in};
 ghost use Rattle.exchange.specs.Turn.{turn_report};
-ghost use Rattle.da728x.specs.Record.{record_at};
+ghost use Rattle.da728x.specs.Record.{record_at, chip_at};
 ghost use Rattle.outcome.specs.Outcome as spec;
 
 use da728x::DA728x;
@@ -25,6 +25,7 @@ pub enum Purpose {
     Upload,
 }
 
+// A pair for each choice: the gate refuses an `impl` that a macro here writes, and a trait with each choice's codes would be longer.
 impl From<Purpose> for u8 {
     ghost from_gives = { λ purpose code. code ≡ spec.purpose_code purpose };
 
@@ -85,6 +86,8 @@ pub fn changed(driver: DA728x, change: Option<Change>) -> DA728x
     }
 }
 
+// Session and turn are lent and copied, here and below: a struct of both would be taken apart at once.
+
 // Whether an answer that gave this turn may change a record, where the session is of no upload; if not, none need be looked at
 // (proofs/Changes.antt, `unchanged`).
 pub fn may_change(session: &[u8], turn: Turn) -> bool
@@ -117,6 +120,7 @@ pub fn zeroing(session: &[u8]) -> Option<Change>
 }
 
 // What an answer that gave this turn makes of the record that was lent with it; the session is as the answer left it.
+#[inline]
 #[tactic(auto, unfolding(crate::specs::Outcome::change_by))]
 pub fn change_by(driver: DA728x, session: &[u8], turn: Turn) -> Option<Change>
     ensures { result ≡ spec.change_by session.now (turn_report turn) driver }
@@ -139,7 +143,7 @@ fn change_for(driver: DA728x, session: &[u8; SESSION_SIZE]) -> Option<Change>
         Purpose::New => Some(Change::To(carried(session))),
         Purpose::Settings => settle(carried(session), driver),
         Purpose::Upload => {
-            let next = carried(session);
+            let next = carried_chip(session);
             count(next, next.sequences, driver)
         }
         _ => None,
@@ -151,7 +155,7 @@ fn change_before(driver: DA728x, session: &[u8; SESSION_SIZE]) -> Option<Change>
     ensures { result ≡ spec.change_before (purpose_in session.now) (record_at (record_in session.now)) driver }
 {
     if purpose_of(session) == Purpose::Upload {
-        count(carried(session), 0, driver)
+        count(carried_chip(session), 0, driver)
     } else {
         None
     }
@@ -162,6 +166,14 @@ fn carried(session: &[u8; SESSION_SIZE]) -> DA728x
     ensures { result ≡ record_at (record_in session.now) }
 {
     DA728x::from_bytes(&session[exchange::RECORD..exchange::PLAN])
+}
+
+// The same without settings, for an upload, which carries none.
+#[tactic(auto, unfolding(da728x::specs::Record::record_at))]
+fn carried_chip(session: &[u8; SESSION_SIZE]) -> DA728x
+    ensures { result ≡ chip_at (record_in session.now) }
+{
+    DA728x::chip_from_bytes(&session[exchange::RECORD..exchange::PLAN])
 }
 
 // The settings of another record of the same chip.
@@ -211,11 +223,7 @@ fn answer_of(session: &[u8]) -> Option<u32>
 fn value(session: &[u8; SESSION_SIZE]) -> u32
     ensures { result ≡ spec.value_in session.now }
 {
-    let [last, second, third] = [
-        session[exchange::LAST],
-        session[exchange::LAST + 1],
-        session[exchange::LAST + 2],
-    ];
+    let [last, second, third] = *session[exchange::LAST..].first_chunk::<3>().unwrap();
     match purpose_of(session) {
         Purpose::Byte => last.into(),
         Purpose::ThreeBytes => u32::from_be_bytes([0, third, second, last]),

@@ -105,9 +105,10 @@ fn calibration(session: &mut [u8], a: ActuatorConfig)
     ensures { session.new ≡ pushed_all session.old (calibration_steps a) }
 {
     let v2i = convert::v2i(a.impedance_mOhm, convert::imax(a.max_current_mA));
+    let [high, low] = v2i.to_be_bytes();
     let trim4 = convert::trim4(a.impedance_mOhm, a.inductance_uH);
-    write(session, Register::CALIB_V2I_H, (v2i / 256) as u8);
-    write(session, Register::CALIB_V2I_L, (v2i % 256) as u8);
+    write(session, Register::CALIB_V2I_H, high);
+    write(session, Register::CALIB_V2I_L, low);
     write(session, Register::TRIM4, trim4.into());
 }
 
@@ -209,9 +210,5 @@ fn write(session: &mut [u8], register: Register, value: u8)
 fn update(session: &mut [u8], register: Register, place: Place, value: u8)
     ensures { session.new ≡ pushed (pushed session.old (Read register.0)) (Update register.0 place.shift place.width value) }
 {
-    exchange::push(session, Step::Read(register.address()));
-    exchange::push(
-        session,
-        Step::Update(register.address(), place.shift, place.width, value),
-    );
+    exchange::push_update(session, register.address(), place, value);
 }

@@ -55,20 +55,12 @@ pub fn run(session: &mut [u8], address: u8, purpose: u8, step: Step)
     exchange::push(session, step);
 }
 
-// Reads a register, and writes it back with a field replaced.
+// Reads a register, and writes it back with a field replaced. Any byte, as in a step: `Register` would ask more of the caller.
 pub fn update(session: &mut [u8], address: u8, register: u8, place: Place, value: u8)
     ensures { session.new ≡ begun_in session.old (spec.blank 0 address) (Read register ∷ Update register place.shift place.width value ∷ []) }
 {
-    run(
-        session,
-        address,
-        Purpose::Command.into(),
-        Step::Read(register),
-    );
-    exchange::push(
-        session,
-        Step::Update(register, place.shift, place.width, value),
-    );
+    exchange::begin(session, opening(address, Purpose::Command.into()));
+    exchange::push_update(session, register, place, value);
 }
 
 // ---- register values
@@ -143,12 +135,12 @@ fn lock(session: &mut [u8], lock_after: bool)
 pub fn shown(len: usize) -> u8
     ensures { result ≡ min len 100 }
 {
-    len.min(100) as u8
+    len.min(usize::from(exchange::MOST_READS)) as u8
 }
 
 // How many bytes are read of a memory into a buffer.
 pub fn reads(len: usize, buffer_len: usize) -> u8
     ensures { result ≡ min (min len 100) buffer_len }
 {
-    len.min(100).min(buffer_len) as u8
+    shown(len.min(buffer_len))
 }

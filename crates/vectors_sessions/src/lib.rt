@@ -91,6 +91,7 @@ impl Case<'_> {
         let b = byte_at(self.arguments, 1);
         let c = byte_at(self.arguments, 2);
         let ab = u16::from_be_bytes([a, b]);
+        // A match and no table: the functions differ in what they take.
         match kind {
             Kind::New => capi_driver::da728x_new(a, b, session),
             Kind::Configure => capi_driver::da728x_configure(record, self.input, session),
@@ -136,6 +137,7 @@ impl Case<'_> {
 
     // Whether the session makes the exchanges, and leaves the read buffer and the result.
     fn completes(&self, record: &mut [u8], session: &mut [u8]) -> bool {
+        // Longer than any case's buffer, so that nothing is allocated.
         let mut lent = [MARKER; 512];
         let Some(buffer) = lent.get_mut(..self.buffer.len()) else {
             return false;
@@ -148,6 +150,7 @@ impl Case<'_> {
     // Whether the session makes the exchanges and no other, and each answer is told the count so far; the last, the case's word.
     fn exchanged(&self, record: &mut [u8], session: &mut [u8], buffer: &mut [u8]) -> bool {
         let mut rest = self.exchanges;
+        // Not `while`: that the session ends is not shown of these bytes; the number is the count told.
         for made in 1..=MOST {
             let mut sent = [MARKER; 40];
             let pending = capi_driver::da728x_pending(session, &mut sent);
@@ -160,6 +163,7 @@ impl Case<'_> {
             if !told.is_pending(pending, &sent) {
                 return false;
             }
+            // C's numbers of a reply (include/da728x.h).
             let (kind, byte) = match told.reply {
                 Reply::Done => (0, 0),
                 Reply::Byte(byte) => (1, byte),
