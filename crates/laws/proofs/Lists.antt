@@ -1,7 +1,7 @@
 -- Lists that show a part of an array, lists of bytes, and what holds of each element.
 -- Assumes nothing.
-use mathlib.Core.Path.{◌≡◌, ap, sym, ◌∙◌}
-use mathlib.Core.List.{List, [], ◌∷◌, ◌++◌, map}
+use mathlib.Core.Path.{◌≡◌, refl, ap, sym, ◌∙◌}
+use mathlib.Core.List.{List, [], ◌∷◌, ◌++◌, map, append_assoc}
 use Prim.Native.Nat.{ℕ, suc, ◌≤◌, ◌<◌, min}
 use native.Mathlib.Decide.{dec_le}
 use native.Mathlib.Nat.{min-eq_left, min-eq_right}
@@ -9,6 +9,7 @@ use native.Mathlib.Omega.{arith}
 use lib.ListN.{length, take, get_or, length-map, length-take}
 use lib.Seq.{take_all, take-length}
 use Rattle.laws.specs.Bytes.{All, Bytes}
+use Rattle.laws.specs.Lists.{joined}
 
 -- a list shows no more than its length
 pub take_shown : {A : Type 0} (l : List A) (n k : ℕ) → k ≡ min n (length l) → take k l ≡ take n l
@@ -32,6 +33,10 @@ length_of_map X Y f l n e = sym (length-map l f) ∙ e
 pub bytes_of : (l : List ℕ) → ((i : ℕ) → get_or l i 0 < 256) → Bytes l
 bytes_of [] h = tt
 bytes_of (b ∷ l) h = (h 0, bytes_of l (λ i. h (suc i)))
+
+pub joined_append : {A : Type 0} (xs ys : List (List A)) → joined (xs ++ ys) ≡ joined xs ++ joined ys
+joined_append [] ys = refl
+joined_append (x ∷ xs) ys = ap (λ l. x ++ l) (joined_append xs ys) ∙ sym (append_assoc x (joined xs) (joined ys))
 
 -- ---- what holds of each element
 
