@@ -28,6 +28,12 @@ sequences_at : (l : List ℕ) → eqb (length l) 38 ≡ true → (record_at l).s
 unfolding record_at
 sequences_at l e = rw e
 
+-- bytes of another length stay as they are
+pub left_as : (l : List ℕ) (c : Option Change) → eqb (length l) 38 ≡ false → record_out l c ≡ l
+left_as l None e = refl
+left_as l (Some (To r)) e = rw e
+left_as l (Some (Sequences n)) e = rw e
+
 module _ (l st : List ℕ) (s : is_session st ≡ true) (p : purpose_in st ≡ for_upload) (t : Report) where
   abbrev next : DA728x
   next = record_at (record_in st)
@@ -51,11 +57,6 @@ module _ (l st : List ℕ) (s : is_session st ≡ true) (p : purpose_in st ≡ f
   parts false false true n = refl
   parts false false false n = refl
 
-  left_as : (c : Option Change) → eqb (length l) 38 ≡ false → record_out l c ≡ l
-  left_as None e = refl
-  left_as (Some (To r)) e = rw e
-  left_as (Some (Sequences n)) e = rw e
-
   abbrev last : Bool
   last = t.ended && eqb t.number 0
 
@@ -66,7 +67,7 @@ module _ (l st : List ℕ) (s : is_session st ≡ true) (p : purpose_in st ≡ f
       by : (b : Bool) → eqb (length l) 38 ≡ b → count_out l st t.ended t.number ≡ record_out l (change_by st t (record_at l))
       by false e =
           ap (λ (b : Bool). cond (b && eqb (at st 117) (at l 0)) (cond last (set l 37 (at st 154)) (cond (eqb t.number 19) l (set l 37 0))) l) e
-          ∙ sym (left_as (change_by st t (record_at l)) e)
+          ∙ sym (left_as l (change_by st t (record_at l)) e)
       by true e =
           let a = address_at (record_in st) carried ∙ byte_in 0 (omega arith) in
           let n = sequences_at (record_in st) carried ∙ byte_in 37 (omega arith) in

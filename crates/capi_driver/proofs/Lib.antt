@@ -1,4 +1,3 @@
 pub mod Counts
-pub mod Puts
 pub mod Telling
 pub mod Uploads
