@@ -68,10 +68,14 @@ custom CUSTOM_WAVEFORM = (λ e. absurd (false≢true e), λ n. absurd (n refl))
 not_below : (n m : ℕ) → (leb n m ≡ true) ↔ (n ≤ m)
 not_below n m = (leb-true n m, le-leb n m)
 
+-- of selecting and of playing a sequence
+abbrev pub sequence_faults : ℕ → ℕ → ℕ → List Fault
+sequence_faults sequences id loops = (11, 15 < id) ∷ (11, 15 < loops) ∷ (28, sequences ≤ id) ∷ []
+
 checked_sequence : (r : DA728x) (id loops : ℕ) (b : Begun) (xs : List Step) →
-    BeginsUnless (unless (first_failing (sequence_checks r.sequences id loops)) (begins b xs)) ((11, 15 < id) ∷ (11, 15 < loops) ∷ (28, r.sequences ≤ id) ∷ [])
+    BeginsUnless (unless (first_failing (sequence_checks r.sequences id loops)) (begins b xs)) (sequence_faults r.sequences id loops)
 checked_sequence r id loops b xs =
-    checked (sequence_checks r.sequences id loops) b xs ((11, 15 < id) ∷ (11, 15 < loops) ∷ (28, r.sequences ≤ id) ∷ [])
+    checked (sequence_checks r.sequences id loops) b xs (sequence_faults r.sequences id loops)
     (refl, Decides-ltb 15 id, (refl, Decides-ltb 15 loops, (refl, not_below r.sequences id, tt)))
 
 pub refusals : Refusals
