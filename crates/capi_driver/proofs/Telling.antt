@@ -37,6 +37,7 @@ use Rattle.outcome.specs.Outcome.{value_in, outcome_of, with_sequences, record_b
 use Rattle.driver.specs.Operations.{upload_waveform_memory}
 use Rattle.capi_driver.specs.Words.{exchange_word, reply_of, report_word, record_out, result_word, upload_of}
 use Rattle.capi_driver.specs.Telling.{Telling}
+use Rattle.capi_driver.proofs.Counts.{left_as}
 use Rattle.capi_driver.proofs.Uploads.{upload, upload_refused}
 
 three : (a b c : ℕ) → a < 256 → b < 256 →
@@ -78,11 +79,7 @@ pick (suc (suc (suc (suc (suc zero))))) a b c f g h = h
 pick (suc (suc (suc (suc (suc (suc n)))))) a b c f g h = omega arith
 
 counted : (st : List ℕ) → Bytes st → count_in st < 256
-counted st h = go (is_begun st)
-  where
-    go : (k : Bool) → cond k (made_in st) 0 < 256
-    go true = byte_of st 2 h
-    go false = omega arith
+counted st h = choice (λ (n : ℕ). n < 256) (is_begun st) (made_in st) 0 (byte_of st 2 h) (omega arith)
 
 bounded : (st : List ℕ) → Bytes st → (unwrap_or (outcome_of st).value 0 < 16777216) × ((outcome_of st).made < 256)
 unfolding outcome_of
@@ -165,20 +162,16 @@ records l None h = refl
 records l (Some (To r)) h = rw (eq-eqb _ _ h) (record_kept r)
 records l (Some (Sequences n)) h = subst (λ (m : List ℕ). record_at (record_out m (Some (Sequences n))) ≡ with_sequences (record_at m) n) (sym (each_byte 38 l h)) refl
 
-counted_out : (l : List ℕ) (n : ℕ) → length l ≡ 38 → record_out l (Some (Sequences n)) ≡ take 37 l ++ (n ∷ [])
-counted_out l n h = subst (λ (m : List ℕ). record_out m (Some (Sequences n)) ≡ take 37 m ++ (n ∷ [])) (sym (each_byte 38 l h)) refl
+-- another count is in the last byte alone
+last_byte : (l : List ℕ) (n : ℕ) → length l ≡ 38 → record_out l (Some (Sequences n)) ≡ take 37 l ++ (n ∷ [])
+last_byte l n h = subst (λ (m : List ℕ). record_out m (Some (Sequences n)) ≡ take 37 m ++ (n ∷ [])) (sym (each_byte 38 l h)) refl
 
 none : (l : List ℕ) → ¬ (length l ≡ 38) → record_at l ≡ record { address = 0; variant = DA7280; settings = None; sequences = 0 }
 unfolding record_at
 none l h = rw (ne_eqb _ _ h)
 
 spared : (l : List ℕ) (c : Option Change) → (¬ (length l ≡ 38)) ⊎ (c ≡ None) → record_out l c ≡ l
-spared l c (inl h) = go c
-  where
-    go : (c : Option Change) → record_out l c ≡ l
-    go None = refl
-    go (Some (To r)) = rw (ne_eqb _ _ h)
-    go (Some (Sequences n)) = rw (ne_eqb _ _ h)
+spared l c (inl h) = left_as l c (ne_eqb _ _ h)
 spared l c (inr e) = ap (record_out l) e
 
 -- ---- answers of the bus, and uploads
@@ -211,7 +204,7 @@ telling = record {
       let k = bounded_report st kind byte n h b in four t.number t.code t.made (code_of t.ended) k.0 k.1 k.2;
   records = records;
   spared = spared;
-  counted = counted_out;
+  counted = last_byte;
   none = none;
   results = λ st h. let k = bounded st h in wide (unwrap_or (outcome_of st).value 0) (outcome_of st).made (code_of (is_some (outcome_of st).value)) k.0 k.1;
   replies = replies;

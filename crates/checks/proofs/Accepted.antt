@@ -6,13 +6,13 @@ use mathlib.Core.Bool.{Bool, true, false, cond, not, ◌&&◌, ◌||◌, So, and
 use mathlib.Core.List.{List, [], ◌∷◌}
 use mathlib.Core.Logic.{◌↔◌}
 use lib.Dec.{ltb}
-use borrow.Author.Tests.{ltb-true, ltb-false, le-ltb, not-true}
+use Rattle.std.proofs.lemmas.Bool.{ltb-true, ltb-false, le-ltb, not-true, or_parts, or_from}
 use Rattle.config.specs.declared.ActuatorConfig.{ActuatorConfig}
 use Rattle.config.specs.declared.DeviceConfig.{DeviceConfig}
 use Rattle.config.specs.declared.Variant.{Variant}
 use Rattle.checks.specs.Checks.{tracking, etwm, triggers_given, sequence_above15, triggers_above15, Check, configure_checks, first_failing, configure_number}
 use Rattle.checks.specs.InRange.{SequenceTo15, InRange}
-use Rattle.checks.proofs.Tests.{and_off, and_on, neither, both_off, between, either, tracks, untracks, is_etwm, is_da7281, is_da7281_lem, to15, some, lone}
+use Rattle.checks.proofs.Tests.{and_off, and_on, between, either, tracks, untracks, is_etwm, is_da7281, is_da7281_lem, to15, some, lone}
 
 -- ---- the list
 
@@ -65,13 +65,13 @@ from_checks v a d e =
       untracked = λ n.
           let f = (untracks mode).1 n in
           let wide = (between 25 1024 hz).0 (band.1 f) in
-          (wide.0, wide.1, (neither d.acceleration d.rapid_stop (and_on (not (tracking mode)) _ (pass 0) (ap not f))).0);
+          (wide.0, wide.1, (or_parts d.acceleration d.rapid_stop (and_on (not (tracking mode)) _ (pass 0) (ap not f))).0);
       rapid_stop = pass 12;
       triggers = λ p. (some _ _ _).0 (and_on (etwm operation) _ (pass 1) (ap etwm p));
       single = λ p q. (lone _ _ _).0 (ltb-false 1 (triggers_given d) (and_on (is_da7281 v) _ (and_on (etwm operation) _ (pass 2) (ap etwm p)) (ap is_da7281 q)));
       sequences = λ p.
-          let first = neither (sequence_above15 d.gpi_trigger_0) _ (and_on (etwm operation) _ (pass 11) (ap etwm p)) in
-          let others = neither (sequence_above15 d.gpi_trigger_1) _ first.1 in
+          let first = or_parts (sequence_above15 d.gpi_trigger_0) _ (and_on (etwm operation) _ (pass 11) (ap etwm p)) in
+          let others = or_parts (sequence_above15 d.gpi_trigger_1) _ first.1 in
           ((to15 d.gpi_trigger_0).0 first.0, (to15 d.gpi_trigger_1).0 others.0, (to15 d.gpi_trigger_2).0 others.1);
     }
   where
@@ -84,7 +84,7 @@ to_checks v a d r =
     let operation = d.operation_mode in
     let hz = a.frequency_Hz in
     none_told (configure_checks v a d) (
-      and_off (not (tracking mode)) _ (λ u. both_off d.acceleration d.rapid_stop (wide (not-true (tracking mode) u)).2 r.rapid_stop),
+      and_off (not (tracking mode)) _ (λ u. or_from d.acceleration d.rapid_stop (wide (not-true (tracking mode) u)).2 r.rapid_stop),
       (
         and_off (etwm operation) _ (λ t. (some _ _ _).1 (r.triggers (is_etwm operation t))),
         (

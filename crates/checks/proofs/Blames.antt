@@ -1,13 +1,14 @@
 -- The first check that fails is the first fault: test by test. Assumes nothing.
 use Rattle.std.specs.Prelude.{Option, Some, None}
-use Prim.Native.Nat.{ℕ, ◌+◌, ◌<◌}
+use Prim.Native.Nat.{ℕ, ◌+◌}
 use native.Mathlib.Omega.{arith}
 use mathlib.Core.Path.{◌≡◌, refl, ◌∙◌, sym, ap}
-use mathlib.Core.Bool.{Bool, true, false, cond, not, ◌&&◌, ◌||◌, So, and-eq-true_iff, or-true, false≢true}
+use mathlib.Core.Bool.{Bool, true, false, cond, not, ◌&&◌, ◌||◌, So, and-eq-true_iff, false≢true}
 use mathlib.Core.List.{List, [], ◌∷◌}
-use mathlib.Core.Logic.{◌↔◌, ◌⊎◌, inl, inr}
+use mathlib.Core.Logic.{◌↔◌, inl, inr}
 use lib.Dec.{ltb, eqb}
-use borrow.Author.Tests.{ltb-true, ltb-false, lt-ltb, eqb-true, eq-eqb, not-true}
+use Rattle.std.proofs.lemmas.Bool.{true_from_ne_false, ltb-true, ltb-false, eqb-true, eq-eqb, not-true}
+use Rattle.std.proofs.lemmas.Bool.Decides.{Decides-and, Decides-or, Decides-ltb}
 use Rattle.config.specs.declared.DrivingMode.{DrivingMode}
 use Rattle.config.specs.declared.DrivingMode.TheVariants.{FREQUENCY_TRACK}
 use Rattle.config.specs.declared.OperationMode.{OperationMode}
@@ -16,7 +17,7 @@ use Rattle.config.specs.declared.TriggerConfig.{TriggerConfig}
 use Rattle.checks.specs.Checks.{tracking, etwm, one_if_given, sequence_above15, outside_band, Check, configure_checks, first_failing}
 use Rattle.checks.specs.InRange.{OneAbsent}
 use Rattle.checks.specs.Blames.{Outside, OutOfBand, NumberAbove15, Fault, faults, OfFirst, among, Blames}
-use Rattle.checks.proofs.Tests.{on, tracks, untracks, is_etwm, is_da7281, is_da7281_lem, absent, lone}
+use Rattle.checks.proofs.Tests.{tracks, untracks, is_etwm, is_da7281, is_da7281_lem, absent, lone}
 
 -- ---- the list
 
@@ -55,27 +56,8 @@ told_among ns (c ∷ cs) z s = let both = (and-eq-true_iff (among ns c.1) (all_a
 pub flag : (b : Bool) → (b ≡ true) ↔ (b ≡ true)
 flag b = (λ e. e, λ e. e)
 
-pub and_says : (x y : Bool) (P Q : Type 0) → (x ≡ true) ↔ P → (y ≡ true) ↔ Q → ((x && y) ≡ true) ↔ (P × Q)
-and_says x y P Q p q =
-    let iff = and-eq-true_iff x y in
-    (λ e. let h = iff.0 e in (p.0 h.0, q.0 h.1), λ f. iff.1 (p.1 f.0, q.1 f.1))
-
-or_says : (x y : Bool) (P Q : Type 0) → (x ≡ true) ↔ P → (y ≡ true) ↔ Q → ((x || y) ≡ true) ↔ (P ⊎ Q)
-or_says x y P Q p q = (to x p, from)
-  where
-    to : (b : Bool) → (b ≡ true) ↔ P → (b || y) ≡ true → P ⊎ Q
-    to true k e = inl (k.0 refl)
-    to false k e = inr (q.0 e)
-
-    from : P ⊎ Q → (x || y) ≡ true
-    from (inl f) = ap (λ (b : Bool). b || y) (p.1 f)
-    from (inr f) = ap (λ (b : Bool). x || b) (q.1 f) ∙ or-true x
-
-pub above : (limit n : ℕ) → (ltb limit n ≡ true) ↔ (limit < n)
-above limit n = (ltb-true limit n, lt-ltb limit n)
-
 outside : (low high n : ℕ) → ((ltb n low || ltb high n) ≡ true) ↔ Outside low high n
-outside low high n = or_says (ltb n low) (ltb high n) (n < low) (high < n) (above n low) (above high n)
+outside low high n = Decides-or (ltb n low) (ltb high n) (Decides-ltb n low) (Decides-ltb high n)
 
 untracked : (m : DrivingMode) → (not (tracking m) ≡ true) ↔ ¬ (m ≡ FREQUENCY_TRACK)
 untracked m = (λ e. (untracks m).0 (not-true (tracking m) e), λ n. ap not ((untracks m).1 n))
@@ -102,12 +84,12 @@ no_trigger r s t = (
 several : (r s t : Option TriggerConfig) → (ltb 1 (one_if_given r + one_if_given s + one_if_given t) ≡ true) ↔ ¬ (OneAbsent r s × OneAbsent r t × OneAbsent s t)
 several r s t = (
   λ e p. omega (arith, ltb-true 1 (one_if_given r + one_if_given s + one_if_given t) e, (lone r s t).1 p),
-  λ n. on (ltb 1 (one_if_given r + one_if_given s + one_if_given t)) (λ f. n ((lone r s t).0 (ltb-false 1 (one_if_given r + one_if_given s + one_if_given t) f))),
+  λ n. true_from_ne_false (ltb 1 (one_if_given r + one_if_given s + one_if_given t)) (λ f. n ((lone r s t).0 (ltb-false 1 (one_if_given r + one_if_given s + one_if_given t) f))),
 )
 
 number_above : (s : Option TriggerConfig) → (sequence_above15 s ≡ true) ↔ NumberAbove15 s
 number_above None = (λ e. false≢true e, λ f. absurd f)
-number_above (Some t) = above 15 t.sequence_id
+number_above (Some t) = Decides-ltb 15 t.sequence_id
 
 -- ---- the claim
 
@@ -117,22 +99,22 @@ blames = record {
       let operation = in_etwm_lem d.operation_mode in
       of_first (configure_checks v a d) (faults v a d) (
         refl,
-        and_says _ _ _ _ (untracked d.driving_mode) (or_says _ _ _ _ (flag d.acceleration) (flag d.rapid_stop)),
+        Decides-and _ _ (untracked d.driving_mode) (Decides-or _ _ (flag d.acceleration) (flag d.rapid_stop)),
         (
           refl,
-          and_says _ _ _ _ operation (no_trigger d.gpi_trigger_0 d.gpi_trigger_1 d.gpi_trigger_2),
+          Decides-and _ _ operation (no_trigger d.gpi_trigger_0 d.gpi_trigger_1 d.gpi_trigger_2),
           (
             refl,
-            and_says _ _ _ _ operation (and_says _ _ _ _ (is_da7281_lem v, λ p. ap is_da7281 p) (several d.gpi_trigger_0 d.gpi_trigger_1 d.gpi_trigger_2)),
+            Decides-and _ _ operation (Decides-and _ _ (is_da7281_lem v, λ p. ap is_da7281 p) (several d.gpi_trigger_0 d.gpi_trigger_1 d.gpi_trigger_2)),
             (
               refl,
-              above 6000 a.nominal_max_mV,
+              Decides-ltb 6000 a.nominal_max_mV,
               (
                 refl,
-                above 6000 a.absolute_max_mV,
+                Decides-ltb 6000 a.absolute_max_mV,
                 (
                   refl,
-                  above 252 a.max_current_mA,
+                  Decides-ltb 252 a.max_current_mA,
                   (
                     refl,
                     outside 4000 49999 a.impedance_mOhm,
@@ -141,17 +123,17 @@ blames = record {
                       out_of_band d.driving_mode a.frequency_Hz,
                       (
                         refl,
-                        above 5990 a.nominal_max_mV,
+                        Decides-ltb 5990 a.nominal_max_mV,
                         (
                           refl,
-                          above 5990 a.absolute_max_mV,
+                          Decides-ltb 5990 a.absolute_max_mV,
                           (
                             refl,
-                            above a.max_current_mA 29,
+                            Decides-ltb a.max_current_mA 29,
                             (
                               refl,
-                              and_says _ _ _ _ operation (or_says _ _ _ _ (number_above d.gpi_trigger_0)
-                                  (or_says _ _ _ _ (number_above d.gpi_trigger_1) (number_above d.gpi_trigger_2))),
+                              Decides-and _ _ operation (Decides-or _ _ (number_above d.gpi_trigger_0)
+                                  (Decides-or _ _ (number_above d.gpi_trigger_1) (number_above d.gpi_trigger_2))),
                               (refl, flag d.rapid_stop, tt),
                             ),
                           ),

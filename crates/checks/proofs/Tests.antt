@@ -6,7 +6,7 @@ use mathlib.Core.Path.{◌≡◌, refl, ◌∙◌, sym, ap}
 use mathlib.Core.Bool.{Bool, true, false, cond, ◌&&◌, ◌||◌, true≢false, false≢true}
 use mathlib.Core.Logic.{◌↔◌, inl, inr}
 use lib.Dec.{ltb, eqb}
-use borrow.Author.Tests.{ltb-false, le-ltb, ne_eqb}
+use Rattle.std.proofs.lemmas.Bool.{false_from_ne_true, ltb-false, le-ltb, ne_eqb, or_parts, or_from}
 use Rattle.config.specs.declared.DrivingMode.{DrivingMode}
 use Rattle.config.specs.declared.DrivingMode.TheVariants.{FREQUENCY_TRACK, WIDEBAND, CUSTOM_WAVEFORM}
 use Rattle.config.specs.declared.OperationMode.{OperationMode}
@@ -18,14 +18,6 @@ use Rattle.config.specs.Codes.{variant_code}
 use Rattle.checks.specs.Checks.{tracking, etwm, one_if_given, sequence_above15}
 use Rattle.checks.specs.InRange.{SequenceTo15, OneAbsent}
 
-pub on : (b : Bool) → ¬ (b ≡ false) → b ≡ true
-on true h = refl
-on false h = absurd (h refl)
-
-off : (b : Bool) → ¬ (b ≡ true) → b ≡ false
-off true h = absurd (h refl)
-off false h = refl
-
 -- a test is of no account where the mode is another
 pub and_off : (b x : Bool) → (b ≡ true → x ≡ false) → (b && x) ≡ false
 and_off true x h = h refl
@@ -34,18 +26,11 @@ and_off false x h = refl
 pub and_on : (b x : Bool) → (b && x) ≡ false → b ≡ true → x ≡ false
 and_on b x e t = sym (ap (λ (c : Bool). c && x) t) ∙ e
 
-pub neither : (x y : Bool) → (x || y) ≡ false → (x ≡ false) × (y ≡ false)
-neither true y e = absurd (true≢false e)
-neither false y e = (refl, e)
-
-pub both_off : (x y : Bool) → x ≡ false → y ≡ false → (x || y) ≡ false
-both_off x y p q = λ i. p i || q i
-
 -- a number that is neither below `low` nor above `high`
 pub between : (low high n : ℕ) → ((ltb n low || ltb high n) ≡ false) ↔ ((low ≤ n) × (n ≤ high))
 between low high n = (
-  λ e. let both = neither (ltb n low) (ltb high n) e in (ltb-false n low both.0, ltb-false high n both.1),
-  λ p. both_off (ltb n low) (ltb high n) (le-ltb n low p.0) (le-ltb high n p.1),
+  λ e. let both = or_parts (ltb n low) (ltb high n) e in (ltb-false n low both.0, ltb-false high n both.1),
+  λ p. or_from (ltb n low) (ltb high n) (le-ltb n low p.0) (le-ltb high n p.1),
 )
 
 -- one of two, as a test says
@@ -61,7 +46,7 @@ tracks WIDEBAND e = absurd (false≢true e)
 tracks CUSTOM_WAVEFORM e = absurd (false≢true e)
 
 pub untracks : (m : DrivingMode) → (tracking m ≡ false) ↔ ¬ (m ≡ FREQUENCY_TRACK)
-untracks m = (λ e p. true≢false (sym (ap tracking p) ∙ e), λ n. off (tracking m) (λ e. n (tracks m e)))
+untracks m = (λ e p. true≢false (sym (ap tracking p) ∙ e), λ n. false_from_ne_true (tracking m) (λ e. n (tracks m e)))
 
 pub is_etwm : (m : OperationMode) → etwm m ≡ true → m ≡ ETWM_MODE
 is_etwm INACTIVE e = absurd (false≢true e)

@@ -1,13 +1,12 @@
 -- A reader and a writer that undo each other, and what follows from the two laws alone.
 -- Assumes nothing.
-use mathlib.Core.Path.{◌≡◌, refl, sym, ap, ◌∙◌, subst}
+use mathlib.Core.Path.{◌≡◌, refl, subst}
 use mathlib.Core.Logic.{◌↔◌}
 use mathlib.Core.Bool.{Bool, true, false, cond}
-use mathlib.Core.List.{List, [], ◌∷◌, ◌++◌, map}
+use mathlib.Core.List.{List, [], ◌∷◌, map}
 use mathlib.Core.Option.{Option, none, some, none-ne-some}
-use Prim.Native.Nat.{ℕ, zero, suc, ◌≤◌}
+use Prim.Native.Nat.{ℕ}
 use native.Mathlib.Omega.{arith}
-use lib.ListN.{length}
 use Rattle.laws.specs.Bytes.{All}
 use Rattle.content.specs.ReadImage.{and_then, every}
 
@@ -78,7 +77,3 @@ module _ {A B : Type 0} (Fit : A → Type 0) (read : A → Option B) (write : B 
 
   pub every_codec : Codec (All Fit) (every read) (map write) (All Good) (map canon)
   every_codec = record { sound = every_sound; complete = every_complete; fit = every_fit }
-
-pub map_id : {A : Type 0} (l : List A) → map (λ x. x) l ≡ l
-map_id [] = refl
-map_id (x ∷ l) = ap (λ r. x ∷ r) (map_id l)

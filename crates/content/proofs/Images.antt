@@ -1,11 +1,11 @@
 -- Images and contents: reading undoes laying out, two admitted contents have the same image exactly when they are the same, and what is
 -- not read is the image of no admitted content.
 -- Assumes nothing.
-use mathlib.Core.Path.{◌≡◌, refl, sym, ap, ◌∙◌, subst}
+use mathlib.Core.Path.{◌≡◌, sym, ap, ◌∙◌, subst}
 use mathlib.Core.Logic.{◌↔◌}
 use mathlib.Core.List.{List, [], ◌∷◌, ◌++◌, map}
-use mathlib.Core.Option.{Option, none, some}
-use Prim.Native.Nat.{ℕ, zero, suc, ◌+◌, ◌-◌, ◌≤◌, ◌<◌}
+use mathlib.Core.Option.{none, some}
+use Prim.Native.Nat.{ℕ, zero, suc, ◌+◌, ◌-◌, ◌<◌}
 use native.Mathlib.Omega.{arith}
 use lib.ListN.{length, replicate, length-map, length-append}
 use Rattle.laws.proofs.Lists.{all_append, all_left, all_right, all_map}
@@ -13,11 +13,12 @@ use Rattle.laws.specs.Bytes.{All, Bytes}
 use Rattle.laws.specs.Lists.{joined}
 use Rattle.frame.specs.declared.FrameBuilder.{FrameBuilder}
 use Rattle.frame.proofs.Canon.{canon}
-use Rattle.memory.specs.Image.{end_pointers, image_size, image_bytes}
+use Rattle.memory.specs.Image.{end_pointers, image_size}
 use Rattle.content.specs.Content.{Point, Content, point_bytes, frames_bytes, image_of, Admitted, Same}
 use Rattle.content.proofs.Admits.{SnippetAdmitted, SequenceAdmitted}
-use Rattle.content.specs.ReadImage.{and_then, every, read_snippet, read_sequence, Items, read_items, content_in, read_image}
-use Rattle.content.proofs.Codec.{Codec, every_codec, refuses, same, write_canon, good_canon, then_some, some_inj, map_id}
+use Rattle.content.specs.ReadImage.{every, read_snippet, read_sequence, Items, read_items, content_in, read_image}
+use Rattle.std.proofs.lemmas.List.{map-id}
+use Rattle.content.proofs.Codec.{Codec, every_codec, refuses, same, write_canon, good_canon, then_some, some_inj}
 use Rattle.content.proofs.Points.{snippet_codec, snippet_long}
 use Rattle.content.proofs.Sequences.{sequence_codec, sequence_long}
 use Rattle.content.proofs.Items.{NotEmpty, written, Good, hundred, items_sound, items_complete}
@@ -125,7 +126,7 @@ image_complete c a =
       items_complete (items_of c) (items_good c a),
       snippets_codec.complete c.snippets a.snippets.each,
       sequences_codec.complete c.sequences a.sequences.each,
-      map_id c.snippets,
+      map-id c.snippets,
     )
 
 pub image_bytes_lem : (c : Content) → Admitted c → Bytes (image_of c)

@@ -1,10 +1,10 @@
 -- Snippets: reading the points of some bytes undoes writing them.
 -- Assumes nothing.
-use mathlib.Core.Path.{◌≡◌, refl, sym, ap, ◌∙◌, subst}
-use mathlib.Core.Bool.{Bool, true, false, cond, ◌&&◌, and-eq-true_iff}
-use mathlib.Core.List.{List, [], ◌∷◌, map}
-use mathlib.Core.Option.{Option, none, some}
-use Prim.Native.Nat.{ℕ, suc, ◌≤◌, ◌<◌, ◌+◌, ◌-◌, ◌*◌}
+use mathlib.Core.Path.{◌≡◌, refl, ap, ◌∙◌, subst}
+use mathlib.Core.Bool.{Bool, true, false, ◌&&◌, and-eq-true_iff}
+use mathlib.Core.List.{List, [], ◌∷◌}
+use mathlib.Core.Option.{some}
+use Prim.Native.Nat.{ℕ, ◌≤◌, ◌<◌}
 use native.Mathlib.Omega.{arith}
 use borrow.Author.Tests.{le-leb, leb-true}
 use lib.Dec.{leb}
@@ -20,10 +20,6 @@ use Rattle.content.proofs.Codec.{Codec, cond_some, cond_on, some_inj, cons_eq}
 -- a point that the builders admit
 abbrev pub Good : Point → Type 0
 Good p = PointAdmitted p.timebases p.amplitude
-
-points_length : (bs : List ℕ) → length (points_in bs) ≡ length bs
-points_length [] = refl
-points_length (b ∷ bs) = ap suc (points_length bs)
 
 points_good : (bs : List ℕ) → All Good (points_in bs)
 points_good [] = tt
@@ -57,7 +53,7 @@ unfolding read_snippet
 snippet_sound bs ps h e =
     let (t, e₁) = cond_some (leb 1 (length bs) && leb (length bs) 16) _ e in
     let (u, v) = (and-eq-true_iff (leb 1 (length bs)) (leb (length bs) 16)).0 t in
-    let n = points_length bs in
+    let n = length-map bs point_in in
     subst (λ (l : List Point). SnippetAdmitted l × (point_bytes l ≡ bs)) (some_inj e₁) (
       record { nonempty = omega (arith, leb-true 1 (length bs) u); few = omega (arith, leb-true (length bs) 16 v); each = points_good bs },
       points_there bs h,

@@ -1,30 +1,28 @@
 -- Where the checks accept, no value but a PID word is cut by its register: plans/proofs/Accepted.antt joins these laws.
 -- Assumes nothing.
-use Prim.Native.Nat.{ℕ, zero, suc, ◌≤◌, ◌<◌, ◌-◌, ◌*◌, ◌/◌}
+use Prim.Native.Nat.{ℕ, zero, suc, ◌≤◌, ◌<◌, ◌+◌, ◌-◌, ◌*◌, ◌/◌}
 use native.Mathlib.Omega.{arith}
+use native.Mathlib.Nat.{mul-le-mul, div-lt_iff_lt-mul}
 use mathlib.Core.Path.{◌≡◌, refl, subst⁻¹}
-use mathlib.Core.Bool.{Bool, true, false, cond, ◌&&◌, So, and-eq-true_iff}
+use mathlib.Core.Bool.{Bool, true, ◌&&◌, So, and-eq-true_iff}
 use mathlib.Core.List.{List, [], ◌∷◌}
 use lib.Dec.{leb, ltb}
 use lib.ListN.{get_or}
-use borrow.Author.Tests.{ltb-true, le-ltb}
+use Rattle.std.proofs.lemmas.Bool.{cond_both, ltb-true, le-ltb}
 use Rattle.convert.specs.Convert.{voltage_byte, imax_code, v2i_word, period_word, high_part}
 use Rattle.convert.specs.Trim.{TrimRow, up_to, trim_rows, row_at, cap_code, column, resistance_code}
-use Rattle.convert.proofs.Sizes.{scaled, period_bits}
 
 pub period_is : (hz : ℕ) → 25 ≤ hz → period_word hz ≡ 100000000000 / (133332 * hz)
 period_is hz h = simp (le-ltb hz 25 h)
 
+-- from 25 Hz on the period has fifteen bits
 pub word_bits : (hz : ℕ) → 25 ≤ hz → period_word hz < 32768
-word_bits hz h = subst⁻¹ (λ (n : ℕ). n < 32768) (period_is hz h) (period_bits hz h)
+word_bits hz h =
+    subst⁻¹ (λ (n : ℕ). n < 32768) (period_is hz h) ((div-lt_iff_lt-mul {k = 133332 * hz} {x = 100000000000} {y = 32768} (omega arith)).1 (omega arith))
 
 -- of fifteen bits the high part takes all but seven
 pub high_is : (w : ℕ) → w < 32768 → high_part w ≡ w / 128
 high_is w h = omega arith
-
-cond_below : (b : Bool) (x y : ℕ) → x < 4 → y < 4 → cond b x y < 4
-cond_below true x y h k = h
-cond_below false x y h k = k
 
 -- every code of a row is below four, and of every row
 abbrev low : List ℕ → Bool
@@ -44,11 +42,7 @@ row_low : (rs : List TrimRow) (ohms : ℕ) → So (low_rows rs) → So (low (row
 row_low [] ohms t = t
 row_low (up_to n codes ∷ rs) ohms t =
     let both = (and-eq-true_iff (low codes) (low_rows rs)).0 t in
-    go (leb ohms n) both.0 (row_low rs ohms both.1)
-  where
-    go : (b : Bool) → So (low codes) → So (low (row_at ohms rs)) → So (low (cond b codes (row_at ohms rs)))
-    go true h k = h
-    go false h k = k
+    cond_both (leb ohms n) codes (row_at ohms rs) (λ xs. So (low xs)) (λ e. both.0) (λ e. row_low rs ohms both.1)
 
 pub voltage : (mV : ℕ) → mV ≤ 5990 → voltage_byte mV ≡ 1000 * mV / 23400
 voltage mV h = omega arith
@@ -61,12 +55,13 @@ pub current_bits : (mA : ℕ) → mA ≤ 252 → imax_code mA < 32
 current_bits mA h = omega arith
 
 pub v2i_bits : (mOhm imax : ℕ) → mOhm ≤ 49999 → imax < 32 → v2i_word mOhm imax < 65536
-v2i_bits mOhm imax h k = omega (arith, scaled mOhm imax (omega arith) (omega arith))
+v2i_bits mOhm imax h k =
+    let most : 1000 * mOhm * (imax + 4) ≤ 49999000 * 35 = mul-le-mul {n₁ = 1000 * mOhm} {m₁ = imax + 4} {n₂ = 49999000} {m₂ = 35} (omega arith) (omega arith) in
+    omega arith
 
 -- both fields of TRIM4 have two bits
 pub cap_bits : (uH : ℕ) → cap_code uH < 4
-cap_bits uH =
-    cond_below (leb uH 17) _ _ (omega arith) (cond_below (leb uH 27) _ _ (omega arith) (cond_below (leb uH 40) _ _ (omega arith) (omega arith)))
+cap_bits uH = grind arith
 
 pub resistance_bits : (mOhm uH : ℕ) → resistance_code mOhm uH < 4
 resistance_bits mOhm uH = code_below (row_at (mOhm / 1000) trim_rows) (column uH) (row_low trim_rows (mOhm / 1000) refl)

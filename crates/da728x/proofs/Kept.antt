@@ -4,6 +4,7 @@ use mathlib.Core.Bool.{Bool, true, false}
 use mathlib.Core.List.{List, [], ◌∷◌, ◌++◌, append_assoc}
 use Prim.Native.Nat.{ℕ, suc, ◌+◌, ◌*◌, ◌/◌, ◌%◌, ◌<◌}
 use native.Mathlib.Omega.{arith}
+use native.Mathlib.Numerals.{unary_clauses}
 use Rattle.std.specs.Prelude.{Option, Some, None}
 use lib.Dec.{ltb}
 use lib.ListN.{length, get_or, length-append}
@@ -91,17 +92,13 @@ trigger_kept None r = refl
 trigger_kept (Some t) r =
     λ i. Some (record { sequence_id = t.sequence_id; polarity = polarity_kept t.polarity i; mode = mode_kept t.mode i })
 
-after_trigger : (t : Option TriggerConfig) (r : List ℕ) → trigger_at (trigger_bytes t ++ r) 4 ≡ trigger_at r 0
-after_trigger None r = refl
-after_trigger (Some t) r = refl
-
-further_trigger : (t : Option TriggerConfig) (r : List ℕ) → trigger_at (trigger_bytes t ++ r) 8 ≡ trigger_at r 4
-further_trigger None r = refl
-further_trigger (Some t) r = refl
-
 -- a place after a trigger's four bytes
 abbrev later : ℕ → ℕ
 later i = suc (suc (suc (suc i)))
+
+after_trigger : (t : Option TriggerConfig) (r : List ℕ) (i : ℕ) → trigger_at (trigger_bytes t ++ r) (later i) ≡ trigger_at r i
+after_trigger None r i = simp unary_clauses
+after_trigger (Some t) r i = simp unary_clauses
 
 byte_after : (t : Option TriggerConfig) (r : List ℕ) (i : ℕ) → get_or (trigger_bytes t ++ r) (later i) 0 ≡ get_or r i 0
 byte_after None r i = refl
@@ -140,9 +137,9 @@ device_kept d r =
       operation_mode = operation_kept d.operation_mode i;
       driving_mode = driving_kept d.driving_mode i;
       gpi_trigger_0 = trigger_kept d.gpi_trigger_0 second i;
-      gpi_trigger_1 = (after_trigger d.gpi_trigger_0 second ∙ trigger_kept d.gpi_trigger_1 third) i;
+      gpi_trigger_1 = (after_trigger d.gpi_trigger_0 second 0 ∙ trigger_kept d.gpi_trigger_1 third) i;
       gpi_trigger_2 =
-          (further_trigger d.gpi_trigger_0 second ∙ after_trigger d.gpi_trigger_1 third ∙ trigger_kept d.gpi_trigger_2 flags) i;
+          (after_trigger d.gpi_trigger_0 second 4 ∙ after_trigger d.gpi_trigger_1 third 0 ∙ trigger_kept d.gpi_trigger_2 flags) i;
       acceleration = (ap (ltb 0) (flag 0) ∙ flag_kept d.acceleration) i;
       rapid_stop = (ap (ltb 0) (flag 1) ∙ flag_kept d.rapid_stop) i;
     }

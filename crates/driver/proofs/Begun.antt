@@ -8,8 +8,10 @@ use lib.Dec.{eqb, eqb-zero-suc, eqb-suc-suc}
 use lib.ListN.{length, take, drop, get_or, length-replicate}
 use lib.Seq.{take_all}
 use borrow.Author.Tests.{eqb-true, not-true}
+use Rattle.std.proofs.lemmas.List.{take-append-drop}
 use Rattle.laws.specs.Bytes.{All}
 use Rattle.laws.specs.Lists.{at}
+use Rattle.laws.proofs.Lists.{all_left, all_right}
 use Rattle.exchange.specs.Steps.{exchange_for}
 use Rattle.exchange.specs.declared.Step.{Step}
 use Rattle.exchange.specs.declared.Step.TheVariants.{Write, Read, Update, Match, Chunk, Store}
@@ -106,10 +108,16 @@ to_chip (x ∷ xs) address last image bytes = (own x, to_chip xs address _ image
     own (Chunk offset len) = refl
     own (Store index) = refl
 
-pub all_taken : (P : Exchange → Type 0) (n : ℕ) (es : List Exchange) → All P es → All P (take n es)
-all_taken P zero es h = tt
-all_taken P (suc n) [] h = tt
-all_taken P (suc n) (e ∷ es) h = (h.0, all_taken P n es h.1)
+-- what holds of each element holds of the first n, and of those after them
+module _ {A : Type 0} (P : A → Type 0) (n : ℕ) (xs : List A) (h : All P xs) where
+  parted : All P (take n xs ++ drop n xs)
+  parted = subst (All P) (sym (take-append-drop n xs)) h
+
+  pub all_taken : All P (take n xs)
+  all_taken = all_left P (take n xs) (drop n xs) parted
+
+  pub all_dropped : All P (drop n xs)
+  all_dropped = all_right P (take n xs) (drop n xs) parted
 
 -- as many exchanges as steps
 length_exchanges : (xs : List Step) (address last : ℕ) (image bytes : List ℕ) → length (exchanges_of address last image xs bytes) ≡ length xs

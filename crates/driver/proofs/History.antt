@@ -10,7 +10,7 @@ use Rattle.config.specs.declared.ActuatorConfig.{ActuatorConfig}
 use Rattle.config.specs.declared.DeviceConfig.{DeviceConfig}
 use Rattle.config.specs.declared.Variant.{Variant}
 use Rattle.checks.specs.Checks.{configure_number, first_failing}
-use Rattle.checks.specs.Blames.{Fault, OfFirst}
+use Rattle.checks.specs.Blames.{OfFirst}
 use Rattle.field.specs.Field.{with_of}
 use Rattle.exchange.specs.declared.Step.{Step}
 use Rattle.exchange.specs.declared.Step.TheVariants.{Write, Read, Update}
@@ -29,7 +29,7 @@ use Rattle.driver.specs.History.{Event, new, asks, record_behind, record_of, in_
 use Rattle.driver.proofs.Answers.{By, by_unless, quiet, quiet_holds}
 use Rattle.driver.proofs.Starts.{configured}
 use Rattle.driver.proofs.Records.{Leaves, no_step, unopened, idle, ended, spares}
-use Rattle.driver.proofs.Refusals.{refusals}
+use Rattle.driver.proofs.Refusals.{sequence_faults, refusals}
 use Rattle.driver.proofs.Stored.{made_by_new, stored}
 
 -- ---- lists of uploads
@@ -147,15 +147,11 @@ loaded = record { sequences = λ address variant es t. counted es (new_record ad
 
 -- ---- selecting and playing
 
--- the faults of both
-abbrev none_of : ℕ → ℕ → ℕ → List Fault
-none_of sequences id loops = (11, 15 < id) ∷ (11, 15 < loops) ∷ (28, sequences ≤ id) ∷ []
-
 module _ (sequences id loops : ℕ) where
   abbrev InRange : Type 0
   InRange = (id ≤ 15) × (loops ≤ 15) × (id < sequences)
 
-  faultless : OfFirst 0 (none_of sequences id loops) → InRange
+  faultless : OfFirst 0 (sequence_faults sequences id loops) → InRange
   faultless (inl f) = absurd (omega (arith, f.1))
   faultless (inr n) = second n.1
     where
@@ -167,18 +163,18 @@ module _ (sequences id loops : ℕ) where
       second (inl f) = absurd (omega (arith, f.1))
       second (inr m) = third m.0 m.1
 
-  faulty : (number : ℕ) → 1 ≤ number → OfFirst number (none_of sequences id loops) → InRange → ⊥
+  faulty : (number : ℕ) → 1 ≤ number → OfFirst number (sequence_faults sequences id loops) → InRange → ⊥
   faulty number p (inl f) h = omega (arith, f.0, h.0)
   faulty number p (inr (n, inl f)) h = omega (arith, f.0, h.1)
   faulty number p (inr (n, inr (m, inl f))) h = omega (arith, f.0, h.2)
   faulty number p (inr (n, inr (m, inr (k, e)))) h = omega (arith, p, e)
 
-  begun_if : (s : Start) → BeginsUnless s (none_of sequences id loops) → Begins s ↔ InRange
+  begun_if : (s : Start) → BeginsUnless s (sequence_faults sequences id loops) → Begins s ↔ InRange
   begun_if (declines number) f = (λ b. absurd b, λ h. faulty number f.0 f.1 h)
   begun_if (begins b xs) f = (λ u. faultless f, λ h. tt)
 
 -- the count is that of the uploads
-consults : (r : DA728x) (us : List Upload) (id loops : ℕ) (s : Start) → r.sequences ≡ last_count us → BeginsUnless s (none_of r.sequences id loops) →
+consults : (r : DA728x) (us : List Upload) (id loops : ℕ) (s : Start) → r.sequences ≡ last_count us → BeginsUnless s (sequence_faults r.sequences id loops) →
     Begins s ↔ ((id ≤ 15) × (loops ≤ 15) × IsLoaded us id)
 consults r us id loops s h f =
     let k = begun_if r.sequences id loops s f in
@@ -190,10 +186,10 @@ selecting : (id loops : ℕ) → id ≤ 15 → loops ≤ 15 → seq_ctl2 id loop
 unfolding seq_ctl2 with_of
 selecting id loops p q = omega arith
 
-sends : (s : Start) (b : Begun) (xs : List Step) (sequences id loops : ℕ) (ys : List Step) → BeginsUnless s (none_of sequences id loops) →
+sends : (s : Start) (b : Begun) (xs : List Step) (sequences id loops : ℕ) (ys : List Step) → BeginsUnless s (sequence_faults sequences id loops) →
     By (λ c zs. (c.reads ≡ 0) × (zs ≡ select_step id loops ∷ ys)) s → s ≡ begins b xs → (b.reads ≡ 0) × (xs ≡ Write 0x28 (id + 16 * loops) ∷ ys)
 sends s b xs sequences id loops ys f g e =
-    let h = faultless sequences id loops (subst (λ (x : Start). BeginsUnless x (none_of sequences id loops)) e f) in
+    let h = faultless sequences id loops (subst (λ (x : Start). BeginsUnless x (sequence_faults sequences id loops)) e f) in
     let k = subst (By (λ c zs. (c.reads ≡ 0) × (zs ≡ select_step id loops ∷ ys))) e g in
     (k.0, k.1 ∙ ap (λ (v : ℕ). Write 0x28 v ∷ ys) (selecting id loops h.0 h.1))
 

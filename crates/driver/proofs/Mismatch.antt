@@ -2,12 +2,12 @@
 use Prim.Native.Nat.{ℕ, zero, suc, ◌-◌, min}
 use native.Mathlib.Omega.{arith}
 use mathlib.Core.Path.{◌≡◌, refl, sym, ◌∙◌, ap, subst}
-use mathlib.Core.Bool.{Bool, true, false, cond, not, ◌&&◌, true≢false, false≢true}
+use mathlib.Core.Bool.{Bool, true, false, cond, not, ◌&&◌, true≢false}
 use mathlib.Core.List.{List, [], ◌∷◌, ◌++◌}
 use Prim.Native.String.{String, ◌++◌ as ◌&◌}
 use lib.Dec.{ltb, leb, eqb}
 use lib.ListN.{length, take, drop}
-use borrow.Author.Tests.{ltb-true, lt-leb}
+use borrow.Author.Tests.{ltb-true, lt-leb, not-false}
 use Rattle.laws.specs.Bytes.{All}
 use Rattle.laws.specs.Lists.{at}
 use Rattle.registers.specs.Table.{address_of}
@@ -29,11 +29,23 @@ use Rattle.exchange.specs.declared.Reply.TheVariants.{Done, Byte, Failed}
 use Rattle.exchange.specs.State.{indexed, left, Begun}
 use Rattle.exchange.specs.Turn.{pending_for, resized, report_of}
 use Rattle.exchange.specs.Session.{AnswerCall, fits_exchange, taken, number_at, final, sent, broken_off, exchanges_of}
+use Rattle.exchange.proofs.Answers.{cond_self}
 use Rattle.exchange.proofs.Session.{session}
 use Rattle.plans.specs.Configure.{feature_steps, limit_steps, calibration_steps, pid_steps, frequency_steps, rapid_stop_steps, phase_steps, custom_steps, driving_steps, gpi_steps, given_steps, trigger_steps, configure_steps}
 use Rattle.sessions.specs.Sessions.{chunk_step, chunk_steps, lock_steps, send_steps}
 use Rattle.driver.specs.Theorems.{all_steps, addressed}
-use Rattle.driver.proofs.Begun.{Holds}
+use Rattle.driver.proofs.Begun.{Holds, all_dropped}
+
+-- ---- the steps of a session
+
+-- what holds of each step given, and of every memory read, holds of all of a session's
+module _ (P : Step → Type 0) (store : (i : ℕ) → P (Store i)) where
+  all_stores : (n i : ℕ) → All P (indexed Store i n)
+  all_stores zero i = tt
+  all_stores (suc n) i = (store i, all_stores n (suc i))
+
+  every_step : (b : Begun) (xs : List Step) → All P xs → All P (all_steps b xs)
+  every_step b xs p = all_append P xs _ p (all_stores (min b.reads 100) 0)
 
 -- ---- steps that compare nothing
 
@@ -48,17 +60,8 @@ Plain (Store i) = Unit
 abbrev pub AllPlain : List Step → Type 0
 AllPlain xs = All Plain xs
 
-dropped : (k : ℕ) (xs : List Step) → AllPlain xs → AllPlain (drop k xs)
-dropped zero xs p = p
-dropped (suc k) [] p = p
-dropped (suc k) (x ∷ xs) p = dropped k xs p.1
-
-stores : (n i : ℕ) → AllPlain (indexed Store i n)
-stores zero i = tt
-stores (suc n) i = (tt, stores n (suc i))
-
 pub all_plain : (b : Begun) (xs : List Step) → AllPlain xs → AllPlain (all_steps b xs)
-all_plain b xs p = all_append Plain xs _ p (stores (min b.reads 100) 0)
+all_plain = every_step Plain (λ i. tt)
 
 -- ---- steps on registers alone, which write nothing from the waveform memory's first address on
 
@@ -73,6 +76,9 @@ Tame (Store i) = Unit
 abbrev pub AllTame : List Step → Type 0
 AllTame xs = All Tame xs
 
+pub all_tame : (b : Begun) (xs : List Step) → AllTame xs → AllTame (all_steps b xs)
+all_tame = every_step Tame (λ i. tt)
+
 -- they compare nothing
 pub plain : (xs : List Step) → AllTame xs → AllPlain xs
 plain [] p = tt
@@ -85,10 +91,6 @@ plain (x ∷ xs) p = (one x p.0, plain xs p.1)
     one (Match register value) h = absurd h
     one (Chunk offset len) h = tt
     one (Store i) h = tt
-
-tame_stores : (n i : ℕ) → AllTame (indexed Store i n)
-tame_stores zero i = tt
-tame_stores (suc n) i = (tt, tame_stores n (suc i))
 
 -- what one writes into the memory
 abbrev pub into : Exchange → List (ℕ × ℕ)
@@ -108,10 +110,7 @@ tame_exchanges (x ∷ xs) p address last image bytes = (one x p.0, tame_exchange
     one (Update register shift width value) h = below register _ h
     one (Match register value) h = absurd h
     one (Chunk offset len) h = absurd h
-    one (Store i) h = choice (λ (l : List (ℕ × ℕ)). l ≡ []) (leb 132 (memory_address i)) [] [] refl refl
-
-pub all_tame : (b : Begun) (xs : List Step) → AllTame xs → AllTame (all_steps b xs)
-all_tame b xs p = all_append Tame xs _ p (tame_stores (min b.reads 100) 0)
+    one (Store i) h = cond_self (leb 132 (memory_address i)) []
 
 -- ---- such are those of `configure`
 
@@ -183,12 +182,8 @@ send_plain n lock_after = (tt, all_append Plain (chunk_steps n) (lock_steps lock
 
 -- where the next step compares nothing, no answer is told by 16
 unmatched : (st : List ℕ) (l : List Step) → left st ≡ l → AllPlain l → (a : Reply) (n : ℕ) → ¬ ((report_of st a n).number ≡ 16)
-unmatched st l p q a n e = go l p q a e (on (taken st a n) (ap (λ (m : ℕ). eqb m 19) (sym e) ∙ session.takes st a n))
+unmatched st l p q a n e = go l p q a e (not-false (taken st a n) (sym (ap (λ (m : ℕ). eqb m 19) (sym e) ∙ session.takes st a n)))
   where
-    on : (b : Bool) → false ≡ not b → b ≡ true
-    on true h = refl
-    on false h = absurd (false≢true h)
-
     plain : (x : Step) → Plain x → (register value : ℕ) → x ≡ Match register value → ⊥
     plain x q register value e = subst Plain e q
 
@@ -202,4 +197,4 @@ unmatched st l p q a n e = go l p q a e (on (taken st a n) (ap (λ (m : ℕ). eq
 pub never : {s : List ℕ} {b : Begun} {xs : List Step} → Holds s b xs → AllPlain xs → (cs : List AnswerCall) (c : AnswerCall) → ¬ (number_at (final s cs) c ≡ 16)
 never {s} {b} {xs} h p cs c =
     let k = subst AllPlain (sym h.steps) p in
-    unmatched (final s cs) _ (session.end s cs) (choice AllPlain (broken_off s cs) [] _ tt (dropped (length (sent s cs)) (left s) k)) c.reply (length c.buffer)
+    unmatched (final s cs) _ (session.end s cs) (choice AllPlain (broken_off s cs) [] _ tt (all_dropped Plain (length (sent s cs)) (left s) k)) c.reply (length c.buffer)

@@ -1,11 +1,11 @@
 -- What an answer does to the record lent with it, and the record under a list of answers, by what the session is for. Assumes nothing.
 use Prim.Native.Nat.{ℕ}
 use mathlib.Core.Path.{◌≡◌, refl, sym, ap, ◌∙◌}
-use mathlib.Core.Bool.{Bool, true, false, cond, not, ◌&&◌, true≢false}
+use mathlib.Core.Bool.{Bool, true, false, cond, not, ◌&&◌, true≢false, and-true, and-false}
 use mathlib.Core.List.{List, [], ◌∷◌}
 use lib.Dec.{eqb}
 use lib.ListN.{length, get_or}
-use borrow.Author.Tests.{eqb-true}
+use Rattle.std.proofs.lemmas.Bool.{eqb-true, not-true, and_right}
 use Rattle.std.specs.Prelude.{Option, Some, None}
 use Rattle.exchange.specs.declared.Step.{Step}
 use Rattle.exchange.specs.declared.Reply.{Reply}
@@ -13,6 +13,7 @@ use Rattle.exchange.specs.declared.Reply.TheVariants.{Done, Byte, Failed}
 use Rattle.exchange.specs.State.{is_session, is_unbroken, left, none_left, completed, purpose_in, record_in}
 use Rattle.exchange.specs.Turn.{pending_for, resized, report_of}
 use Rattle.exchange.specs.Session.{AnswerCall, fits_exchange, taken, number_at, breaks, after_call, final}
+use Rattle.exchange.proofs.Answers.{cond_self}
 use Rattle.exchange.proofs.Cases.{Case, same, broken, went, case, idle_state}
 use Rattle.exchange.proofs.Keeps.{keeps}
 use Rattle.exchange.proofs.Moves.{left_going, going_open}
@@ -82,11 +83,7 @@ module _ (st : List ℕ) (c : AnswerCall) where
   out_of_turn h = eqb-true _ _ (session.takes st c.reply (length c.buffer) ∙ ap not h)
 
   pub in_turn_lem : number_at st c ≡ 19 → Taken ≡ false
-  in_turn_lem h = go Taken (ap (λ (n : ℕ). eqb n 19) (sym h) ∙ session.takes st c.reply (length c.buffer))
-    where
-      go : (b : Bool) → true ≡ not b → b ≡ false
-      go true e = e
-      go false e = refl
+  in_turn_lem h = not-true Taken (sym (ap (λ (n : ℕ). eqb n 19) (sym h) ∙ session.takes st c.reply (length c.buffer)))
 
   -- one that is not taken leaves the session
   pub untaken : Taken ≡ false → after_call st c ≡ st
@@ -124,18 +121,13 @@ module _ (st : List ℕ) (c : AnswerCall) where
   pub completes_as : Taken ≡ true → completed (after_call st c) ≡ last
   completes_as h = by (case st c)
     where
-      none : (b : Bool) → eqb (number_at st c) 0 ≡ false → b && eqb (number_at st c) 0 ≡ false
-      none true n = n
-      none false n = refl
-
-      all : (b : Bool) → eqb (number_at st c) 0 ≡ true → b ≡ b && eqb (number_at st c) 0
-      all true n = sym n
-      all false n = refl
+      none : eqb (number_at st c) 0 ≡ false → last ≡ false
+      none n = and_right ends (eqb (number_at st c) 0) n
 
       by : Case st c → completed (after_call st c) ≡ last
-      by (same m n) = ap completed m ∙ undone h ∙ sym (none ends n)
-      by (broken x xs p q n k) = off k ∙ sym (none ends n)
-      by (went x xs p q o n) = completed_by (after_call st c) o ∙ sym ended_as ∙ all ends n
+      by (same m n) = ap completed m ∙ undone h ∙ sym (none n)
+      by (broken x xs p q n k) = off k ∙ sym (none n)
+      by (went x xs p q o n) = completed_by (after_call st c) o ∙ sym ended_as ∙ sym (ap (λ (b : Bool). ends && b) n ∙ and-true ends)
 
   -- what it does to the record lent with it
   pub changes : (r : DA728x) → let next = record_at (record_in st) in
@@ -169,12 +161,6 @@ Leaves purpose = ((next r : DA728x) → change_for purpose next r ≡ None) × (
 before_last : (purpose : ℕ) (next r : DA728x) → eqb purpose for_upload ≡ false → change_before purpose next r ≡ None
 before_last purpose next r p = ap (λ (upload : Bool). cond upload (counting next 0 r) None) p
 
--- neither, or both
-none_of : (b d : Bool) → ◌≡◌ {A = Option Change} (cond b (cond d None None) None) None
-none_of true true = refl
-none_of true false = refl
-none_of false d = refl
-
 module _ (st : List ℕ) (c : AnswerCall) (r : DA728x) where
   abbrev next : DA728x
   next = record_at (record_in st)
@@ -199,11 +185,7 @@ module _ (st : List ℕ) (c : AnswerCall) (r : DA728x) where
 
   -- one that fails, and one that is not the last
   pub failed : eqb (purpose_in st) for_upload ≡ false → eqb (number_at st c) 0 ≡ false → change_behind st c r ≡ None
-  failed p h = for_other p (ap (λ (k : Bool). ends st c && k) h ∙ go (ends st c))
-    where
-      go : (b : Bool) → b && false ≡ false
-      go true = refl
-      go false = refl
+  failed p h = for_other p (ap (λ (k : Bool). ends st c && k) h ∙ and-false (ends st c))
 
   pub before : eqb (purpose_in st) for_upload ≡ false → ends st c ≡ false → change_behind st c r ≡ None
   before p h = for_other p (ap (λ (b : Bool). b && eqb (number_at st c) 0) h)
@@ -212,7 +194,8 @@ module _ (st : List ℕ) (c : AnswerCall) (r : DA728x) where
   for_none h =
       changes st c r
       ∙ (λ i. cond (Taken st c) (cond (completed (after_call st c)) (h.0 next r i) (before_last (purpose_in st) next r h.1 i)) None)
-      ∙ none_of (Taken st c) (completed (after_call st c))
+      ∙ ap (λ (m : Option Change). cond (Taken st c) m None) (cond_self (completed (after_call st c)) None)
+      ∙ cond_self (Taken st c) None
 
   -- an upload's
   pub counts : purpose_in st ≡ for_upload →

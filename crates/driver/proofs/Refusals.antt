@@ -8,6 +8,7 @@ use mathlib.Core.Logic.{◌↔◌, inl, inr}
 use lib.Dec.{eqb, leb}
 use lib.IntN.{ℤ, pos, negsuc}
 use borrow.Author.Tests.{le-leb, leb-true}
+use Rattle.std.proofs.lemmas.Bool.Decides.{Decides-and, Decides-ltb}
 use Rattle.config.specs.declared.ActuatorConfig.{ActuatorConfig}
 use Rattle.config.specs.declared.DeviceConfig.{DeviceConfig}
 use Rattle.config.specs.declared.DrivingMode.{DrivingMode}
@@ -17,7 +18,7 @@ use Rattle.config.specs.declared.OperationMode.TheVariants.{INACTIVE, DRO_MODE, 
 use Rattle.config.specs.Codes.{operation_code, driving_code}
 use Rattle.checks.specs.Checks.{Check, first_failing, configure_number, outside_band}
 use Rattle.checks.specs.Blames.{OutOfBand, Fault, faults, OfFirst}
-use Rattle.checks.proofs.Blames.{Agree, of_first, flag, and_says, above, out_of_band, blames}
+use Rattle.checks.proofs.Blames.{Agree, of_first, flag, out_of_band, blames}
 use Rattle.exchange.specs.declared.Step.{Step}
 use Rattle.exchange.specs.State.{Begun}
 use Rattle.da728x.specs.declared.DA728x.{DA728x}
@@ -67,11 +68,15 @@ custom CUSTOM_WAVEFORM = (λ e. absurd (false≢true e), λ n. absurd (n refl))
 not_below : (n m : ℕ) → (leb n m ≡ true) ↔ (n ≤ m)
 not_below n m = (leb-true n m, le-leb n m)
 
+-- of selecting and of playing a sequence
+abbrev pub sequence_faults : ℕ → ℕ → ℕ → List Fault
+sequence_faults sequences id loops = (11, 15 < id) ∷ (11, 15 < loops) ∷ (28, sequences ≤ id) ∷ []
+
 checked_sequence : (r : DA728x) (id loops : ℕ) (b : Begun) (xs : List Step) →
-    BeginsUnless (unless (first_failing (sequence_checks r.sequences id loops)) (begins b xs)) ((11, 15 < id) ∷ (11, 15 < loops) ∷ (28, r.sequences ≤ id) ∷ [])
+    BeginsUnless (unless (first_failing (sequence_checks r.sequences id loops)) (begins b xs)) (sequence_faults r.sequences id loops)
 checked_sequence r id loops b xs =
-    checked (sequence_checks r.sequences id loops) b xs ((11, 15 < id) ∷ (11, 15 < loops) ∷ (28, r.sequences ≤ id) ∷ [])
-    (refl, above 15 id, (refl, above 15 loops, (refl, not_below r.sequences id, tt)))
+    checked (sequence_checks r.sequences id loops) b xs (sequence_faults r.sequences id loops)
+    (refl, Decides-ltb 15 id, (refl, Decides-ltb 15 loops, (refl, not_below r.sequences id, tt)))
 
 pub refusals : Refusals
 refusals = record {
@@ -81,7 +86,7 @@ refusals = record {
   set_override_value = λ r value. settled r.settings _ (λ s. (11, InStored (λ a d. (d.acceleration ≡ true) × BelowZero value) s)
       ∷ (12, InStored (λ a d. ¬ (d.operation_mode ≡ DRO_MODE)) s) ∷ []) (λ a d.
       checked (override_checks d value) _ _ ((11, (d.acceleration ≡ true) × BelowZero value) ∷ (12, ¬ (d.operation_mode ≡ DRO_MODE)) ∷ [])
-      (refl, and_says d.acceleration (negative value) _ _ (flag d.acceleration) (below_zero value), (refl, in_dro d.operation_mode, tt)));
+      (refl, Decides-and d.acceleration (negative value) (flag d.acceleration) (below_zero value), (refl, in_dro d.operation_mode, tt)));
   select_sequence = λ r id loops. checked_sequence r id loops _ _;
   play_sequence = λ r id loops. checked_sequence r id loops _ _;
   enable = λ r. settled r.settings _ (λ s. []) (λ a d. refl);

@@ -11,6 +11,7 @@ use lib.ListN.{length, take, drop, replicate, length-append, length-take, length
 use lib.Seq.{take-add, take_at, drop-drop}
 use borrow.Author.Tests.{ltb-false, le-leb}
 use Rattle.laws.proofs.Lists.{take_shown}
+use Rattle.laws.proofs.Tests.{choice}
 use Rattle.registers.specs.Table.{address_of}
 use Rattle.memory.specs.declared.WaveformMemory.{WaveformMemory}
 use Rattle.da728x.specs.declared.DA728x.{DA728x}
@@ -26,10 +27,7 @@ use Rattle.driver.specs.Theorems.{addressed, payload}
 
 one : (n offset : ℕ) → length (chunk_step n offset) ≤ 1
 unfolding chunk_step
-one n offset = go (ltb offset n) where
-  go : (b : Bool) → length (cond b (Chunk offset (min 32 (n - offset)) ∷ []) []) ≤ 1
-  go true = omega arith
-  go false = omega arith
+one n offset = choice (λ (xs : List Step). length xs ≤ 1) (ltb offset n) (Chunk offset (min 32 (n - offset)) ∷ []) [] (omega arith) (omega arith)
 
 chunks : (n : ℕ) → length (chunk_steps n) ≤ 4
 unfolding chunk_steps

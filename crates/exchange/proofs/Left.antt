@@ -1,6 +1,6 @@
 -- The steps that are left of a session, by what its bytes say. Assumes nothing.
 use Prim.Native.Nat.{ℕ, suc, zero, ◌+◌, ◌-◌, ◌≤◌, ◌<◌}
-use mathlib.Core.Path.{◌≡◌, refl, sym, ap, ◌∙◌}
+use mathlib.Core.Path.{◌≡◌, refl, sym, ap, ap₂, ◌∙◌}
 use mathlib.Core.Bool.{Bool, true, false, cond, ◌&&◌}
 use mathlib.Core.List.{List, [], ◌∷◌}
 use native.Mathlib.Omega.{arith}
@@ -15,14 +15,14 @@ use Rattle.exchange.specs.State.{is_unbroken, made_in, step_count, read_count, e
 
 -- ---- `indexed`
 
-pub indexed_same : {A : Type 0} (f : ℕ → A) (i j n m : ℕ) → i ≡ j → n ≡ m → indexed f i n ≡ indexed f j m
-indexed_same f i j n m e h = ap (λ (k : ℕ). indexed f k n) e ∙ ap (indexed f j) h
-
 -- without the first k, it starts k later
 pub drop_indexed : {A : Type 0} (f : ℕ → A) (k i n : ℕ) → drop k (indexed f i n) ≡ indexed f (i + k) (n - k)
-drop_indexed f zero i n = indexed_same f i (i + zero) n (n - zero) (omega arith) (omega arith)
-drop_indexed f (suc k) i zero = indexed_same f (i + suc k) (i + suc k) zero (zero - suc k) refl (omega arith)
-drop_indexed f (suc k) i (suc n) = drop_indexed f k (suc i) n ∙ indexed_same f (suc i + k) (i + suc k) (n - k) (suc n - suc k) (omega arith) (omega arith)
+drop_indexed f zero i n = let p : i ≡ i + zero = omega arith in let q : n ≡ n - zero = omega arith in ap₂ (indexed f) p q
+drop_indexed f (suc k) i zero = let q : zero ≡ zero - suc k = omega arith in ap (indexed f (i + suc k)) q
+drop_indexed f (suc k) i (suc n) =
+    let p : suc i + k ≡ i + suc k = omega arith in
+    let q : n - k ≡ suc n - suc k = omega arith in
+    drop_indexed f k (suc i) n ∙ ap₂ (indexed f) p q
 
 -- ---- `left`
 
@@ -44,20 +44,21 @@ module _ (st : List ℕ) (o : is_unbroken st ≡ true) where
   left_rest : left st ≡ indexed (step_in st) (made_in st) (step_count st + read_count st - made_in st)
   unfolding left
   left_rest =
+      let p : 0 + made_in st ≡ made_in st = omega arith in
       ap (λ (t : Bool). cond t (drop (made_in st) (plan st)) []) o
       ∙ drop_indexed (step_in st) (made_in st) 0 (step_count st + read_count st)
-      ∙ indexed_same (step_in st) (0 + made_in st) (made_in st) (step_count st + read_count st - made_in st) (step_count st + read_count st - made_in st) (omega arith) refl
+      ∙ ap (λ (i : ℕ). indexed (step_in st) i (step_count st + read_count st - made_in st)) p
 
   -- where all were made, none is left
   pub left_none : step_count st + read_count st ≤ made_in st → left st ≡ []
-  left_none n = left_rest ∙ indexed_same (step_in st) (made_in st) (made_in st) (step_count st + read_count st - made_in st) zero refl (omega arith)
+  left_none n = let p : step_count st + read_count st - made_in st ≡ zero = omega arith in left_rest ∙ ap (indexed (step_in st) (made_in st)) p
 
   -- else one is, and those behind it
   left_next : made_in st < step_count st + read_count st →
       left st ≡ step_in st (made_in st) ∷ indexed (step_in st) (suc (made_in st)) (step_count st + read_count st - suc (made_in st))
   left_next n =
-      left_rest
-      ∙ indexed_same (step_in st) (made_in st) (made_in st) (step_count st + read_count st - made_in st) (suc (step_count st + read_count st - suc (made_in st))) refl (omega arith)
+      let p : step_count st + read_count st - made_in st ≡ suc (step_count st + read_count st - suc (made_in st)) = omega arith in
+      left_rest ∙ ap (indexed (step_in st) (made_in st)) p
 
   -- an encoded step comes next, or a memory read
   pub slot_encoded : made_in st < step_count st → Some (encoded_step st (made_in st)) ≡ slot_of (left st)

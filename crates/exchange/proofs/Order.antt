@@ -18,6 +18,7 @@ use Rattle.exchange.specs.Steps.{exchange_for}
 use Rattle.exchange.specs.State.{is_unbroken, address_in, count_in, image_in, left}
 use Rattle.exchange.specs.Turn.{pending_of, wanted, fit_of, effect_of}
 use Rattle.exchange.specs.Session.{exchanges_of, taken, AnswerCall, reply_bytes, breaks, number_at, after_call, final, sent, came, broken_off}
+use Rattle.exchange.proofs.Answers.{cond_self}
 use Rattle.exchange.proofs.Effects.{made_taken, came_taken, stage_breaks}
 use Rattle.exchange.proofs.Moves.{latest}
 use Rattle.exchange.proofs.Turns.{Gone, Ended, Turned, turned}
@@ -37,15 +38,6 @@ RunFrom st = Run (address_in st) (at st 3) (image_in st) (count_in st) (is_unbro
 -- the run under these calls
 abbrev Follows : List ℕ → List AnswerCall → Type 0
 Follows st cs = RunFrom st (sent st cs) (came st cs) (broken_off st cs) (final st cs)
-
--- what stays nothing or false
-nothing : (k : Bool) → ◌≡◌ {A = List Step} (cond k [] []) []
-nothing true = refl
-nothing false = refl
-
-never : (k : Bool) → cond k false false ≡ false
-never true = refl
-never false = refl
 
 -- ---- a run from the run after its first exchange
 
@@ -69,8 +61,8 @@ module _ (address last : ℕ) (image : List ℕ) (made : ℕ) (was : Bool) (x : 
     order = refl;
     count = k.count ∙ omega arith;
     within = suc-le-suc zero-le;
-    remaining = k.remaining ∙ nothing broke;
-    opened = k.opened ∙ never broke;
+    remaining = k.remaining ∙ cond_self broke [];
+    opened = k.opened ∙ cond_self broke false;
   }
   run_last a l i rest (e ∷ es) broke k = absurd (omega (arith, k.within))
 

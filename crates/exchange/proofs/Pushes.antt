@@ -11,6 +11,8 @@ use borrow.Author.Tests.{eq-eqb, lt-ltb}
 use Rattle.laws.specs.Copied.{over}
 use Rattle.laws.proofs.Copies.{over_at}
 use Rattle.laws.specs.Lists.{joined}
+use Rattle.laws.proofs.Lists.{joined_append}
+use Rattle.std.proofs.lemmas.List.{map-append}
 use Rattle.exchange.specs.declared.Step.{Step}
 use Rattle.exchange.specs.Steps.{step_bytes}
 use Rattle.exchange.specs.State.{is_session, head_of, Begun, begun_bytes, begun_in, pushed, pushed_all}
@@ -21,11 +23,6 @@ use Rattle.exchange.proofs.Begins.{size}
 pub push_append : (xs ys : List Step) (st : List ℕ) → pushed_all st (xs ++ ys) ≡ pushed_all (pushed_all st xs) ys
 push_append [] ys st = refl
 push_append (x ∷ xs) ys st = push_append xs ys (pushed st x)
-
--- the bytes of steps, and of one more
-joined_more : (xs : List Step) (x : Step) → joined (map step_bytes (xs ++ (x ∷ []))) ≡ joined (map step_bytes xs) ++ step_bytes x
-joined_more [] x = append-nil (step_bytes x)
-joined_more (y ∷ xs) x = ap (λ (l : List ℕ). step_bytes y ++ l) (joined_more xs x) ∙ sym (append_assoc (step_bytes y) (joined (map step_bytes xs)) (step_bytes x))
 
 -- the zeros behind n steps, of which five go to one more
 abbrev zeros : ℕ → List ℕ
@@ -58,7 +55,7 @@ module _ (b : Begun) (image : length b.image ≡ 100) (recorded : length b.«rec
       let k = ap (λ (z : List ℕ). over (p ++ z) (155 + 5 * n) (step_bytes x)) (zeros_more n h) in
       let o = over_at p (replicate 5 0) (zeros (n + 1)) (step_bytes x) (155 + 5 * n) e (sym (length_step x)) in
       let a = append_assoc (front (n + 1)) (joined (map step_bytes xs)) (step_bytes x) in
-      let j = sym (joined_more xs x) in
+      let j : joined (map step_bytes xs) ++ step_bytes x ≡ joined (map step_bytes (xs ++ (x ∷ []))) = simp (map-append, joined_append, append-nil) in
       rw (eq-eqb _ _ (size b xs (omega arith) image recorded), lt-ltb _ _ h) (k ∙ o ∙ (λ t. a t ++ zeros (n + 1)) ∙ (λ t. front (m t) ++ j t ++ zeros (m t)))
 
   -- one after another

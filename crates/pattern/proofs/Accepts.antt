@@ -8,7 +8,7 @@ use native.Mathlib.Omega.{arith}
 use borrow.Author.Tests.{lt-ltb, le-ltb}
 use lib.Dec.{ltb, leb}
 use lib.ListN.{length, length-map}
-use Rattle.errors.specs.Told.{Told, gives, refuses, on_told, Handed, refused, Built}
+use Rattle.errors.specs.Told.{Told, gives, refuses, Handed, refused, Built}
 use Rattle.snippet.specs.Snippet.{with_made, built_snippet}
 use Rattle.frame.specs.declared.Frame.{Frame}
 use Rattle.frame.specs.declared.FrameBuilder.{FrameBuilder}

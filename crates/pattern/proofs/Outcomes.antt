@@ -1,17 +1,18 @@
 -- One call is accepted and adds, or is refused and adds nothing; lists of calls follow by induction, for any builder.
 -- An array with a count shows a list.
 -- Assumes nothing.
-use mathlib.Core.Path.{◌≡◌, refl, sym, ap, ap₂, ◌∙◌, subst}
+use mathlib.Core.Path.{◌≡◌, sym, ap, ap₂, ◌∙◌, subst}
 use mathlib.Core.Logic.{◌⊎◌, inl, inr}
-use mathlib.Core.Bool.{Bool, true, false, cond}
+use mathlib.Core.Bool.{false, cond}
 use mathlib.Core.List.{List, [], ◌∷◌, ◌++◌, map, append_assoc, append-nil}
-use Prim.Native.Nat.{ℕ, zero, suc, ◌+◌, ◌≤◌, ◌<◌}
+use Prim.Native.Nat.{ℕ, ◌+◌, ◌≤◌, ◌<◌}
 use native.Mathlib.Numerals.{add-one}
 use native.Mathlib.Omega.{arith}
 use borrow.Author.Tests.{lt-ltb, le-ltb}
 use lib.Dec.{ltb}
 use lib.ListN.{length, set, take, length-set, length-append}
 use lib.Seq.{take-suc-set}
+use Rattle.std.proofs.lemmas.List.{map-append}
 use Rattle.errors.specs.Told.{Handed}
 use Rattle.pattern.specs.Calls.{ran, held}
 
@@ -36,10 +37,6 @@ module _ {B K X : Type 0} (step : B → K → Handed B) (adds : K → X) (P : B 
 
 -- ---- an array with a count
 
-pub map_snoc : {A B : Type 0} (f : A → B) (xs : List A) (x : A) → map f (xs ++ (x ∷ [])) ≡ map f xs ++ (f x ∷ [])
-map_snoc f [] x = refl
-map_snoc f (y ∷ xs) x = ap (λ l. f y ∷ l) (map_snoc f xs x)
-
 -- the first n of l, seen by f, are xs, seen by g; l has room for `most`
 pub record Shows {A B C : Type 0} (most : ℕ) (f : A → B) (g : C → B) (l : List A) (n : ℕ) (xs : List C) : Type 0 where
   pub long : length l ≡ most
@@ -54,9 +51,9 @@ shows_more {A} {B} {C} most f g l n xs a x h r e =
       long = length-set l n a ∙ h.long;
       shown = ap (λ (k : ℕ). map f (take k (set l n a))) (add-one n)
           ∙ ap (map f) (take-suc-set l n a (let e = h.long in omega arith))
-          ∙ map_snoc f (take n l) a
+          ∙ map-append f (take n l) (a ∷ [])
           ∙ ap₂ (λ (u : List B) (v : B). u ++ (v ∷ [])) h.shown e
-          ∙ sym (map_snoc g xs x);
+          ∙ sym (map-append g xs (x ∷ []));
       counted = let e = length-append xs (x ∷ []) in let g = h.counted in omega arith;
       room = omega arith;
     }

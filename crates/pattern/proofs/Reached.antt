@@ -2,15 +2,15 @@
 -- Assumes nothing.
 use Rattle.std.specs.Prelude.{Option, Some, None}
 use mathlib.Core.Path.{◌≡◌, refl, sym, ap, ap₂, ◌∙◌, subst}
-use mathlib.Core.Logic.{◌⊎◌, inl, inr}
-use mathlib.Core.Bool.{Bool, true, false, cond}
+use mathlib.Core.Logic.{inl, inr}
+use mathlib.Core.Bool.{Bool, true, false}
 use mathlib.Core.List.{List, [], ◌∷◌, ◌++◌, map, append_assoc, append-nil}
 use Prim.Native.Nat.{ℕ, zero, suc, ◌+◌, ◌≤◌, ◌<◌}
 use native.Mathlib.Omega.{arith}
-use borrow.Author.Tests.{lt-ltb, le-ltb, le-leb, lt-leb}
+use borrow.Author.Tests.{le-ltb, lt-leb}
 use lib.Dec.{ltb}
 use lib.ListN.{length, length-append, length-map}
-use Rattle.laws.proofs.Lists.{all_left}
+use Rattle.laws.proofs.Lists.{all_left, all_right}
 use Rattle.laws.specs.Bytes.{All}
 use Rattle.laws.specs.Lists.{joined}
 use Rattle.errors.specs.Told.{Told, gives, Handed}
@@ -35,7 +35,7 @@ use Rattle.content.specs.Content.{Point, Content, point_bytes, frames_bytes, Adm
 use Rattle.content.proofs.Admits.{SnippetAdmitted, SequenceAdmitted}
 use Rattle.content.proofs.Points.{Good}
 use Rattle.content.proofs.Sequences.{long}
-use Rattle.pattern.specs.Calls.{ran, held, SnippetCall, ramp, step, snippet_step, added_point, points_from, FrameCall, gain, timebase, loop_count, frequency_hz, Begin, new, silence, begun_by, FrameCalls, number_of, frame_from, sequence_step, frames_from, snippet_from, sequence_from, MemoryCall, add_snippet, add_sequence, memory_step, content_from, built_from}
+use Rattle.pattern.specs.Calls.{held, SnippetCall, ramp, step, snippet_step, added_point, points_from, FrameCall, gain, timebase, loop_count, frequency_hz, Begin, new, silence, begun_by, FrameCalls, number_of, frame_from, sequence_step, frames_from, snippet_from, sequence_from, MemoryCall, add_snippet, add_sequence, memory_step, content_from, built_from}
 use Rattle.pattern.proofs.Items.{frame_ran, with_made_frame, Item, points, frames, added_item, snippets_of, sequences_of, content_of, content_held}
 use Rattle.pattern.proofs.Outcomes.{Outcome}
 use Rattle.pattern.proofs.Snippets as snippet
@@ -69,10 +69,6 @@ module _ {B K X : Type 0} (step' : B → K → Handed B) (adds : K → X) (P : B
         (ap₂ (λ (z : X) (zs : List X). z ∷ zs) t.1 (rest (subst (λ (z : X). P (step' b (call y)).builder (xs ++ (z ∷ []))) t.1 w.1)))
     go rest (inr w) = let z = t.0 in absurd (omega (arith, w.0))
 
-all_last : {A : Type 0} (P : A → Type 0) (xs : List A) (x : A) → All P (xs ++ (x ∷ [])) → P x
-all_last P [] x h = h.0
-all_last P (y ∷ xs) x h = all_last P xs x h.1
-
 -- ---- snippets
 
 abbrev pub PointsFit : List Point → Type 0
@@ -99,7 +95,7 @@ called_taken b false t a g l = (made_number b false t a g l, refl)
 point_taken : (b : SnippetBuilder) (ps : List Point) (p : Point) → snippet.Holds b ps → PointsFit (ps ++ (p ∷ []))
     → ((snippet_step b (point_call p)).number ≡ 0) × (added_point (point_call p) ≡ p)
 point_taken b ps p h f =
-    called_taken b p.ramp p.timebases p.amplitude (all_last Good ps p f.1)
+    called_taken b p.ramp p.timebases p.amplitude (all_right Good ps (p ∷ []) f.1).0
     (let n = length-append ps (p ∷ []) in let c = h.shows.counted in omega (arith, f.0))
 
 pub points_reached : (ps : List Point) → PointsFit ps → points_from (map point_call ps) ≡ ps
@@ -163,7 +159,7 @@ made_taken b m o g e p q =
 frame_taken : (b : SequenceBuilder) (fs : List FrameBuilder) (f : FrameBuilder) → sequence.Holds b fs → FramesFit (fs ++ (f ∷ []))
     → ((sequence_step b (frame_call f)).number ≡ 0) × (frame_from (frame_call f) ≡ f)
 frame_taken b fs f h w =
-    let a = all_last FrameAdmitted fs f w.2 in
+    let a = (all_right FrameAdmitted fs (f ∷ []) w.2).0 in
     let back = frame_back f.snippet_id f.gain f.timebase f.loop_count f.frequency a.loop_fits a.frequency_fits in
     let begins = begun_back f.snippet_id a.number_fits in
     let plain = plain_frame f.snippet_id in
@@ -212,7 +208,7 @@ item_taken : (b : WaveformMemoryBuilder) (is : List Item) (i : Item) → memory.
     → ((memory_step b (item_call i)).number ≡ 0) × (added_item (item_call i) ≡ i)
 item_taken b is (points ps) h w =
     let e = snippets_append is (points ps ∷ []) in
-    let a = all_last SnippetAdmitted (snippets_of is) ps (subst (All SnippetAdmitted) e w.snippet) in
+    let a = (all_right SnippetAdmitted (snippets_of is) (ps ∷ []) (subst (All SnippetAdmitted) e w.snippet)).0 in
     let back = points_reached ps (a.few, a.each) in
     let held = snippet.snippet_holds (map point_call ps) in
     let n : length (points_from (map point_call ps)) ≡ length ps = ap length back in
@@ -222,8 +218,8 @@ item_taken b is (points ps) h w =
     (simp (le-ltb _ _ p, lt-leb _ _ q), ap points back)
 item_taken b is (frames fs) h w =
     let e = sequences_append is (frames fs ∷ []) in
-    let a = all_last SequenceAdmitted (sequences_of is) fs (subst (All SequenceAdmitted) e w.sequence) in
-    let back = frames_reached fs (all_last Short (sequences_of is) fs (subst (All Short) e w.short), a.few, a.each) in
+    let a = (all_right SequenceAdmitted (sequences_of is) (fs ∷ []) (subst (All SequenceAdmitted) e w.sequence)).0 in
+    let back = frames_reached fs ((all_right Short (sequences_of is) (fs ∷ []) (subst (All Short) e w.short)).0, a.few, a.each) in
     let held = sequence.sequence_holds (map frame_call fs) in
     let n : length (frames_bytes (frames_from (map frame_call fs))) ≡ length (frames_bytes fs) = ap (λ (l : List FrameBuilder). length (frames_bytes l)) back in
     let p : 1 ≤ (sequence_from (map frame_call fs)).len = omega (arith, held.counted, long fs a.nonempty) in

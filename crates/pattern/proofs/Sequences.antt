@@ -1,15 +1,17 @@
 -- A sequence's builder holds the frames that its accepted calls added.
 -- Assumes nothing.
 use mathlib.Core.Path.{◌≡◌, refl, sym, ap, ◌∙◌}
-use mathlib.Core.Logic.{◌⊎◌, inl, inr}
-use mathlib.Core.List.{List, [], ◌∷◌, ◌++◌, map, append-nil, append_assoc}
-use Prim.Native.Nat.{ℕ, zero, suc, ◌+◌, ◌≤◌, ◌<◌}
+use mathlib.Core.Logic.{inl, inr}
+use mathlib.Core.List.{List, [], ◌∷◌, ◌++◌, map, append-nil}
+use Prim.Native.Nat.{ℕ, ◌+◌, ◌≤◌, ◌<◌}
 use native.Mathlib.Decide.{dec_le}
 use native.Mathlib.Omega.{arith}
 use borrow.Author.Tests.{lt-ltb, le-ltb, le-leb, lt-leb}
-use lib.ListN.{length, take, drop, length-append, length-take, length-drop}
+use lib.ListN.{length, take, drop, length-append, length-take}
 use lib.Seq.{take_at}
-use Rattle.laws.proofs.Lists.{all_append}
+use Rattle.std.proofs.lemmas.List.{map-append}
+use Rattle.laws.proofs.Lists.{all_append, joined_append}
+use Rattle.laws.specs.Lists.{joined}
 use Rattle.laws.specs.Bytes.{All}
 use Rattle.laws.specs.Copied.{over}
 use Rattle.laws.proofs.Copies.{length_over}
@@ -21,7 +23,7 @@ use Rattle.frame.specs.Frame.{bytes_of, frame_bytes, built_frame}
 use Rattle.sequence.specs.declared.SequenceBuilder.{SequenceBuilder}
 use Rattle.sequence.specs.Sequence.{new_sequence, with_frame}
 use Rattle.content.specs.Content.{frames_bytes}
-use Rattle.pattern.specs.Calls.{FrameCall, FrameCalls, frame_from, begun_by, sequence_step, sequence_from, frames_from}
+use Rattle.pattern.specs.Calls.{FrameCalls, frame_from, begun_by, sequence_step, sequence_from, frames_from}
 use Rattle.pattern.proofs.Items.{frame_ran, with_made_frame}
 use Rattle.pattern.proofs.Outcomes.{Outcome, all_calls}
 use Rattle.pattern.proofs.Frames.{built_bytes, FrameOutcome, frame_outcome}
@@ -43,11 +45,10 @@ over_shown d xs n h =
     take_at (take n d ++ xs) (drop (n + length xs) d) (n + length xs) (length-append (take n d) xs ∙ ap (λ (k : ℕ). k + length xs) (length-take n d ∙ omega arith))
 
 pub frames_append : (xs ys : List FrameBuilder) → frames_bytes (xs ++ ys) ≡ frames_bytes xs ++ frames_bytes ys
-frames_append [] ys = refl
-frames_append (x ∷ xs) ys = ap (λ (l : List ℕ). bytes_of x ++ l) (frames_append xs ys) ∙ sym (append_assoc (bytes_of x) (frames_bytes xs) (frames_bytes ys))
+frames_append xs ys = ap joined (map-append bytes_of xs ys) ∙ joined_append (map bytes_of xs) (map bytes_of ys)
 
 frames_snoc : (fs : List FrameBuilder) (f : FrameBuilder) → frames_bytes (fs ++ (f ∷ [])) ≡ frames_bytes fs ++ bytes_of f
-frames_snoc fs f = frames_append fs (f ∷ []) ∙ ap (λ (l : List ℕ). frames_bytes fs ++ l) (append-nil {A = ℕ} (bytes_of f))
+frames_snoc fs f = simp (frames_append, append-nil)
 
 abbrev Added : SequenceBuilder → List FrameBuilder → Handed SequenceBuilder → FrameBuilder → Type 0
 Added b fs s f = Outcome s.number (Holds s.builder (fs ++ (f ∷ []))) (Holds s.builder fs)

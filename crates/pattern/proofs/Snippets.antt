@@ -1,25 +1,23 @@
 -- A snippet's builder holds the points that its accepted calls added.
 -- Assumes nothing.
-use mathlib.Core.Path.{◌≡◌, refl, sym, ap, ◌∙◌}
-use mathlib.Core.Logic.{◌⊎◌, inl, inr}
+use mathlib.Core.Path.{◌≡◌, refl, sym}
+use mathlib.Core.Logic.{inl, inr}
 use mathlib.Core.Bool.{Bool, true, false}
-use mathlib.Core.List.{List, [], ◌∷◌, ◌++◌, map}
-use Prim.Native.Nat.{ℕ, zero, suc, ◌+◌, ◌%◌, ◌≤◌, ◌<◌}
+use mathlib.Core.List.{List, [], ◌∷◌, ◌++◌}
+use Prim.Native.Nat.{ℕ, ◌%◌, ◌≤◌, ◌<◌}
 use native.Mathlib.Decide.{dec_le}
 use native.Mathlib.Omega.{arith}
 use borrow.Author.Tests.{lt-ltb, le-ltb, le-leb, lt-leb}
-use lib.ListN.{length, take}
 use Rattle.laws.proofs.Lists.{all_append}
 use Rattle.laws.specs.Bytes.{All}
-use Rattle.errors.specs.Told.{Told, gives, refuses, Handed}
-use Rattle.snippet.specs.declared.PwlPoint.{PwlPoint}
+use Rattle.errors.specs.Told.{Handed}
 use Rattle.snippet.specs.declared.SnippetBuilder.{SnippetBuilder}
 use Rattle.snippet.specs.Point.{point_byte}
 use Rattle.snippet.specs.Point as made
 use Rattle.snippet.specs.Snippet as code
 use Rattle.snippet.specs.Snippet.{point_of, new_snippet, with_point, with_made, snippet_bytes}
 use Rattle.snippet.proofs.Points.{byte_back, byte_admitted}
-use Rattle.content.specs.Content.{Point, byte_of, point_bytes}
+use Rattle.content.specs.Content.{Point, byte_of}
 use Rattle.content.specs.ReadImage.{point_in}
 use Rattle.content.proofs.Points.{Good}
 use Rattle.pattern.specs.Calls.{SnippetCall, ramp, step, point, snippet_step, added_point, snippet_from, points_from}

@@ -4,15 +4,16 @@ use Prim.Native.Nat.{ℕ, ◌≤◌}
 use Prim.Native.String.{String}
 use native.Mathlib.Omega.{arith}
 use mathlib.Core.Path.{◌≡◌, refl}
-use mathlib.Core.Bool.{Bool, true, false, cond}
-use mathlib.Core.List.{[]}
+use mathlib.Core.List.{List, []}
 use lib.ListN.{length, length-append}
+use Rattle.laws.proofs.Tests.{choice}
 use Rattle.config.specs.declared.ActuatorConfig.{ActuatorConfig}
 use Rattle.config.specs.declared.DeviceConfig.{DeviceConfig}
 use Rattle.config.specs.declared.TriggerConfig.{TriggerConfig}
 use Rattle.config.specs.declared.DrivingMode.{DrivingMode}
 use Rattle.config.specs.declared.DrivingMode.TheVariants.{FREQUENCY_TRACK, WIDEBAND, CUSTOM_WAVEFORM}
 use Rattle.checks.specs.Checks.{etwm}
+use Rattle.exchange.specs.declared.Step.{Step}
 use Rattle.plans.specs.Configure.{feature_steps, limit_steps, calibration_steps, pid_steps, frequency_steps, rapid_stop_steps, phase_steps, custom_steps, driving_steps, gpi_steps, given_steps, trigger_steps, configure_steps}
 
 -- ---- parts of a fixed number
@@ -61,10 +62,9 @@ given s t u = simp length-append (omega (arith, gpi))
 
 pub triggers : (d : DeviceConfig) → length (trigger_steps d) ≤ 3
 unfolding trigger_steps
-triggers d = go (etwm d.operation_mode) where
-  go : (b : Bool) → length (cond b (given_steps d.gpi_trigger_0 d.gpi_trigger_1 d.gpi_trigger_2) []) ≤ 3
-  go true = given d.gpi_trigger_0 d.gpi_trigger_1 d.gpi_trigger_2
-  go false = omega arith
+triggers d =
+    let steps = given_steps d.gpi_trigger_0 d.gpi_trigger_1 d.gpi_trigger_2 in
+    choice (λ (xs : List Step). length xs ≤ 3) (etwm d.operation_mode) steps [] (given d.gpi_trigger_0 d.gpi_trigger_1 d.gpi_trigger_2) (omega arith)
 
 -- ---- all
 

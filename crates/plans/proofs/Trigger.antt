@@ -11,6 +11,7 @@ use Prim.Native.String.{String, ◌++◌ as ◌&◌}
 use lib.Dec.{eqb}
 use Rattle.laws.proofs.Tests.{all, same₃}
 use Rattle.field.specs.Field.{with_of}
+use Rattle.registers.specs.Table.{address_of}
 use Rattle.field.proofs.Methods.{with_masked}
 use Rattle.config.specs.declared.ActuatorConfig.{ActuatorConfig}
 use Rattle.config.specs.declared.DeviceConfig.{DeviceConfig}
@@ -26,6 +27,7 @@ use Rattle.config.specs.declared.DrivingMode.{DrivingMode}
 use Rattle.config.specs.declared.DrivingMode.TheVariants.{FREQUENCY_TRACK, WIDEBAND, CUSTOM_WAVEFORM}
 use Rattle.checks.specs.Checks.{etwm}
 use Rattle.exchange.specs.declared.Step.{Step}
+use Rattle.exchange.specs.declared.Step.TheVariants.{Write}
 use Rattle.plans.specs.Fields.{put, fresh}
 use Rattle.plans.specs.Configure.{feature_steps, limit_steps, calibration_steps, pid_steps, frequency_steps, rapid_stop_steps, phase_steps, custom_steps, driving_steps, gpi_byte, gpi_steps, given_steps, trigger_steps, configure_steps}
 use Rattle.plans.specs.Trigger.{mode_bit, polarity_bits, TriggerByte, untriggered, in_etwm, gets, to_gpi, Trigger}
@@ -106,20 +108,11 @@ features : (a : ActuatorConfig) (d : DeviceConfig) → feature_steps a (untrigge
 unfolding feature_steps
 features a d = refl
 
-zero_gets : (t : Option TriggerConfig) → gpi_steps "0" t ≡ gets 0x29 "0" t
+-- the register with this digit in its names stands at this address
+gpi_gets : (digit : String) (address : ℕ) → address_of ("GPI_" & digit & "_CTL") ≡ address → (t : Option TriggerConfig) → gpi_steps digit t ≡ gets address digit t
 unfolding gpi_steps
-zero_gets None = refl
-zero_gets (Some t) = refl
-
-one_gets : (t : Option TriggerConfig) → gpi_steps "1" t ≡ gets 0x2A "1" t
-unfolding gpi_steps
-one_gets None = refl
-one_gets (Some t) = refl
-
-two_gets : (t : Option TriggerConfig) → gpi_steps "2" t ≡ gets 0x2B "2" t
-unfolding gpi_steps
-two_gets None = refl
-two_gets (Some t) = refl
+gpi_gets digit address e None = refl
+gpi_gets digit address e (Some t) = ap (λ (a : ℕ). Write a (gpi_byte digit t) ∷ []) e
 
 chosen : (mode : OperationMode) (steps : List Step) → cond (etwm mode) steps [] ≡ in_etwm mode steps
 chosen INACTIVE steps = refl
@@ -132,7 +125,7 @@ chosen ETWM_MODE steps = refl
 given : (d : DeviceConfig)
     → trigger_steps d ≡ in_etwm d.operation_mode (gets 0x29 "0" d.gpi_trigger_0 ++ (gets 0x2A "1" d.gpi_trigger_1 ++ gets 0x2B "2" d.gpi_trigger_2))
 unfolding trigger_steps given_steps
-given d = simp (zero_gets, one_gets, two_gets, chosen)
+given d = simp (gpi_gets "0" 0x29 refl, gpi_gets "1" 0x2A refl, gpi_gets "2" 0x2B refl, chosen)
 
 none : (d : DeviceConfig) → trigger_steps (untriggered d) ≡ []
 unfolding trigger_steps
