@@ -37,8 +37,13 @@ use Rattle.outcome.specs.Outcome.{value_in, outcome_of, with_sequences, record_b
 use Rattle.driver.specs.Operations.{upload_waveform_memory}
 use Rattle.capi_driver.specs.Words.{exchange_word, reply_of, report_word, record_out, result_word, upload_of}
 use Rattle.capi_driver.specs.Telling.{Telling}
-use Rattle.capi_driver.proofs.Counts.{left_as}
 use Rattle.capi_driver.proofs.Uploads.{upload, upload_refused}
+
+-- bytes of another length stay as they are
+left_as : (l : List ℕ) (c : Option Change) → eqb (length l) 38 ≡ false → record_out l c ≡ l
+left_as l None e = refl
+left_as l (Some (To r)) e = rw e
+left_as l (Some (Sequences n)) e = rw e
 
 three : (a b c : ℕ) → a < 256 → b < 256 →
     ((a + 256 * b + 65536 * c) % 256 ≡ a) × ((a + 256 * b + 65536 * c) / 256 % 256 ≡ b) × ((a + 256 * b + 65536 * c) / 65536 ≡ c)
