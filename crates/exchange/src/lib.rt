@@ -201,7 +201,7 @@ pub fn begin(session: &mut [u8], opening: Opening<'_>)
     ensures { session.new
         ≡ begun_in session.old (begun_with opening.entry.address opening.entry.reads opening.entry.room opening.entry.purpose opening.entry.image.now opening.entry.«record».now) [] }
 {
-    if session.len() == SESSION_SIZE {
+    if let Some(session) = session.as_mut_array::<SESSION_SIZE>() {
         let Opening { image, record, .. } = opening;
         laws::lay(session, 0, &heading(opening));
         laws::lay(session, IMAGE, image);
@@ -228,7 +228,7 @@ fn heading(opening: Opening<'_>) -> [u8; 17]
 pub fn push(session: &mut [u8], step: Step)
     ensures { session.new ≡ pushed session.old step }
 {
-    if session.len() == SESSION_SIZE {
+    if let Some(session) = session.as_mut_array::<SESSION_SIZE>() {
         let n = session[STEPS];
         if n < MOST_STEPS {
             session[STEPS] = n + 1;
