@@ -12,7 +12,7 @@ use laws::byte_at;
 use vectors_bytes::{MARKER, number};
 
 // What a case gives and tells: the arguments, the list of calls or the image, the word answered, and what is left in the slice lent.
-// A case of an image read has the image in the place of the arguments, and then its counts, its points and its frames.
+// A case of an image read has other fields in these places: `Reads`.
 #[derive(Clone, Copy)]
 struct Case<'a> {
     arguments: &'a [u8],
@@ -63,7 +63,7 @@ impl Case<'_> {
                 self.told(|out| capi::da728x_assemble_strict(calls, out) as u64)
                     && self.told(|out| vectors_values::assemble_strict(calls, out))
             }
-            Kind::Reads => self.read_exported() && self.read_by_value(),
+            Kind::Reads => self.reads().exported() && self.reads().by_value(),
             Kind::ReadLists => self.told(|out| capi::da728x_read_lists(calls, out) as u64),
             Kind::RegisterAddresses => self.told(|out| capi::da728x_register_addresses(out) as u64),
             Kind::ReadInterrupts => self.told(|out| capi::da728x_read_interrupts(a, out) as u64),
@@ -92,22 +92,43 @@ impl Case<'_> {
         call(out) == number(self.word) && *out == *self.out
     }
 
-    // Whether the image has these counts, points and frames, by the exported functions.
-    fn read_exported(&self) -> bool {
-        let image = self.arguments;
-        capi::da728x_read_counts(image) as u64 == number(self.input)
+    // What the fields are of a case of an image read.
+    fn reads(&self) -> Reads<'_> {
+        Reads {
+            image: self.arguments,
+            counts: self.input,
+            points: self.word,
+            frames: self.out,
+        }
+    }
+}
+
+// An image, and what a case tells of it: how many snippets and sequences, the words of all points and those of all frames.
+#[derive(Clone, Copy)]
+struct Reads<'a> {
+    image: &'a [u8],
+    counts: &'a [u8],
+    points: &'a [u8],
+    frames: &'a [u8],
+}
+
+impl Reads<'_> {
+    // Whether the image has these, by the exported functions.
+    fn exported(&self) -> bool {
+        let image = self.image;
+        capi::da728x_read_counts(image) as u64 == number(self.counts)
             && walk::points(
-                self.word,
+                self.points,
                 |i, j| capi::da728x_read_point(image, i, j) as u64,
             )
-            && walk::frames(self.out, |i, j| capi::da728x_read_frame(image, i, j))
+            && walk::frames(self.frames, |i, j| capi::da728x_read_frame(image, i, j))
     }
 
     // The same by value.
-    fn read_by_value(&self) -> bool {
-        let image = self.arguments;
-        vectors_values::read_counts(image) == number(self.input)
-            && walk::points(self.word, |i, j| vectors_values::read_point(image, i, j))
-            && walk::frames(self.out, |i, j| vectors_values::read_frame(image, i, j))
+    fn by_value(&self) -> bool {
+        let image = self.image;
+        vectors_values::read_counts(image) == number(self.counts)
+            && walk::points(self.points, |i, j| vectors_values::read_point(image, i, j))
+            && walk::frames(self.frames, |i, j| vectors_values::read_frame(image, i, j))
     }
 }
