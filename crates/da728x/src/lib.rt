@@ -175,7 +175,8 @@ fn settings_at(bytes: &[u8]) -> Option<(ActuatorConfig, DeviceConfig)>
     }
 }
 
-// Bytes that are read one after the other; those that are missing count as 0.
+// Bytes that are read one after the other; those that are missing count as 0. A place and not the rest of the bytes: inlined, it is a number that
+// the compiler knows, and the premises below only keep it in range.
 #[derive(Drop)]
 struct Cursor<'a> {
     bytes: &'a [u8],
