@@ -63,14 +63,12 @@ impl DA728x {
     pub fn from_bytes(bytes: &[u8]) -> DA728x
         ensures { result ≡ record_at bytes.now }
     {
-        let settings = if bytes.len() == RECORD_SIZE {
-            settings_at(bytes)
-        } else {
-            None
-        };
-        DA728x {
-            settings,
-            ..DA728x::chip_from_bytes(bytes)
+        match bytes.as_array::<RECORD_SIZE>() {
+            None => DA728x::new(0, Variant::DA7280),
+            Some(_) => DA728x {
+                settings: settings_at(bytes),
+                ..DA728x::chip_from_bytes(bytes)
+            },
         }
     }
 
@@ -80,13 +78,12 @@ impl DA728x {
     pub fn chip_from_bytes(bytes: &[u8]) -> DA728x
         ensures { result ≡ chip_at bytes.now }
     {
-        if bytes.len() == RECORD_SIZE {
-            DA728x {
+        match bytes.as_array::<RECORD_SIZE>() {
+            None => DA728x::new(0, Variant::DA7280),
+            Some(bytes) => DA728x {
                 sequences: bytes[SEQUENCES],
                 ..DA728x::new(bytes[0], bytes[1].into())
-            }
-        } else {
-            DA728x::new(0, Variant::DA7280)
+            },
         }
     }
 }

@@ -4,6 +4,7 @@
 ghost use Rattle.std.specs.Prelude.{◌≡◌, ◌+◌, ◌*◌, ◌/◌, ◌%◌, ltb, leb};
 
 // Gain code in bits 6..5, timebase code in bits 4..3, low three bits of the number in bits 2..0.
+#[tactic(auto, using(crate::proofs::Packed::packed_first))]
 pub(crate) fn first(gain: u8, timebase: u8, id: u8) -> u8
     ensures { result ≡ gain % 4 * 32 + timebase % 4 * 8 + id % 8 }
 {
@@ -11,6 +12,7 @@ pub(crate) fn first(gain: u8, timebase: u8, id: u8) -> u8
 }
 
 // Bit 7 set, loop count in bits 6..3, bits 2..1 as given, bit 3 of the number in bit 0.
+#[tactic(auto, using(crate::proofs::Packed::packed_second))]
 pub(crate) fn second(count: u8, frequency: u8, id: u8) -> u8
     ensures { result ≡ 128 + count % 16 * 8 + frequency % 8 / 2 * 2 + id / 8 % 2 }
 {
@@ -31,11 +33,11 @@ pub(crate) fn low_byte(hz: u16) -> u8
     (hz & 0xFF) as u8
 }
 
-// Bit 0.
-pub(crate) fn low1(x: u8) -> u8
-    ensures { result ≡ x % 2 }
+// Whether a number has its bit 3, for which the first byte has no room.
+pub(crate) fn is_above_7(id: u8) -> bool
+    ensures { result ≡ leb 8 (id % 16) }
 {
-    x & 1
+    8 <= (id & 15)
 }
 
 // Bit 7: of the byte behind a frame's first one, whether it is the frame's second.

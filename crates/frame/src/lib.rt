@@ -212,15 +212,15 @@ impl FrameBuilder {
                 len: 2,
             },
             (None, None) => {
-                if bits::low1(id >> 3) == 0 {
-                    Frame {
-                        bytes: [b1, 0, 0],
-                        len: 1,
-                    }
-                } else {
+                if bits::is_above_7(id) {
                     Frame {
                         bytes: [b1, bits::second(0, 0, id), 0],
                         len: 2,
+                    }
+                } else {
+                    Frame {
+                        bytes: [b1, 0, 0],
+                        len: 1,
                     }
                 }
             }

@@ -1,4 +1,4 @@
--- Copying byte by byte from the front is `copied`; bytes laid over a list.
+-- What is copied where it fits, and bytes laid over a list.
 -- Assumes nothing.
 use mathlib.Core.Path.{◌≡◌, ap, sym, ◌∙◌}
 use mathlib.Core.List.{List, ◌++◌, append_assoc, append-nil}

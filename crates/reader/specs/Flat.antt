@@ -1,5 +1,5 @@
--- The lists, padded one element at a time, as the code does it; what finds no room is dropped. Only private contracts cite this; what the
--- lists are is in Reading.antt.
+-- The lists, padded one element at a time, as the code does it; what finds no room is dropped. Of the public
+-- functions only the lists' `add` cites this (`push_snippet`, `push_sequence`); what the lists are is in Reading.antt.
 use Rattle.std.specs.Prelude.{ℕ, ◌+◌, cond, List, [], ◌∷◌, ltb, set}
 use Rattle.reader.specs.declared.Runs.{Runs}
 
