@@ -30,7 +30,7 @@ use Rattle.pattern.proofs.Memories.{memory_holds}
 
 -- ---- tests
 
--- the number of one answer or another
+-- the number of one answer or another: two laws, since with one over the field each of its eight uses has to write the record's type out, which is longer
 number_of_lem : {B : Type 0} (t : Bool) (x y : Handed B) → (cond t x y).number ≡ cond t x.number y.number
 number_of_lem true x y = refl
 number_of_lem false x y = refl

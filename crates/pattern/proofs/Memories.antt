@@ -79,6 +79,7 @@ holds_of b is ss qs e f s q gs gq =
 abbrev Added : List Item → Handed WaveformMemoryBuilder → Item → Type 0
 Added is s i = Outcome s.number (Holds s.builder (is ++ (i ∷ []))) (Holds s.builder is)
 
+-- this and `with_sequence_lem` below are two: each holds of its own array and count of the builder, and leaves the other's
 with_snippet_lem : (b : WaveformMemoryBuilder) (is : List Item) (s : SnippetBuilder) (ps : List Point) → Holds b is → snippet.Holds s ps
     → Added is (with_built_snippet b (built_snippet s)) (points ps)
 with_snippet_lem b is s ps h k = some (dec_le 1 s.len) where
