@@ -10,6 +10,8 @@ ghost use Rattle.convert.specs.Trim as trim;
 
 use registers_trigger::TRIM4;
 
+mod periods;
+
 // ACTUATOR1 and ACTUATOR2, from millivolts.
 pub fn voltage(mV: u16) -> u8
     ensures { result ≡ voltage_byte mV }
@@ -32,13 +34,14 @@ pub fn v2i(mOhm: u16, imax: u8) -> u16
 }
 
 // The period word of FRQ_LRA_PER_H and FRQ_LRA_PER_L, from hertz; 0 below 25 Hz, which no mode takes.
+#[tactic(auto, using(crate::proofs::Table::entry))]
 pub fn period(hz: u16) -> u16
     ensures { result ≡ period_word hz }
 {
-    if hz < 25 {
-        0
-    } else {
-        (100000000000 / (133332 * hz as u64)) as u16
+    match hz {
+        0..=24 => 0,
+        25..=1024 => periods::words()[hz as usize - 25],
+        _ => periods::word_above(hz),
     }
 }
 

@@ -15,7 +15,7 @@ use harness::records::COUNT;
 use harness::settings::{Settings, published_variant};
 use harness::triggers;
 use std::hint::black_box;
-use yambelugo::{Call, IMAGE, RECORD, Variant};
+use yambelugo::{Call, DrivingMode, IMAGE, OperationMode, RECORD, Variant};
 
 const ADDRESS: u8 = 0x4A;
 
@@ -121,7 +121,7 @@ pub struct Work {
     pub goal: Goal,
 }
 
-pub const WORKS: [Work; 12] = [
+pub const WORKS: [Work; 13] = [
     Work {
         name: "images",
         unit: "image",
@@ -185,6 +185,13 @@ pub const WORKS: [Work; 12] = [
         theirs: Some(their_configures),
         ours: our_configures,
         goal: Goal::AtMost(300.0),
+    },
+    Work {
+        name: "tick of a sweep",
+        unit: "tick",
+        theirs: Some(their_ticks),
+        ours: our_ticks,
+        goal: Goal::Free,
     },
     Work {
         name: "upload, plan",
@@ -490,6 +497,40 @@ fn our_plans(inputs: &Inputs) -> Done {
     let (record, mut session) = (our_record(), [0; SESSION]);
     for settings in &inputs.accepted {
         assert_eq!(our_start(settings, &record, &mut session), 0);
+        black_box(&session);
+    }
+    Done { sum: 0, count: inputs.accepted.len() as u64 }
+}
+
+/// What a sweep is played with: every frequency of the driver may follow.
+fn sweeping() -> Settings {
+    Settings::plain(OperationMode::PWM_MODE, DrivingMode::WIDEBAND)
+}
+
+/// A sweep from the lowest frequency to the highest, over and over.
+fn ticks(inputs: &Inputs) -> impl Iterator<Item = u16> {
+    (25..=1024).cycle().take(inputs.accepted.len())
+}
+
+fn their_ticks(inputs: &Inputs) -> Done {
+    let mut driver =
+        at_once(da728x::DA728x::new(Idle, ADDRESS, published_variant(VARIANT))).unwrap();
+    let (actuator, device) = sweeping().published();
+    at_once(driver.configure(actuator, device)).unwrap();
+    for hz in ticks(inputs) {
+        at_once(driver.set_frequency(black_box(hz))).unwrap();
+    }
+    Done { sum: 0, count: inputs.accepted.len() as u64 }
+}
+
+/// Each tick's session is begun; its two writes cost what other exchanges cost.
+fn our_ticks(inputs: &Inputs) -> Done {
+    let record = record_bytes(ADDRESS, VARIANT, Some(&sweeping()), 0);
+    let mut session = [0; SESSION];
+    for hz in ticks(inputs) {
+        let (of, at) = (record.as_ptr(), session.as_mut_ptr());
+        // SAFETY: each pointer and length is an array, and none overlaps another.
+        assert_eq!(unsafe { ffi::da728x_set_frequency(of, RECORD, black_box(hz), at, SESSION) }, 0);
         black_box(&session);
     }
     Done { sum: 0, count: inputs.accepted.len() as u64 }
