@@ -61,15 +61,12 @@ pub fn configure_checks(
 
 // Functions: the types are of `config`. Each is one line of specs/Checks.antt, which says ETWM each time.
 
-// Whether a frequency lies outside the band of the driving mode.
+// Whether a frequency lies outside the band of the driving mode. The wider band is asked in each mode: of what passes the compiler then
+// knows that its period word is in convert's table, and leaves the rest of the conversion out.
 pub fn outside_band(mode: DrivingMode, hz: u16) -> bool
     ensures { result ≡ spec.outside_band mode hz }
 {
-    if is_tracking(mode) {
-        !(50..=300).contains(&hz)
-    } else {
-        !(25..=1024).contains(&hz)
-    }
+    !(25..=1024).contains(&hz) || is_tracking(mode) && !(50..=300).contains(&hz)
 }
 
 pub fn is_tracking(mode: DrivingMode) -> bool

@@ -1,6 +1,6 @@
 -- Settings to register values: document 01, 'Settings to registers'. "All quotients round down".
 -- A byte holds 256 values: `% 256` cuts a PID word, and nothing of any other accepted setting (plans/specs/Accepted.antt).
-use Rattle.std.specs.Prelude.{ℕ, zero, suc, List, [], ◌∷◌, ◌+◌, ◌-◌, ◌*◌, ◌/◌, ◌%◌, cond, ltb, ℤ, pos, negsuc}
+use Rattle.std.specs.Prelude.{ℕ, ◌+◌, ◌-◌, ◌*◌, ◌/◌, ◌%◌, cond, ltb, ℤ, pos, negsuc}
 
 -- "volts 1000 × mV / 23400"
 abbrev pub voltage_byte : ℕ → ℕ
@@ -17,11 +17,6 @@ v2i_word mOhm imax = 1000 * mOhm * (imax + 4) / 1610400
 -- "period word 10^11 / (133332 × Hz)"; below 25 Hz, which no mode takes, it is 0
 abbrev pub period_word : ℕ → ℕ
 period_word hz = cond (ltb hz 25) 0 (100000000000 / (133332 * hz))
-
--- the period words of so many frequencies, one Hz apart, from this one on
-unfoldable pub period_words : ℕ → ℕ → List ℕ
-period_words hz zero = []
-period_words hz (suc n) = period_word hz ∷ period_words (suc hz) n
 
 -- "high part w / 128, low part w mod 128"; of a PID word bit 15 is lost
 abbrev pub high_part : ℕ → ℕ

