@@ -475,7 +475,8 @@ uint8_t da728x_get_status(const uint8_t *record, size_t record_len,
                           uint8_t *session, size_t session_len);
 
 /* Sets the frequency that the chip drives; the stored one stays. 15 without settings, then 23
- * outside 50 to 300 Hz when tracking (the stored driving mode), else outside 25 to 1024. */
+ * outside 50 to 300 Hz when tracking (the stored driving mode), else outside 25 to 1024. A sweep
+ * may start one at each tick: the frequency's word is looked up, and nothing is divided. */
 uint8_t da728x_set_frequency(const uint8_t *record, size_t record_len, uint16_t frequency_hz,
                              uint8_t *session, size_t session_len);
 

@@ -281,6 +281,30 @@ impl DA728x {
     /// assert_eq!(driver.set_frequency(301), Err(Error::InvalidDriveFrequency));
     /// # Ok::<(), Error>(())
     /// ```
+    ///
+    /// A sweep sets it at each tick. The word of a frequency comes from a table: nothing is divided.
+    ///
+    /// ```
+    /// # use yambelugo::{DA728x, DrivingMode, Error, RECORD, Reply};
+    /// # let mut record = [0; RECORD];
+    /// # (record[2], record[22]) = (2, DrivingMode::WIDEBAND as u8);
+    /// # let mut driver = DA728x::from_bytes(record);
+    /// let mut words = Vec::new();
+    /// for hz in 25..=1024 {
+    ///     let mut word = 0;
+    ///     driver.set_frequency(hz)?.run(
+    ///         |exchange| {
+    ///             word = word << 7 | u16::from(exchange.bytes()[1]); // the high part, then the low
+    ///             Reply::Done
+    ///         },
+    ///         &mut [],
+    ///     )?;
+    ///     words.push(word);
+    /// }
+    /// assert!((words[0], words[145], words[999]) == (30000, 4411, 732));
+    /// assert!(words.is_sorted_by(|shorter, longer| shorter >= longer));
+    /// # Ok::<(), Error>(())
+    /// ```
     pub fn set_frequency(&mut self, frequency_hz: u16) -> Started<'_> {
         // SAFETY: each pointer and length is a borrowed array; the mutable one overlaps no other.
         self.begins(|record, session| unsafe {
