@@ -33,14 +33,15 @@ pub fn v2i(mOhm: u16, imax: u8) -> u16
     (1000 * mOhm as u64 * (imax as u64 + 4) / 1610400) as u16
 }
 
-// The period word of FRQ_LRA_PER_H and FRQ_LRA_PER_L, from hertz; 0 below 25 Hz, which no mode takes.
+// The period word of FRQ_LRA_PER_H and FRQ_LRA_PER_L, from hertz. No mode takes a frequency below 25 Hz, where it is 0, or above 1024 Hz:
+// since `checks::outside_band` has refused these, the compiled operations have the table alone (scripts/no-division).
 pub fn period(hz: u16) -> u16
     ensures { result ≡ period_word hz }
 {
     match hz {
         0..=24 => 0,
         25..=1024 => periods::words()[hz as usize - 25],
-        _ => periods::word_above(hz),
+        _ => (100000000000 / (133332 * hz as u64)) as u16,
     }
 }
 

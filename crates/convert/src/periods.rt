@@ -1,10 +1,9 @@
 // The period words of the frequencies that the driver takes, so that no tick of a sweep divides by its frequency
 // (document 02, CR 6).
-// Proved: the table is the list of the quotients, tested whole, and so each entry is its own (proofs/Table.antt).
+// Proved: the table is the list of the quotients, tested whole, and so each entry is its own quotient (proofs/Table.antt).
 #![tactic(auto)]
 
 ghost use Rattle.std.specs.Prelude.{ℕ, ◌+◌, ◌*◌, ◌/◌, ◌≡◌, ◌<◌, slice_index_or};
-ghost use Rattle.convert.specs.Convert.{period_word};
 
 // The words of 25 to 1024 Hz; `scripts/remake-periods` writes them.
 const WORDS: [u16; 1000] = [
@@ -76,24 +75,4 @@ pub fn words() -> &'static [u16; 1000]
     ensures { (k : ℕ) → k < 1000 → slice_index_or result.now k 0 ≡ 100000000000 / (133332 * (25 + k)) }
 {
     &WORDS
-}
-
-// The word above 1024 Hz, which the driver refuses before it asks: the greatest w with w × 133332 × hz ≤ 10^11, by binary search.
-// It stands for a division, so that none is compiled beside the table.
-pub fn word_above(hz: u16) -> u16
-    requires { 1024 < hz }
-    ensures { result ≡ period_word hz }
-{
-    let divisor = 133332 * hz as u64;
-    let mut word: u16 = 0;
-    let mut beyond: u16 = 732;
-    while word + 1 < beyond {
-        let middle = (word + beyond) / 2;
-        if middle as u64 * divisor <= 100000000000 {
-            word = middle;
-        } else {
-            beyond = middle;
-        }
-    }
-    word
 }
