@@ -2,7 +2,7 @@
 use Prim.Native.Nat.{ℕ, zero, suc, ◌+◌, ◌-◌, ◌*◌, ◌/◌, ◌%◌, ◌≤◌, ◌<◌, min}
 use native.Mathlib.Omega.{arith}
 use mathlib.Core.Path.{◌≡◌, refl, sym, ap, subst, ◌∙◌}
-use mathlib.Core.Bool.{Bool, true, false, cond}
+use mathlib.Core.Bool.{Bool, true, false, cond, true≢false}
 use mathlib.Core.Logic.{◌⊎◌, inl, inr}
 use mathlib.Core.List.{List, [], ◌∷◌, ◌++◌}
 use lib.Dec.{eqb}
@@ -35,8 +35,11 @@ use Rattle.outcome.specs.declared.Change.{Change}
 use Rattle.outcome.specs.declared.Change.TheVariants.{To, Sequences}
 use Rattle.outcome.specs.Outcome.{value_in, outcome_of, with_sequences, record_by}
 use Rattle.driver.specs.Operations.{upload_waveform_memory}
-use Rattle.capi_driver.specs.Words.{exchange_word, reply_of, report_word, record_out, result_word, upload_of}
-use Rattle.capi_driver.specs.Telling.{Telling}
+use Rattle.ranges.specs.declared.Range.{Range}
+use Rattle.ranges.specs.Search.{voltage_range, imax_range, period_range}
+use Rattle.ranges.proofs.Ends.{Fits, voltage_fits, imax_fits, period_fits}
+use Rattle.capi_driver.specs.Words.{exchange_word, reply_of, report_word, record_out, result_word, upload_of, range_word}
+use Rattle.capi_driver.specs.Telling.{RangeTold, Telling}
 use Rattle.capi_driver.proofs.Uploads.{upload, upload_refused}
 
 -- bytes of another length stay as they are
@@ -199,6 +202,15 @@ uploads r image lock_after h = (
   refl,
 )
 
+-- ---- a range of settings
+
+range_told : (range : Option Range) → Fits range → RangeTold range
+range_told None h = ((λ e. refl, λ e. refl), λ r e. absurd (true≢false (sym (ap is_some e))))
+range_told (Some r) h = (
+  (λ e. absurd (omega (arith, h.1)), λ e. absurd (true≢false (ap is_some e))),
+  λ q e. subst (λ (p : Range). (range_word (Some r) % 65536 ≡ p.least) × (range_word (Some r) / 65536 ≡ p.greatest)) (ap (λ (o : Option Range). unwrap_or o r) e) (omega (arith, h.0), omega (arith, h.0)),
+)
+
 pub telling : Telling
 unfolding report_word result_word
 telling = record {
@@ -215,4 +227,7 @@ telling = record {
   replies = replies;
   full = upload_refused;
   uploads = uploads;
+  voltages = λ byte. range_told (voltage_range byte) (voltage_fits byte);
+  currents = λ value. range_told (imax_range value) (imax_fits value);
+  frequencies = λ mode word. range_told (period_range mode word) (period_fits mode word);
 }

@@ -1,8 +1,9 @@
 -- No word misleads: of every exported function of this crate that answers with several numbers in one, the word gives each of them back.
 -- The record that an answer writes is the changed one, and an upload is that of the bytes that were handed in.
-use Rattle.std.specs.Prelude.{ℕ, ◌-◌, ◌^◌, ◌/◌, ◌%◌, ◌≤◌, ◌<◌, ◌≡◌, Bool, ◌⊎◌, List, [], ◌∷◌, ◌++◌, eqb, length, take, replicate, Option, Some, None}
+use Rattle.std.specs.Prelude.{ℕ, ◌-◌, ◌^◌, ◌/◌, ◌%◌, ◌≤◌, ◌<◌, ◌≡◌, ◌↔◌, Bool, ◌⊎◌, List, [], ◌∷◌, ◌++◌, eqb, length, take, replicate, Option, Some, None}
 use Rattle.laws.specs.Bytes.{Bytes}
 use Rattle.laws.specs.Lists.{at}
+use Rattle.config.specs.declared.DrivingMode.{DrivingMode}
 use Rattle.config.specs.declared.Variant.TheVariants.{DA7280}
 use Rattle.std.specs.Prelude.{None, is_some}
 use Rattle.std.specs.Option.{unwrap_or}
@@ -17,7 +18,14 @@ use Rattle.outcome.specs.declared.Change.{Change}
 use Rattle.outcome.specs.declared.Change.TheVariants.{Sequences}
 use Rattle.outcome.specs.Outcome.{outcome_of, record_by}
 use Rattle.driver.specs.Operations.{declines, upload_waveform_memory}
-use Rattle.capi_driver.specs.Words.{exchange_word, reply_of, report_word, record_out, result_word, upload_of}
+use Rattle.ranges.specs.declared.Range.{Range}
+use Rattle.ranges.specs.Search.{voltage_range, imax_range, period_range}
+use Rattle.capi_driver.specs.Words.{exchange_word, reply_of, report_word, record_out, result_word, upload_of, range_word}
+
+-- a range as a number: 0 exactly where there is none, else both its ends
+abbrev pub RangeTold : Option Range → Type 0
+RangeTold range =
+    let word = range_word range in ((word ≡ 0) ↔ (range ≡ None)) × ((r : Range) → range ≡ Some r → (word % 65536 ≡ r.least) × (word / 65536 ≡ r.greatest))
 
 pub record Telling : Type 0 where
   -- da728x_pending; its word is 0 exactly where no step is left
@@ -44,3 +52,7 @@ pub record Telling : Type 0 where
   pub full : (r : DA728x) (image : List ℕ) (lock_after : Bool) → 100 < length image → upload_of r image lock_after ≡ declines 8
   pub uploads : (r : DA728x) (image : List ℕ) (lock_after : Bool) → length image ≤ 100 → let m = memory (image ++ replicate (100 - length image) 0) (length image) (at image 0) (at image 1) in
       (upload_of r image lock_after ≡ (upload_waveform_memory r m lock_after).start) × (take m.len m.«data» ≡ image) × (length m.«data» ≡ 100) × (m.num_sequences ≡ at image 1)
+  -- da728x_voltage_settings, da728x_current_settings, da728x_frequency_settings
+  pub voltages : (byte : ℕ) → RangeTold (voltage_range byte)
+  pub currents : (value : ℕ) → RangeTold (imax_range value)
+  pub frequencies : (mode : DrivingMode) (word : ℕ) → RangeTold (period_range mode word)

@@ -1,6 +1,6 @@
 -- What the functions exported for C answer as one number, and how they take what the bus answered and the bytes to upload: document 01,
 -- "functions exported for C on numbers and byte slices"; "The count of exchanges made stands in every session result"; "8 also for `from_bytes`";
--- document 02, CR 10.
+-- document 02, CR 10 and CR 12.
 use Rattle.std.specs.Prelude.{ℕ, ◌+◌, ◌-◌, ◌*◌, Bool, cond, List, [], ◌∷◌, ◌++◌, eqb, length, set, get_or, replicate, is_some, Option, Some, None}
 use Rattle.std.specs.Option.{unwrap_or}
 use Rattle.laws.specs.Lists.{at}
@@ -18,6 +18,7 @@ use Rattle.outcome.specs.declared.Change.{Change}
 use Rattle.outcome.specs.declared.Change.TheVariants.{To, Sequences}
 use Rattle.outcome.specs.declared.Outcome.{Outcome}
 use Rattle.driver.specs.Operations.{Start, unless, upload_waveform_memory}
+use Rattle.ranges.specs.declared.Range.{Range}
 
 -- the exchange to be made: how many bytes are sent, the chip's address, how many are wanted
 abbrev pub exchange_word : Exchange → ℕ
@@ -49,3 +50,8 @@ image_of image = loaded (image ++ replicate (100 - length image) 0) (length imag
 -- an upload of bytes
 unfoldable pub upload_of : DA728x → List ℕ → Bool → Start
 upload_of r image lock_after = let m = image_of image in unless m.number (upload_waveform_memory r m.builder lock_after).start
+
+-- a range of settings: the least + 65536 × the greatest, 0 for none
+abbrev pub range_word : Option Range → ℕ
+range_word None = 0
+range_word (Some r) = r.least + 65536 * r.greatest

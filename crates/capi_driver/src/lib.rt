@@ -1,7 +1,8 @@
 // The functions exported for C that drive the chip (lib.rs; document 01, 'Exchanges' and 'Rust forms without a counterpart'), on numbers
 // and byte slices; include/da728x.h declares and explains each. The caller lends the session's bytes and the record's; `da728x_pending`
 // and `da728x_answer` run the session, and the answer that completes `new` or `configure` changes the record; so do the start of an
-// upload and each answer that it takes (document 02, CR 10). Every one is total: any bytes, any lengths.
+// upload and each answer that it takes (document 02, CR 10). The last three lead from a register's value back to settings (CR 12). Every one is
+// total: any bytes, any lengths.
 // Proved: the answer and every lent byte are those of the definitions of `driver` and `exchange` for the record that the bytes hold; how
 // an answer is one number is specs/Words.antt, and proofs/Telling.antt: each word gives back its parts, and
 // an upload sends the bytes that were handed in.
@@ -10,7 +11,7 @@
 
 ghost use Rattle.std.specs.Prelude.{◌≡◌, ltb, length, take};
 ghost use Rattle.laws.specs.Copied.{copied};
-ghost use Rattle.config.specs.Codes.{variant_at};
+ghost use Rattle.config.specs.Codes.{driving_at, variant_at};
 ghost use Rattle.memory.specs.Timebase.{memory_timebase_at};
 ghost use Rattle.da728x.specs.Record.{record_at, actuator_config_at, device_config_at};
 ghost use Rattle.exchange.specs.Turn.{pending_of, report_of, turn_report, state_after, buffer_after};
@@ -18,13 +19,15 @@ ghost use Rattle.outcome.specs.Outcome.{change_by, outcome_of};
 ghost use Rattle.driver.specs.Operations as spec;
 ghost use Rattle.errors.specs.Number.{answer_number, handed_by};
 ghost use Rattle.memory.specs.Memory.{no_memory};
-ghost use Rattle.capi_driver.specs.Words.{exchange_word, reply_of, report_word, record_out, result_word, image_of, upload_of};
+ghost use Rattle.ranges.specs.Search.{voltage_range, imax_range, period_range};
+ghost use Rattle.capi_driver.specs.Words.{exchange_word, reply_of, report_word, record_out, result_word, image_of, upload_of, range_word};
 
 use da728x::DA728x;
 use errors::Error;
 use exchange::{Exchange, Reply, Turn};
 use memory::{MAX_MEMORY_SIZE, WaveformMemory};
 use outcome::{Change, Outcome};
+use ranges::Range;
 
 // What the bus answered, as a number: done, or a byte; any other is a failure.
 const DONE: u8 = 0;
@@ -356,4 +359,34 @@ fn result_word(o: Outcome) -> u64
     let value = o.value.unwrap_or(0) as u64;
     let completed = o.value.is_some() as u64;
     value + 16777216 * (o.made as u64) + 4294967296 * completed
+}
+
+#[unsafe(no_mangle)]
+pub extern "C" fn da728x_voltage_settings(byte: u8) -> u32
+    ensures { result ≡ range_word (voltage_range byte) }
+{
+    range_word(ranges::voltage(byte))
+}
+
+#[unsafe(no_mangle)]
+pub extern "C" fn da728x_current_settings(imax: u8) -> u32
+    ensures { result ≡ range_word (imax_range imax) }
+{
+    range_word(ranges::imax(imax))
+}
+
+#[unsafe(no_mangle)]
+pub extern "C" fn da728x_frequency_settings(word: u16, driving_mode: u8) -> u32
+    ensures { result ≡ range_word (period_range (driving_at driving_mode) word) }
+{
+    range_word(ranges::period(word, driving_mode.into()))
+}
+
+fn range_word(range: Option<Range>) -> u32
+    ensures { result ≡ range_word range }
+{
+    let Some(r) = range else {
+        return 0;
+    };
+    r.least as u32 + 65536 * (r.greatest as u32)
 }

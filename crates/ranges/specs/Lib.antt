@@ -1,0 +1,3 @@
+-- The definitions that the contracts of `ranges` cite, and the claim on them.
+pub mod Ranges
+pub mod Search
