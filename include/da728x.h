@@ -1,7 +1,7 @@
 /* Yambelugo: the exported functions of the proved DA7280 driver.
  *
- * Patterns, images and registers are in libcapi.a; the driver sessions, at the end, in
- * libcapi_driver.a. examples/c/pattern.c uses both:
+ * Patterns, images and registers are in libcapi.a; the driver sessions, and behind them what
+ * leads from registers back to settings, in libcapi_driver.a. examples/c/pattern.c uses both:
  *
  *     cc -Iinclude examples/c/pattern.c -Ltarget/staticlib -lcapi -lcapi_driver
  *
@@ -600,6 +600,40 @@ uint32_t da728x_answer(uint8_t *record, size_t record_len, uint8_t *session, siz
  *   bit 32       1 if it is completed: every exchange was made, without 16 or 17
  * 0 for a session of zeros or of another length. */
 uint64_t da728x_result(const uint8_t *session, size_t session_len);
+
+/* ---- from registers back to settings ---------------------------------- */
+
+/* For a bench that has read a unit's registers: which settings can have put a value there. Each
+ * function answers the least and the greatest setting that da728x_configure accepts and converts
+ * to the value, as
+ *     least + 65536 * greatest
+ * Every setting from the least to the greatest, and no other that is accepted, gives this value.
+ * 0 if no accepted setting gives it (no range is 0): test for it before you take the two apart. A
+ * setting of one answer goes with any of the others. They tell what can have been set, not that it
+ * was. They are in libcapi_driver.a, and need no record, no session and no chip.
+ *
+ * A voltage in mV, from the byte of ACTUATOR1 (at 0C), which is the nominal one, or of ACTUATOR2
+ * (0D), the absolute one. Never 0: 0 comes from 0 to 23, 255 from 5967 to 5990. */
+uint32_t da728x_voltage_settings(uint8_t byte);
+
+/* The current in mA, from IMAX, the low five bits of ACTUATOR3 (0E): lend byte & 31. 0 comes from
+ * 29 to 35, 31 from 252 alone, 32 and above from nothing. */
+uint32_t da728x_current_settings(uint8_t imax);
+
+/* The frequency in Hz, from the period word, 128 * FRQ_LRA_PER_H (0A) + (FRQ_LRA_PER_L (0B) & 127),
+ * under a driving mode: 0, 1 or 2 as in byte 19 of settings (above 2 counts as 2; 1 and 2 give the
+ * same). It is 0 exactly if FREQ_TRACK_EN, bit 3 of TOP_CFG1 (13), is set. da728x_set_frequency
+ * writes the word too, under the same limits. 2500 comes from 300 in every mode, 733 from 1022 to
+ * 1023 and 30000 from 25, but not when tracking; 2501 and 0 from nothing.
+ *
+ * What a wrong use gives:
+ *   ACTUATOR3 with its other bits    0 if one of them is set
+ *   FRQ_LRA_PER_L with bit 7         NO sign: another word, which is another frequency or none
+ *   the two registers exchanged      NO sign, likewise
+ *   another driving mode             0, or the same frequencies
+ *   registers that a chip had        NO sign: the answer is for the value that is lent, whoever
+ *   before any da728x_configure      put it there */
+uint32_t da728x_frequency_settings(uint16_t word, uint8_t driving_mode);
 
 #ifdef __cplusplus
 }

@@ -210,4 +210,8 @@ unsafe extern "C" {
         buffer_len: usize,
     ) -> u32;
     pub fn da728x_result(session: *const u8, session_len: usize) -> u64;
+
+    pub safe fn da728x_voltage_settings(byte: u8) -> u32;
+    pub safe fn da728x_current_settings(imax: u8) -> u32;
+    pub safe fn da728x_frequency_settings(word: u16, driving_mode: u8) -> u32;
 }

@@ -9,6 +9,7 @@ mod error;
 mod ffi;
 mod image;
 mod point;
+mod ranges;
 mod registers;
 
 pub use calls::{Call, Gain, Timebase, answers, current_len, frame, sequence, snippet};
@@ -19,4 +20,5 @@ pub use error::Error;
 pub use image::{Frame, IMAGE, Lists, NotAssembled, assemble, assemble_strict};
 pub use image::{read_counts, read_frame, read_lists, read_point};
 pub use point::PwlPoint;
+pub use ranges::{current_settings, frequency_settings, voltage_settings};
 pub use registers::{Group, REGISTERS, register_addresses};
