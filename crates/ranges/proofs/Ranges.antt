@@ -1,5 +1,5 @@
 -- The answers hold exactly the accepted settings that convert to a value, and these values are what is written. Assumes nothing.
-use Rattle.std.proofs.Common.{ℕ, zero, suc, ◌/◌, ◌%◌, ◌≤◌, ◌≡◌, ◌∙◌, ◌↔◌, Bool, true, false, cond, not, leb, List, [], ◌∷◌, ◌++◌, filter, Option, Some, None, refl, sym, ap, subst, subst₂, arith, true≢false, leb-true, leb-false, le-leb}
+use Rattle.std.proofs.Common.{ℕ, ◌/◌, ◌%◌, ◌≤◌, ◌≡◌, ◌∙◌, ◌↔◌, Bool, true, false, cond, not, leb, List, [], ◌∷◌, ◌++◌, filter, Option, Some, None, refl, sym, ap, subst, subst₂, arith, true≢false, leb-true, leb-false, le-leb}
 use Rattle.std.proofs.lemmas.List.Elements.{filter-append}
 use Rattle.config.specs.declared.ActuatorConfig.{ActuatorConfig}
 use Rattle.config.specs.declared.ActuatorType.TheVariants.{LRA}
@@ -11,6 +11,7 @@ use Rattle.config.specs.declared.Variant.TheVariants.{DA7280}
 use Rattle.checks.specs.Checks.{tracking, etwm, outside_band, first_failing}
 use Rattle.checks.specs.InRange.{InRange}
 use Rattle.checks.proofs.Accepted as checked
+use Rattle.checks.proofs.Tests.{tracks, untracks}
 use Rattle.convert.specs.Convert.{voltage_byte, imax_code, period_word}
 use Rattle.config.specs.declared.TriggerConfig.{TriggerConfig}
 use Rattle.convert.specs.Convert.{low_part}
@@ -30,28 +31,9 @@ use Prim.Native.String.{String, ◌++◌ as ◌&◌}
 use Rattle.ranges.specs.declared.Range.{Range}
 use Rattle.ranges.specs.Search.{accepted_voltage, accepted_current, accepted_frequency, voltage_range, imax_range, period_range, span}
 use Rattle.ranges.specs.Ranges.{Taken, Place, Nominal, Absolute, Current, Frequency, IsAccepted, Exactly, Answered, to_source, from_to, Ranges}
-use Rattle.ranges.proofs.Ends.{Between, in_band, voltages, currents, frequencies, no_frequency, voltage_is, imax_is, period_is, none_is}
+use Rattle.ranges.proofs.Ends.{Between, in_band, in_limits, voltages, currents, frequencies, voltage_is, imax_is, period_is}
 
 -- ---- which settings are taken
-
-tracked_off : (m : DrivingMode) → tracking m ≡ false → ¬ (m ≡ FREQUENCY_TRACK)
-tracked_off m f e = true≢false (sym (ap tracking e) ∙ f)
-
--- a mode's band, as the ranges of document 01 say it
-band : (mode : DrivingMode) (hz : ℕ) → (accepted_frequency mode hz ≡ true)
-    ↔ ((mode ≡ FREQUENCY_TRACK → (50 ≤ hz) × (hz ≤ 300)) × (¬ (mode ≡ FREQUENCY_TRACK) → (25 ≤ hz) × (hz ≤ 1024)))
-band FREQUENCY_TRACK hz = let i = in_band FREQUENCY_TRACK hz in (λ e. (λ t. i.0 e, λ u. absurd (u refl)), λ p. i.1 (p.0 refl))
-band WIDEBAND hz =
-    let i = in_band WIDEBAND hz in
-    let u = tracked_off WIDEBAND refl in
-    (λ e. (λ t. absurd (u t), λ u. i.0 e), λ p. i.1 (p.1 u))
-band CUSTOM_WAVEFORM hz =
-    let i = in_band CUSTOM_WAVEFORM hz in
-    let u = tracked_off CUSTOM_WAVEFORM refl in
-    (λ e. (λ t. absurd (u t), λ u. i.0 e), λ p. i.1 (p.1 u))
-
-in_limits : (mA : ℕ) → (accepted_current mA ≡ true) ↔ ((29 ≤ mA) × (mA ≤ 252))
-in_limits mA = (λ e. (grind arith, grind arith), λ h. grind arith)
 
 -- settings with the numbers given and all else plain
 module _ (nominal absolute current hz : ℕ) (mode : DrivingMode) where
@@ -78,32 +60,25 @@ module _ (nominal absolute current hz : ℕ) (mode : DrivingMode) where
     rapid_stop = false;
   }
 
-  abbrev taken : accepted_voltage nominal ≡ true → accepted_voltage absolute ≡ true → accepted_current current ≡ true → accepted_frequency mode hz ≡ true → Taken
-  taken h g l f =
+  within : accepted_voltage nominal ≡ true → accepted_voltage absolute ≡ true → accepted_current current ≡ true → accepted_frequency mode hz ≡ true → InRange DA7280 actuator device
+  within h g l f =
+      let b = (in_band mode hz).0 f in
+      let no_etwm : ¬ (INACTIVE ≡ ETWM_MODE) = λ e. true≢false (sym (ap etwm e)) in
       record {
-        variant = DA7280;
-        actuator = actuator;
-        device = device;
-        taken = (checked.exact DA7280 actuator device).1 within_range;
-      } where
-        no_etwm : ¬ (INACTIVE ≡ ETWM_MODE)
-        no_etwm e = true≢false (sym (ap etwm e))
+        nominal = leb-true nominal 5990 h;
+        absolute = leb-true absolute 5990 g;
+        current = (in_limits current).0 l;
+        impedance = (omega arith, omega arith);
+        tracking = λ p. let t = ap tracking p in (grind arith, grind arith);
+        untracked = λ u. let t = (untracks mode).1 u in (grind arith, grind arith, refl);
+        rapid_stop = refl;
+        triggers = λ e. absurd (no_etwm e);
+        single = λ e. absurd (no_etwm e);
+        sequences = λ e. absurd (no_etwm e);
+      }
 
-        within_range : InRange DA7280 actuator device
-        within_range =
-            let within = (band mode hz).0 f in
-            record {
-              nominal = leb-true nominal 5990 h;
-              absolute = leb-true absolute 5990 g;
-              current = (in_limits current).0 l;
-              impedance = (omega arith, omega arith);
-              tracking = within.0;
-              untracked = λ u. let w = within.1 u in (w.0, w.1, refl);
-              rapid_stop = refl;
-              triggers = λ e. absurd (no_etwm e);
-              single = λ e. absurd (no_etwm e);
-              sequences = λ e. absurd (no_etwm e);
-            }
+  abbrev taken : accepted_voltage nominal ≡ true → accepted_voltage absolute ≡ true → accepted_current current ≡ true → accepted_frequency mode hz ≡ true → Taken
+  taken h g l f = record { variant = DA7280; actuator = actuator; device = device; taken = (checked.exact DA7280 actuator device).1 (within h g l f) }
 
 -- ---- the accepted settings
 
@@ -128,13 +103,15 @@ currents_are mA = (
   λ p. subst (λ (n : ℕ). accepted_current n ≡ true) p.1 ((in_limits p.0.actuator.max_current_mA).1 (in_range p.0).current),
 )
 
+of_range : (s : Taken) (t : Bool) → tracking s.device.driving_mode ≡ t → accepted_frequency s.device.driving_mode s.actuator.frequency_Hz ≡ true
+of_range s true t = let b = (in_range s).tracking (tracks _ t) in (in_band s.device.driving_mode s.actuator.frequency_Hz).1 (grind arith, grind arith)
+of_range s false t = let b = (in_range s).untracked ((untracks _).0 t) in (in_band s.device.driving_mode s.actuator.frequency_Hz).1 (grind arith, grind arith)
+
 frequencies_are : (mode : DrivingMode) (hz : ℕ) → (accepted_frequency mode hz ≡ true) ↔ IsAccepted (Frequency mode) hz
 frequencies_are mode hz = (
   λ e. (taken 0 0 29 hz mode refl refl refl e, (refl, refl)),
   λ p.
-      let r = in_range p.0 in
-      subst₂ (λ (m : DrivingMode) (n : ℕ). accepted_frequency m n ≡ true) p.1.0 p.1.1
-      ((band p.0.device.driving_mode p.0.actuator.frequency_Hz).1 (r.tracking, λ u. let w = r.untracked u in (w.0, w.1))),
+      subst₂ (λ (m : DrivingMode) (n : ℕ). accepted_frequency m n ≡ true) p.1.0 p.1.1 (of_range p.0 (tracking p.0.device.driving_mode) refl),
 )
 
 together : (mode : DrivingMode) (nominal absolute mA hz : ℕ) → IsAccepted Nominal nominal → IsAccepted Absolute absolute → IsAccepted Current mA
@@ -160,10 +137,6 @@ module _ (P : Place) (accepts : ℕ → Bool) (converts : ℕ → ℕ) (accepted
   answered : (range : ℕ → Option Range) → ((value : ℕ) → (a : ℕ) × (b : ℕ) × Between accepts converts value a b × (range value ≡ span a b)) → Answered P accepts converts range
   answered range found =
       record { accepted = accepted; exactly = λ value. let f = found value in subst (Exactly P converts value) (sym f.3) (of_span value f.0 f.1 f.2) }
-
-found_frequency : (mode : DrivingMode) (word : ℕ) → (a : ℕ) × (b : ℕ) × Between (accepted_frequency mode) period_word word a b × (period_range mode word ≡ span a b)
-found_frequency mode zero = (1, 0, no_frequency mode, none_is mode)
-found_frequency mode (suc w) = (_, _, frequencies mode (suc w) (omega arith), period_is mode (suc w) (omega arith))
 
 -- ---- what is written
 
@@ -244,10 +217,10 @@ ranges = record {
   nominal = answered Nominal accepted_voltage voltage_byte nominals voltage_range (λ byte. (_, _, voltages byte, voltage_is byte));
   absolute = answered Absolute accepted_voltage voltage_byte absolutes voltage_range (λ byte. (_, _, voltages byte, voltage_is byte));
   current = answered Current accepted_current imax_code currents_are imax_range (λ value. (_, _, currents value, imax_is value));
-  frequency = λ mode. answered (Frequency mode) (accepted_frequency mode) period_word (frequencies_are mode) (period_range mode) (found_frequency mode);
+  frequency = λ mode. answered (Frequency mode) (accepted_frequency mode) period_word (frequencies_are mode) (period_range mode) (λ word. (_, _, frequencies mode word, period_is mode word));
   together = together;
   written = written;
   swept = λ r hz. swept r hz r.settings;
   examples = (voltage_is 255, imax_is 0, imax_is 32);
-  more = (imax_is 31, period_is WIDEBAND 733 (omega arith), period_is FREQUENCY_TRACK 733 (omega arith), period_is CUSTOM_WAVEFORM 4411 (omega arith), period_is FREQUENCY_TRACK 4411 (omega arith), none_is WIDEBAND);
+  more = (imax_is 31, period_is WIDEBAND 733, period_is FREQUENCY_TRACK 733, period_is CUSTOM_WAVEFORM 4411, period_is FREQUENCY_TRACK 4411, period_is WIDEBAND 0);
 }

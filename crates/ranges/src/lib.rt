@@ -37,7 +37,7 @@ pub fn imax(value: u8) -> Option<Range>
 }
 
 // In hertz, from the period word of FRQ_LRA_PER_H and FRQ_LRA_PER_L.
-#[tactic(auto, using(crate::proofs::Ends::period_is, crate::proofs::Ends::none_is))]
+#[tactic(auto, using(crate::proofs::Ends::period_is))]
 pub fn period(word: u16, mode: DrivingMode) -> Option<Range>
     ensures { result ≡ spec.period_range mode word }
 {
