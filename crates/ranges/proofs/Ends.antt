@@ -31,8 +31,8 @@ last greatest to = min greatest ((to + 999) / 1000 - 1)
 
 pub voltages : (byte : ℕ) → Between accepted_voltage voltage_byte byte (first (23400 * byte)) (last 5990 (23400 * byte + 23400))
 voltages byte n = (
-  λ h. let k = leb-true n 5990 h.0 in let e = h.1 in (omega arith, omega arith),
-  λ h. (le-leb n 5990 (omega arith), omega arith),
+  λ h. let k = leb-true n _ h.0 in let e = h.1 in (omega arith, omega arith),
+  λ h. (le-leb n _ (omega arith), omega arith),
 )
 
 pub in_limits : (mA : ℕ) → (accepted_current mA ≡ true) ↔ ((29 ≤ mA) × (mA ≤ 252))
