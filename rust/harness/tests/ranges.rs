@@ -47,7 +47,7 @@ impl Answered {
     }
 }
 
-/// Every setting was run on the published Rust, and it accepts those that documents 01 and 02 say.
+/// What the published Rust is asked: every setting was run, and those behind the values are the accepted ones of document 01, each once.
 #[test]
 fn every_setting_is_behind_some_value() {
     let sources = Sources::published();
@@ -360,8 +360,8 @@ fn set_frequency_writes_a_word_of_its_frequency() {
     compared("frequencies set", cases, 251 + 1000 + 1000);
 }
 
-/// FREQ_TRACK_EN is set exactly when the mode is FREQUENCY_TRACK, in every operation mode; the header reads the fields where the published
-/// register types have them.
+/// FREQ_TRACK_EN as `configure` writes it against the driving mode, in every operation mode; and the bits that the header takes for a field
+/// against the published register types.
 #[test]
 fn fields_that_are_asked_for() {
     let mut cases = 0;
@@ -394,7 +394,8 @@ fn fields_that_are_asked_for() {
     compared("fields", cases, 4 * 256);
 }
 
-/// Where the two places are, so that a byte is not read off the other's register.
+/// ACTUATOR1 has the nominal voltage and ACTUATOR2 the absolute one: plain bytes against what `configure` writes, on the library and on the
+/// published Rust.
 #[test]
 fn places() {
     let mut settings = Settings::plain(OperationMode::INACTIVE, WIDE);

@@ -44,7 +44,7 @@ fn frequency(choices: &mut Choices, hands: &mut Hands) {
         1 => 700 + choices.below(2000) as u16,
         _ => choices.pick(&WORDS),
     };
-    let mode = choices.pick(&[0, 0, 1, 2, 3, 255]);
+    let mode = choices.random().near(&[0, 0, 1, 2, 3, 255]);
     let told = hands.call(da728x_frequency_settings, choices, [], |[]| {
         ffi::da728x_frequency_settings(word, mode).into()
     });
