@@ -409,7 +409,8 @@ impl Published {
         outcome.answer.err().map(|(number, _)| number)
     }
 
-    fn run(&mut self, operation: &Operation, script: &Script, until: usize) -> Outcome {
+    /// What the published driver makes of an operation, with nothing that the documents add.
+    pub fn run(&mut self, operation: &Operation, script: &Script, until: usize) -> Outcome {
         *self.wire.borrow_mut() = Wire::until(script, until);
         let mut lent = markers(operation.room());
         let buffer = &mut lent[GUARD..GUARD + operation.room()];

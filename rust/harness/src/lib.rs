@@ -11,6 +11,7 @@ pub mod lists;
 pub mod oracle;
 pub mod patterns;
 pub mod random;
+pub mod ranges;
 pub mod raw;
 pub mod records;
 pub mod registers;

@@ -262,5 +262,5 @@ fn prototypes_are_those_of_the_exports() {
     let exported = sorted(exported());
     assert_eq!(sorted(declared()), exported);
     assert_eq!(sorted(wrapped()), exported);
-    compared("prototypes", exported.len(), 24 + 21);
+    compared("prototypes", exported.len(), 24 + 24);
 }

@@ -1,6 +1,7 @@
 //! The exported functions, with what the header lists for each.
 
-/// Counts where there is nothing to tell: no such point or frame, a session that has ended, one that is not completed.
+/// Counts where there is nothing to tell: no such point or frame, a session that has ended, one that is not completed, a value that comes
+/// from no setting.
 pub const NOTHING: u64 = 31;
 
 /// Added to a refusal of `build` or of the buffer, where those of calls are told too.
@@ -16,7 +17,7 @@ macro_rules! functions {
         pub enum Function { $($name),* }
 
         /// Each function, its name, and every number that it can tell: 0 where it is done.
-        pub const FUNCTIONS: [(Function, &str, &[u64]); 45] =
+        pub const FUNCTIONS: [(Function, &str, &[u64]); 48] =
             [$((Function::$name, stringify!($name), &[$($number),*])),*];
     };
 }
@@ -68,6 +69,9 @@ functions! {
     da728x_pending: 0, NOTHING;
     da728x_answer: 0, 16, 17, 19;
     da728x_result: 0, NOTHING;
+    da728x_voltage_settings: 0;
+    da728x_current_settings: 0, NOTHING;
+    da728x_frequency_settings: 0, NOTHING;
 }
 
 impl Function {

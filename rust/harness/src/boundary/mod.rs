@@ -6,6 +6,7 @@ mod choices;
 mod functions;
 mod hands;
 mod patterns;
+mod ranges;
 mod rooms;
 mod sessions;
 
@@ -17,7 +18,7 @@ use hands::Hands;
 use patterns::Patterns;
 use sessions::Sessions;
 
-/// How often each function is called: the last ones, which move a session on, and those that tell the most numbers more often.
+/// How often each function is called: those that move a session on, and those that tell the most numbers, more often.
 fn weight(function: Function) -> usize {
     match function {
         Function::da728x_answer => 24,
@@ -85,10 +86,13 @@ impl<'a> Boundary<'a> {
 
     fn call(&mut self, function: Function) {
         let Self { choices, hands, patterns, sessions, .. } = self;
-        if (function as usize) < Function::da728x_new as usize {
+        let at = function as usize;
+        if at < Function::da728x_new as usize {
             patterns.call(function, choices, hands);
-        } else {
+        } else if at < Function::da728x_voltage_settings as usize {
             sessions.call(function, choices, hands, patterns);
+        } else {
+            ranges::call(function, choices, hands);
         }
     }
 }

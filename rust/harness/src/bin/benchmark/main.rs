@@ -52,8 +52,8 @@ extern "Rust" fn measured(side: Side, inputs: &Inputs) -> Done {
 fn compare() {
     let inputs = Inputs::new(TIMED);
     let small = Inputs::new(COUNTED);
-    println!("{:29} {:^26} {:^26}", "", "instructions", "nanoseconds");
-    println!("{:29} {HEADS} {HEADS}  goal", "what one (unit) costs");
+    println!("{:33} {:^26} {:^26}", "", "instructions", "nanoseconds");
+    println!("{:33} {HEADS} {HEADS}  goal", "what one (unit) costs");
     let mut building = None;
     for (number, work) in WORKS.iter().enumerate() {
         let ours = work_of(number, "ours", &inputs, &small);
@@ -68,12 +68,12 @@ fn compare() {
         let theirs = theirs.as_ref().and_then(|it| it.instructions);
         building = building.or(ours.instructions);
         let judged = judged(work.goal, ours.instructions, theirs, building);
-        println!("{name:29} {costs}  {judged}");
+        println!("{name:33} {costs}  {judged}");
     }
-    println!("\n{:29} {:>9} {:>9}", "bytes of stack", "Rust", "this");
+    println!("\n{:33} {:>9} {:>9}", "bytes of stack", "Rust", "this");
     for (name, ours, theirs) in stack::depths(&small) {
         let theirs = theirs.map_or("-".into(), |it| it.to_string());
-        println!("{name:29} {theirs:>9} {ours:>9}");
+        println!("{name:33} {theirs:>9} {ours:>9}");
     }
 }
 

@@ -38,6 +38,8 @@ pub struct Inputs {
     images: Vec<[u8; IMAGE]>,
     accepted: Vec<Case>,
     refused: Vec<Case>,
+    /// Period words that come from some frequency, with the mode.
+    words: Vec<(u16, u8)>,
 }
 
 /// Lists of calls in the forms in which the two sides take them.
@@ -81,7 +83,14 @@ impl Inputs {
                 refused.push(case);
             }
         }
-        Self { patterns, mended, images, accepted, refused }
+        let period = |hz: u64| (100_000_000_000 / (133_332 * hz)) as u16;
+        let bands = [(50, 300), (25, 1024), (25, 1024)];
+        let words = (0..cases).map(|i| {
+            let (low, high) = bands[i % 3];
+            (period(random.within(low, high) as u64), (i % 3) as u8)
+        });
+        let words = words.collect();
+        Self { patterns, mended, images, accepted, refused, words }
     }
 }
 
@@ -121,7 +130,7 @@ pub struct Work {
     pub goal: Goal,
 }
 
-pub const WORKS: [Work; 13] = [
+pub const WORKS: [Work; 16] = [
     Work {
         name: "images",
         unit: "image",
@@ -207,6 +216,27 @@ pub const WORKS: [Work; 13] = [
         theirs: Some(their_uploads),
         ours: our_uploads,
         goal: Goal::AtMost(300.0),
+    },
+    Work {
+        name: "settings of a voltage byte",
+        unit: "byte",
+        theirs: None,
+        ours: our_voltages,
+        goal: Goal::AtMost(60.0),
+    },
+    Work {
+        name: "settings of an IMAX",
+        unit: "IMAX",
+        theirs: None,
+        ours: our_currents,
+        goal: Goal::AtMost(60.0),
+    },
+    Work {
+        name: "settings of a period word",
+        unit: "word",
+        theirs: None,
+        ours: our_frequencies,
+        goal: Goal::AtMost(60.0),
     },
 ];
 
@@ -605,4 +635,31 @@ fn our_uploads(inputs: &Inputs) -> Done {
     }
     assert_eq!(record[COUNT], inputs.images.last().unwrap()[1]);
     Done { count: bus.0.count - 1, ..bus.0 }
+}
+
+/// Of every byte, over and over.
+fn our_voltages(inputs: &Inputs) -> Done {
+    let bytes = (0..inputs.words.len()).map(|i| i as u8);
+    ranges(bytes.map(|byte| ffi::da728x_voltage_settings(byte)))
+}
+
+/// Of the 32 that come from some current.
+fn our_currents(inputs: &Inputs) -> Done {
+    let values = (0..inputs.words.len()).map(|i| i as u8 % 32);
+    ranges(values.map(|imax| ffi::da728x_current_settings(imax)))
+}
+
+fn our_frequencies(inputs: &Inputs) -> Done {
+    let words = inputs.words.iter();
+    ranges(words.map(|(word, mode)| ffi::da728x_frequency_settings(*word, *mode)))
+}
+
+/// How many there were; each has to be a range.
+fn ranges(told: impl Iterator<Item = u32>) -> Done {
+    let mut done = Done::default();
+    for word in told {
+        assert_ne!(black_box(word), 0);
+        done.count += 1;
+    }
+    done
 }
