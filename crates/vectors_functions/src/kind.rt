@@ -26,6 +26,9 @@ pub enum Kind {
     Answers,
     AssembleStrict,
     ReadLists,
+    VoltageSettings,
+    CurrentSettings,
+    FrequencySettings,
 }
 
 impl TryFrom<u8> for Kind {
@@ -55,6 +58,9 @@ impl TryFrom<u8> for Kind {
             20 => Ok(Kind::Answers),
             21 => Ok(Kind::AssembleStrict),
             22 => Ok(Kind::ReadLists),
+            23 => Ok(Kind::VoltageSettings),
+            24 => Ok(Kind::CurrentSettings),
+            25 => Ok(Kind::FrequencySettings),
             _ => Err(UnknownKind(number)),
         }
     }

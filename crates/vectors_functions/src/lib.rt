@@ -43,14 +43,14 @@ impl Case<'_> {
         let b = byte_at(self.arguments, 1);
         let c = byte_at(self.arguments, 2);
         match kind {
-            Kind::Point => self.told(|_| capi::da728x_point(a, b, c) as u64),
-            Kind::PointIsRamp => self.told(|_| capi::da728x_point_is_ramp(a) as u64),
-            Kind::PointTimebases => self.told(|_| capi::da728x_point_timebases(a) as u64),
-            Kind::PointAmplitude => self.told(|_| capi::da728x_point_amplitude(a) as u64),
+            Kind::Point => self.word_is(capi::da728x_point(a, b, c) as u64),
+            Kind::PointIsRamp => self.word_is(capi::da728x_point_is_ramp(a) as u64),
+            Kind::PointTimebases => self.word_is(capi::da728x_point_timebases(a) as u64),
+            Kind::PointAmplitude => self.word_is(capi::da728x_point_amplitude(a) as u64),
             Kind::Snippet => self.told(|out| capi::da728x_snippet(calls, out) as u64),
             Kind::Frame => self.told(|out| capi::da728x_frame(calls, out) as u64),
             Kind::Sequence => self.told(|out| capi::da728x_sequence(calls, out) as u64),
-            Kind::CurrentLen => self.told(|_| capi::da728x_current_len(calls) as u64),
+            Kind::CurrentLen => self.word_is(capi::da728x_current_len(calls) as u64),
             Kind::Answers => {
                 self.told(|out| capi::da728x_answers(calls, out) as u64)
                     && self.told(|out| vectors_values::answers(calls, out))
@@ -78,7 +78,18 @@ impl Case<'_> {
             }
             Kind::ReplaceControl => self.told(|out| capi::da728x_replace_control(a, b, out) as u64),
             Kind::ReplaceTrigger => self.told(|out| capi::da728x_replace_trigger(a, b, out) as u64),
+            Kind::VoltageSettings => self.word_is(capi_driver::da728x_voltage_settings(a) as u64),
+            Kind::CurrentSettings => self.word_is(capi_driver::da728x_current_settings(a) as u64),
+            Kind::FrequencySettings => {
+                let word = u16::from_be_bytes([a, b]);
+                self.word_is(capi_driver::da728x_frequency_settings(word, c) as u64)
+            }
         }
+    }
+
+    // Whether this is the word told, and no slice is lent.
+    fn word_is(&self, word: u64) -> bool {
+        word == number(self.word) && self.out.is_empty()
     }
 
     // Whether a call answers the word, and leaves these bytes in the slice lent, which it finds filled with the marker.

@@ -39,6 +39,9 @@ fn listed(sample: &str) -> Vec<(&str, &str, usize)> {
         .collect()
 }
 
+/// The functions that every session uses.
+const SHARED: [&str; 3] = ["pending", "answer", "result"];
+
 /// Each exported function of the header, by name without `da728x_`.
 fn exported() -> Vec<String> {
     let header = text("include/da728x.h");
@@ -67,10 +70,12 @@ fn every_kind_is_there() {
     }
     assert_eq!(sections.next(), None);
 
-    let named = kinds.iter().flat_map(|(_, names, _)| names.split(", "));
-    let named: Vec<&str> = named.chain(["pending", "answer", "result"]).collect();
-    assert_eq!(exported(), named);
-    compared("cases of the stored sample", cases, 4946);
+    let named: Vec<&str> = kinds.iter().flat_map(|(_, names, _)| names.split(", ")).collect();
+    let exported = exported();
+    let (shared, of_kinds): (Vec<&str>, Vec<&str>) =
+        exported.iter().map(String::as_str).partition(|name| SHARED.contains(name));
+    assert_eq!((&shared[..], of_kinds), (&SHARED[..], named));
+    compared("cases of the stored sample", cases, 5126);
 }
 
 fn bytes(field: &str) -> Vec<u8> {
@@ -153,4 +158,39 @@ fn short_buffers_are_there() {
     let met: Vec<_> = kinds.iter().zip(words).map(|(kind, word)| short(kind, word)).collect();
     println!("short buffers in the sample: {met:?}");
     assert!(met.iter().all(|cases| *cases > 10), "{met:?}");
+}
+
+/// Values of registers that come from many settings, from two, from one and from none: voltages at both ends, every IMAX up to 40, and
+/// period words under every driving mode.
+#[test]
+fn settings_of_values_are_there() {
+    let sample = text("crates/vectors/stdin");
+    // The arguments, and how many settings there are.
+    let asked = |kind: &str| -> Vec<(Vec<u8>, usize)> {
+        let cases = sample.lines().map(|line| line.split(' ').collect::<Vec<_>>());
+        cases
+            .filter(|case| case[0] == kind)
+            .map(|case| {
+                let word = usize::from_str_radix(case[3], 16).unwrap();
+                let settings = if word == 0 { 0 } else { word / 65536 + 1 - word % 65536 };
+                (bytes(case[1]), settings)
+            })
+            .collect()
+    };
+    let voltages = asked("17");
+    assert!(voltages.iter().all(|(_, settings)| [23, 24].contains(settings)));
+    assert!([0, 1, 254, 255].iter().all(|byte| voltages.iter().any(|(it, _)| it == &[*byte])));
+    let currents = asked("18");
+    assert!(currents.iter().all(|(it, settings)| (*settings > 0) == (it[0] < 32)));
+    assert!((0..=40).all(|imax| currents.iter().any(|(it, _)| it == &[imax])));
+
+    let (mut met, mut codes) = ([[0; 3]; 2], std::collections::BTreeSet::new());
+    for (arguments, settings) in asked("19") {
+        met[usize::from(arguments[2] != 0)][settings] += 1;
+        codes.insert(arguments[2]);
+    }
+    println!("period words when tracking and when not, of no frequency, one and two: {met:?}");
+    let [[none, one, two], others] = met;
+    assert!(none > 5 && one > 5 && two == 0 && others.iter().all(|cases| *cases > 1), "{met:?}");
+    assert_eq!(Vec::from_iter(codes), [0, 1, 2, 3, 255]);
 }

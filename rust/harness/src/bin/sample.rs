@@ -2,9 +2,10 @@
 //! argument `told`, what the program `vectors` has to say of it, `crates/vectors/stdout`.
 //!
 //! No expected value is of the proved library. Answers, bytes and exchanges are the published
-//! Rust's; the numbers of refusals, the low two bits of TRIM4, a trigger's mode bit, the layout of records, the count of sequences in
-//! them and what lies outside the comparison are document 01's and 02's; what an image holds is told by the plain reader, and the Rust
-//! has to make the same image of that.
+//! Rust's, and the settings of a register's value are those for which its `configure` writes it
+//! (`harness::ranges`); the numbers of refusals, the low two bits of TRIM4, a trigger's mode bit, the layout of records, the count of
+//! sequences in them and what lies outside the comparison are document 01's and 02's; what an image holds is told by the plain reader,
+//! and the Rust has to make the same image of that.
 
 use da728x::waveform::PwlPoint;
 use harness::bus::{Script, Wire, kind};
@@ -16,17 +17,18 @@ use harness::lists::MARKER;
 use harness::oracle::{Builders, NOT_BEGUN, number, point};
 use harness::patterns;
 use harness::random::Random;
+use harness::ranges::{PLACES, Sources};
 use harness::raw::{LISTS, result_word};
 use harness::registers::{ADDRESSES, Field, GROUPS};
-use harness::settings::{MEMORY_TIMEBASES, Settings, VARIANTS, near};
+use harness::settings::{DRIVINGS, MEMORY_TIMEBASES, Settings, VARIANTS, near};
 use harness::text;
 use harness::whole::Judged;
 use std::fmt::Write;
-use yambelugo::{Call, OperationMode, Reply, Variant};
+use yambelugo::{Call, DrivingMode, OperationMode, Reply, Variant};
 
 /// Each kind of case: its number, the name of its C function without `da728x_`, and how many there
 /// are. A kind's cases depend on nothing but its number and how many they are.
-const KINDS: [(u8, &str, usize); 40] = [
+const KINDS: [(u8, &str, usize); 43] = [
     (0x01, "point", 300),
     (0x02, "point_is_ramp", 256),
     (0x03, "point_timebases", 256),
@@ -67,10 +69,23 @@ const KINDS: [(u8, &str, usize); 40] = [
     (0x2F, "select_sequence", 120),
     (0x30, "start_sequence", 80),
     (0x31, "play_sequence", 120),
+    (0x17, "voltage_settings", 60),
+    (0x18, "current_settings", 60),
+    (0x19, "frequency_settings", 60),
 ];
 
 /// The lengths of buffer that the addresses are copied into.
 const ADDRESS_ROOMS: [usize; 8] = [0, 1, 2, 21, 41, 42, 43, 50];
+
+/// The voltage bytes that are asked for first.
+const VOLTAGES: [u8; 12] = [0, 1, 2, 105, 106, 107, 127, 128, 149, 253, 254, 255];
+
+/// The period words that are asked for first, each when tracking and when not: the ends of both
+/// bands with their neighbours, words of one frequency and of two, the ends of 15 and of 16 bits.
+const WORDS: [u16; 21] = [
+    0, 1, 731, 732, 733, 734, 735, 837, 2499, 2500, 2501, 4411, 14999, 15000, 15001, 29999, 30000,
+    30001, 32767, 32768, 65535,
+];
 
 /// The longest line that the program takes.
 const LONGEST: usize = 4096;
@@ -80,7 +95,8 @@ Answers of the published Rust to random calls near the limits, refused ones amon
 buffer is too short for its item, its image or its lists; its InvalidValue as 21, 22 or 23 where
 document 02 tells it apart, the low two bits of TRIM4 as document 01 has them, bit 2 of a GPI
 register as its trigger's mode, custom drive points written, where the Rust has no body for it, and
-28 for the number of a sequence that is not loaded.
+28 for the number of a sequence that is not loaded. The settings of a register's value are those for
+which the Rust's configure, run for every setting, writes it, less those that document 01 refuses.
 Written by `scripts/remake-vectors` (rust/harness/src/bin/sample.rs), never by hand; read by the
 program `vectors`. The Rust is da728x-rs, revision REVISION, in rust/oracle, with these sums:
 SUMS
@@ -90,7 +106,7 @@ first field is the number of the kind. Every lent byte is A5 before, and the byt
 as the field has that shows them after. Numbers have the most significant byte first. Functions,
 layouts and words are those of include/da728x.h.
 
-Kinds 01 to 09 and 0B to 16: the numbers among the arguments, the calls or the image, the word
+Kinds 01 to 09 and 0B to 19: the numbers among the arguments, the calls or the image, the word
 answered, the bytes lent.
 Kind 0A: the image, the word of read_counts, then three bytes of read_point for each point of snippet
 0, of 1 and so on up to the first snippet that there is not, each with the answer past its last
@@ -168,6 +184,7 @@ fn fields(kind: u8, at: usize, random: &mut Random) -> Vec<Vec<u8>> {
         0x16 => listed(at, random),
         0x0B => copied(&[], ADDRESSES.iter().map(|it| it.1).collect(), ADDRESS_ROOMS[at]),
         0x0C..=0x13 => register_fields(kind, random),
+        0x17..=0x19 => settings_of(kind, at, random),
         0x20 => made(random),
         _ => operated(kind, random),
     }
@@ -491,6 +508,50 @@ fn register_fields(kind: u8, random: &mut Random) -> Vec<Vec<u8>> {
     };
     let all = list.len();
     copied(&arguments, list, random.pick(&[all, all, all, all + 1, all - 1, 1, 0]))
+}
+
+// ---- from registers back to settings
+
+/// The settings of a voltage byte, of an IMAX, or of a period word under a driving mode's code.
+fn settings_of(kind: u8, at: usize, random: &mut Random) -> Vec<Vec<u8>> {
+    let sources = Sources::published();
+    let (arguments, settings) = match kind {
+        0x17 => {
+            let byte = VOLTAGES.get(at).copied().unwrap_or_else(|| random.byte());
+            let [nominal, absolute] = PLACES.map(|place| sources.voltage(place, byte));
+            assert_eq!(nominal, absolute, "{byte:02X}");
+            (vec![byte], nominal)
+        }
+        0x18 => {
+            let mut first = (0..=40).chain([63, 64, 127, 128, 254, 255]);
+            let imax = first.nth(at).unwrap_or_else(|| random.within(41, 255) as u8);
+            (vec![imax], sources.current(imax))
+        }
+        _ => {
+            let code = if at.is_multiple_of(2) { 0 } else { random.pick(&[1, 2, 3, 255]) };
+            let mode = DRIVINGS[usize::from(code).min(2)];
+            let word = match WORDS.get(at / 2) {
+                Some(word) => *word,
+                None => near_period(sources, mode, random),
+            };
+            ([&word.to_be_bytes()[..], &[code]].concat(), sources.frequency(word, mode))
+        }
+    };
+    let word = settings.map_or(0, |it| u64::from(*it.start()) + 65536 * u64::from(*it.end()));
+    vec![arguments, vec![], bytes_of(word), vec![]]
+}
+
+/// The word of an accepted frequency, or one beside it.
+fn near_period(sources: &Sources, mode: DrivingMode, random: &mut Random) -> u16 {
+    let frequency = match mode {
+        DrivingMode::FREQUENCY_TRACK => random.within(50, 300),
+        _ => random.within(25, 1024),
+    };
+    let gives = |word: &u16| {
+        sources.frequency(*word, mode).is_some_and(|it| it.contains(&(frequency as u16)))
+    };
+    let word = (0..=32767).find(gives).expect("the word of an accepted frequency");
+    random.pick(&[word - 1, word, word, word + 1])
 }
 
 // ---- sessions
