@@ -612,8 +612,9 @@ uint64_t da728x_result(const uint8_t *session, size_t session_len);
  * setting of one answer goes with any of the others. They tell what can have been set, not that it
  * was. They are in libcapi_driver.a, and need no record, no session and no chip.
  *
- * A voltage in mV, from the byte of ACTUATOR1 (at 0C), which is the nominal one, or of ACTUATOR2
- * (0D), the absolute one. Never 0: 0 comes from 0 to 23, 255 from 5967 to 5990. */
+ * A voltage in mV, from the byte of ACTUATOR1 (at 0C; the addresses here are hexadecimal), which is
+ * the nominal one, or of ACTUATOR2 (0D), the absolute one. Never 0: 0 comes from 0 to 23, 255 from
+ * 5967 to 5990. */
 uint32_t da728x_voltage_settings(uint8_t byte);
 
 /* The current in mA, from IMAX, the low five bits of ACTUATOR3 (0E): lend byte & 31. 0 comes from
@@ -622,9 +623,10 @@ uint32_t da728x_current_settings(uint8_t imax);
 
 /* The frequency in Hz, from the period word, 128 * FRQ_LRA_PER_H (0A) + (FRQ_LRA_PER_L (0B) & 127),
  * under a driving mode: 0, 1 or 2 as in byte 19 of settings (above 2 counts as 2; 1 and 2 give the
- * same). It is 0 exactly if FREQ_TRACK_EN, bit 3 of TOP_CFG1 (13), is set. da728x_set_frequency
- * writes the word too, under the same limits. 2500 comes from 300 in every mode, 733 from 1022 to
- * 1023 and 30000 from 25, but not when tracking; 2501 and 0 from nothing.
+ * same). A unit that was set up has mode 0 exactly if FREQ_TRACK_EN, bit 3 of TOP_CFG1 (13), is
+ * set. da728x_set_frequency writes the word too, under the same limits. 2500 comes from 300 in
+ * every mode, 733 from 1022 to 1023 and 30000 from 25, but not when tracking; 2501 and 0 from
+ * nothing.
  *
  * What a wrong use gives:
  *   ACTUATOR3 with its other bits    0 if one of them is set
