@@ -38,62 +38,17 @@ pub fn agrees(fields: &[Vec<u8>]) -> bool {
 impl Case<'_> {
     // Whether the function of this kind, and the same by value if there is one, does what the case tells.
     fn agrees(&self, kind: Kind) -> bool {
-        let calls = self.input;
-        let a = byte_at(self.arguments, 0);
-        let b = byte_at(self.arguments, 1);
-        let c = byte_at(self.arguments, 2);
         match kind {
-            Kind::Point => self.word_is(capi::da728x_point(a, b, c) as u64),
-            Kind::PointIsRamp => self.word_is(capi::da728x_point_is_ramp(a) as u64),
-            Kind::PointTimebases => self.word_is(capi::da728x_point_timebases(a) as u64),
-            Kind::PointAmplitude => self.word_is(capi::da728x_point_amplitude(a) as u64),
-            Kind::Snippet => self.told(|out| capi::da728x_snippet(calls, out) as u64),
-            Kind::Frame => self.told(|out| capi::da728x_frame(calls, out) as u64),
-            Kind::Sequence => self.told(|out| capi::da728x_sequence(calls, out) as u64),
-            Kind::CurrentLen => self.word_is(capi::da728x_current_len(calls) as u64),
-            Kind::Answers => {
-                self.told(|out| capi::da728x_answers(calls, out) as u64)
-                    && self.told(|out| vectors_values::answers(calls, out))
-            }
-            Kind::Assemble => {
-                self.told(|out| capi::da728x_assemble(calls, out) as u64)
-                    && self.told(|out| vectors_values::assemble(calls, out))
-            }
-            Kind::AssembleStrict => {
-                self.told(|out| capi::da728x_assemble_strict(calls, out) as u64)
-                    && self.told(|out| vectors_values::assemble_strict(calls, out))
-            }
             Kind::Reads => self.reads().exported() && self.reads().by_value(),
-            Kind::ReadLists => self.told(|out| capi::da728x_read_lists(calls, out) as u64),
-            Kind::RegisterAddresses => self.told(|out| capi::da728x_register_addresses(out) as u64),
-            Kind::ReadInterrupts => self.told(|out| capi::da728x_read_interrupts(a, out) as u64),
-            Kind::ReadActuator => self.told(|out| capi::da728x_read_actuator(a, out) as u64),
-            Kind::ReadControl => self.told(|out| capi::da728x_read_control(a, out) as u64),
-            Kind::ReadTrigger => self.told(|out| capi::da728x_read_trigger(a, out) as u64),
-            Kind::ReplaceInterrupts => {
-                self.told(|out| capi::da728x_replace_interrupts(a, b, out) as u64)
-            }
-            Kind::ReplaceActuator => {
-                self.told(|out| capi::da728x_replace_actuator(a, b, out) as u64)
-            }
-            Kind::ReplaceControl => self.told(|out| capi::da728x_replace_control(a, b, out) as u64),
-            Kind::ReplaceTrigger => self.told(|out| capi::da728x_replace_trigger(a, b, out) as u64),
-            Kind::VoltageSettings => self.word_is(capi_driver::da728x_voltage_settings(a) as u64),
-            Kind::CurrentSettings => self.word_is(capi_driver::da728x_current_settings(a) as u64),
-            Kind::FrequencySettings => {
-                let word = u16::from_be_bytes([a, b]);
-                self.word_is(capi_driver::da728x_frequency_settings(word, c) as u64)
+            _ => {
+                self.leaves(|out| self.exported(kind, out))
+                    && self.leaves(|out| self.by_value(kind, out))
             }
         }
     }
 
-    // Whether this is the word told, and no slice is lent.
-    fn word_is(&self, word: u64) -> bool {
-        word == number(self.word) && self.out.is_empty()
-    }
-
     // Whether a call answers the word, and leaves these bytes in the slice lent, which it finds filled with the marker.
-    fn told<F: FnOnce(&mut [u8]) -> u64>(&self, call: F) -> bool
+    fn leaves<F: FnOnce(&mut [u8]) -> u64>(&self, call: F) -> bool
         requires { F.IsAlwaysCallable call }
     {
         let mut lent = [MARKER; 1024];
@@ -101,6 +56,53 @@ impl Case<'_> {
             return false;
         };
         call(out) == number(self.word) && *out == *self.out
+    }
+
+    // What the function of this kind answers; 0 for `Reads`, which are several.
+    fn exported(&self, kind: Kind, out: &mut [u8]) -> u64 {
+        let calls = self.input;
+        let a = byte_at(self.arguments, 0);
+        let b = byte_at(self.arguments, 1);
+        let c = byte_at(self.arguments, 2);
+        match kind {
+            Kind::Point => capi::da728x_point(a, b, c) as u64,
+            Kind::PointIsRamp => capi::da728x_point_is_ramp(a) as u64,
+            Kind::PointTimebases => capi::da728x_point_timebases(a) as u64,
+            Kind::PointAmplitude => capi::da728x_point_amplitude(a) as u64,
+            Kind::Snippet => capi::da728x_snippet(calls, out) as u64,
+            Kind::Frame => capi::da728x_frame(calls, out) as u64,
+            Kind::Sequence => capi::da728x_sequence(calls, out) as u64,
+            Kind::CurrentLen => capi::da728x_current_len(calls) as u64,
+            Kind::Answers => capi::da728x_answers(calls, out) as u64,
+            Kind::Assemble => capi::da728x_assemble(calls, out) as u64,
+            Kind::AssembleStrict => capi::da728x_assemble_strict(calls, out) as u64,
+            Kind::Reads => 0,
+            Kind::ReadLists => capi::da728x_read_lists(calls, out) as u64,
+            Kind::RegisterAddresses => capi::da728x_register_addresses(out) as u64,
+            Kind::ReadInterrupts => capi::da728x_read_interrupts(a, out) as u64,
+            Kind::ReadActuator => capi::da728x_read_actuator(a, out) as u64,
+            Kind::ReadControl => capi::da728x_read_control(a, out) as u64,
+            Kind::ReadTrigger => capi::da728x_read_trigger(a, out) as u64,
+            Kind::ReplaceInterrupts => capi::da728x_replace_interrupts(a, b, out) as u64,
+            Kind::ReplaceActuator => capi::da728x_replace_actuator(a, b, out) as u64,
+            Kind::ReplaceControl => capi::da728x_replace_control(a, b, out) as u64,
+            Kind::ReplaceTrigger => capi::da728x_replace_trigger(a, b, out) as u64,
+            Kind::VoltageSettings => capi_driver::da728x_voltage_settings(a) as u64,
+            Kind::CurrentSettings => capi_driver::da728x_current_settings(a) as u64,
+            Kind::FrequencySettings => {
+                capi_driver::da728x_frequency_settings(u16::from_be_bytes([a, b]), c) as u64
+            }
+        }
+    }
+
+    // The same by value, where there is such a way; else once more by the exported function.
+    fn by_value(&self, kind: Kind, out: &mut [u8]) -> u64 {
+        match kind {
+            Kind::Answers => vectors_values::answers(self.input, out),
+            Kind::Assemble => vectors_values::assemble(self.input, out),
+            Kind::AssembleStrict => vectors_values::assemble_strict(self.input, out),
+            _ => self.exported(kind, out),
+        }
     }
 
     // What the fields are of a case of an image read.
