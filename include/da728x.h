@@ -608,33 +608,42 @@ uint64_t da728x_result(const uint8_t *session, size_t session_len);
  * to the value, as
  *     least + 65536 * greatest
  * Every setting from the least to the greatest, and no other that is accepted, gives this value.
- * 0 if no accepted setting gives it (no range is 0): test for it before you take the two apart. A
- * setting of one answer goes with any of the others. They tell what can have been set, not that it
- * was. They are in libcapi_driver.a, and need no record, no session and no chip.
+ * 0 if no accepted setting gives it (no range is 0): test for it before you take the two apart.
+ * Settings from different answers can be combined freely: da728x_configure accepts them together.
+ * The functions are in libcapi_driver.a, and need no record, no session and no chip.
  *
- * A voltage in mV, from the byte of ACTUATOR1 (at 0C; the addresses here are hexadecimal), which is
- * the nominal one, or of ACTUATOR2 (0D), the absolute one. Never 0: 0 comes from 0 to 23, 255 from
- * 5967 to 5990. */
+ *     uint32_t told = da728x_frequency_settings(128 * high + (low & 127), tracks ? 0 : 1);
+ *     if (told) printf("%u to %u Hz\n", told & 65535, told >> 16);
+ *
+ * A voltage in mV, from the byte of ACTUATOR1 (at 0x0C), which is the nominal one, or of ACTUATOR2
+ * (0x0D), the absolute one. Never 0: 0 comes from 0 to 23, 255 from 5967 to 5990. */
 uint32_t da728x_voltage_settings(uint8_t byte);
 
-/* The current in mA, from IMAX, the low five bits of ACTUATOR3 (0E): lend byte & 31. 0 comes from
+/* The current in mA, from IMAX, the low five bits of ACTUATOR3 (0x0E): lend byte & 31. 0 comes from
  * 29 to 35, 31 from 252 alone, 32 and above from nothing. */
 uint32_t da728x_current_settings(uint8_t imax);
 
-/* The frequency in Hz, from the period word, 128 * FRQ_LRA_PER_H (0A) + (FRQ_LRA_PER_L (0B) & 127),
- * under a driving mode: 0, 1 or 2 as in byte 19 of settings (above 2 counts as 2; 1 and 2 give the
- * same). A unit that was set up has mode 0 exactly if FREQ_TRACK_EN, bit 3 of TOP_CFG1 (13), is
- * set. da728x_set_frequency writes the word too, under the same limits. 2500 comes from 300 in
- * every mode, 733 from 1022 to 1023 and 30000 from 25, but not when tracking; 2501 and 0 from
- * nothing.
+/* The frequency in Hz, from the period word, 128 * FRQ_LRA_PER_H + (FRQ_LRA_PER_L & 127) (at 0x0A
+ * and 0x0B), under a driving mode, by its code as in byte 19 of settings (above 2 counts as 2).
+ * Lend 0 if FREQ_TRACK_EN, bit 3 of TOP_CFG1 (0x13), is 1, and 1 if it is 0: modes 1 and 2 give the
+ * same. da728x_set_frequency writes the word too, under the same limits. 2500 comes from 300 in
+ * every mode, 733 from 1022 to 1023 and 30000 from 25, but not in mode 0; 2501 and 0 from nothing.
  *
  * What a wrong use gives:
- *   ACTUATOR3 with its other bits    0 if one of them is set
- *   FRQ_LRA_PER_L with bit 7         NO sign: another word, which is another frequency or none
- *   the two registers exchanged      NO sign, likewise
- *   another driving mode             0, or the same frequencies
- *   registers that a chip had        NO sign: the answer is for the value that is lent, whoever
- *   before any da728x_configure      put it there */
+ *   an answer 0 taken apart           from 0 to 0, which is no answer's range
+ *   ACTUATOR3 with its other bits     0 if one of them is 1
+ *   ACTUATOR1 and ACTUATOR2           NO sign: the answer is for the byte that is lent
+ *   exchanged
+ *   FRQ_LRA_PER_L with bit 7, the     often 0, else NO sign: another frequency
+ *   two registers exchanged, 256 for
+ *   128
+ *   another driving mode              0, or the same frequencies
+ *   a value wider than the argument   C cuts it: 256 is answered as byte 0. NO sign
+ *   a da728x_configure or a           NO sign, or 0: the registers may have a part of the settings
+ *   da728x_set_frequency that failed  before and a part of the new ones, which can be a word that
+ *   or was left half-way              nobody set, or a mode and a word of two settings
+ *   a unit that lost its supply       NO sign, or 0: the answer is for the value that is lent,
+ *   since, or was never set up        whoever put it there */
 uint32_t da728x_frequency_settings(uint16_t word, uint8_t driving_mode);
 
 #ifdef __cplusplus

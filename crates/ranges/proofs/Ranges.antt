@@ -1,8 +1,10 @@
 -- The answers hold exactly the accepted settings that convert to a value, and these values are what is written. Assumes nothing.
-use Rattle.std.proofs.Common.{ℕ, ◌/◌, ◌%◌, ◌≤◌, ◌≡◌, ◌∙◌, ◌↔◌, Bool, true, false, cond, not, leb, List, [], ◌∷◌, ◌++◌, filter, Option, Some, None, refl, sym, ap, subst, subst₂, arith, true≢false, leb-true, leb-false, le-leb}
+use Rattle.std.proofs.Common.{◌<◌, ◌&&◌, ℕ, ◌/◌, ◌%◌, ◌≤◌, ◌≡◌, ◌∙◌, ◌↔◌, Bool, true, false, cond, not, leb, List, [], ◌∷◌, ◌++◌, filter, Option, Some, None, refl, sym, ap, subst, subst₂, arith, true≢false, leb-true, leb-false, le-leb}
 use Rattle.std.proofs.lemmas.List.Elements.{filter-append}
 use Rattle.config.specs.declared.ActuatorConfig.{ActuatorConfig}
-use Rattle.config.specs.declared.ActuatorType.TheVariants.{LRA}
+use Rattle.config.specs.declared.ActuatorType.{ActuatorType}
+use Rattle.config.specs.declared.ActuatorType.TheVariants.{LRA, ERM}
+use Rattle.config.specs.Codes.{actuator_code}
 use Rattle.config.specs.declared.DeviceConfig.{DeviceConfig}
 use Rattle.config.specs.declared.DrivingMode.{DrivingMode}
 use Rattle.config.specs.declared.DrivingMode.TheVariants.{FREQUENCY_TRACK, WIDEBAND, CUSTOM_WAVEFORM}
@@ -16,11 +18,11 @@ use Rattle.convert.specs.Convert.{voltage_byte, imax_code, period_word}
 use Rattle.config.specs.declared.TriggerConfig.{TriggerConfig}
 use Rattle.convert.specs.Convert.{low_part}
 use Rattle.convert.proofs.Whole as whole
-use Rattle.laws.proofs.Tests.{same}
-use Rattle.field.specs.Field.{with_of}
+use Rattle.laws.proofs.Tests.{same, same₃}
+use Rattle.field.specs.Field.{code_of, with_of}
 use Rattle.plans.specs.Fields.{put, fresh}
 use Rattle.plans.specs.Fields as Fields
-use Rattle.plans.specs.Configure.{feature_steps, limit_steps, calibration_steps, pid_steps, frequency_steps, rapid_stop_steps, phase_steps, custom_steps, driving_steps, gpi_steps, given_steps, trigger_steps, configure_steps}
+use Rattle.plans.specs.Configure.{top_cfg1, accelerates, feature_steps, limit_steps, calibration_steps, pid_steps, frequency_steps, rapid_stop_steps, phase_steps, custom_steps, driving_steps, gpi_steps, given_steps, trigger_steps, configure_steps}
 use Rattle.exchange.specs.declared.Step.{Step}
 use Rattle.exchange.specs.declared.Step.TheVariants.{Write}
 use Rattle.exchange.specs.State.{Begun}
@@ -180,7 +182,8 @@ unfolding frequency_steps
 period_steps hz h = simp (low_byte (period_word hz), whole.high_is (period_word hz) (whole.word_bits hz h))
 
 written : (s : Taken) → filter to_source (configure_steps s.actuator s.device)
-    ≡ Write 0x0C (voltage_byte s.actuator.nominal_max_mV) ∷ Write 0x0D (voltage_byte s.actuator.absolute_max_mV)
+    ≡ Write 0x13 (top_cfg1 s.actuator s.device)
+    ∷ Write 0x0C (voltage_byte s.actuator.nominal_max_mV) ∷ Write 0x0D (voltage_byte s.actuator.absolute_max_mV)
     ∷ Write 0x0E (imax_code s.actuator.max_current_mA)
     ∷ Write 0x0A (period_word s.actuator.frequency_Hz / 128) ∷ Write 0x0B (period_word s.actuator.frequency_Hz % 128) ∷ []
 unfolding feature_steps limit_steps calibration_steps rapid_stop_steps
@@ -188,6 +191,31 @@ written s =
     let r = in_range s in
     let hz = checked.at_least_25 s.variant s.actuator s.device r in
     simp (filter-append, elsewhere_pid, elsewhere_driving, elsewhere_triggers, current_byte _ r.current.1, period_steps _ hz)
+
+-- TOP_CFG1 by what it depends on
+abbrev byte : ℕ → ℕ → ℕ → ℕ → ℕ
+byte kind track acceleration stop =
+    fresh "TOP_CFG1" (put "ACTUATOR_TYPE" kind ∷ put "BEMF_SENSE_EN" track ∷ put "FREQ_TRACK_EN" track
+    ∷ put "ACCELERATION_EN" acceleration ∷ put "RAPID_STOP_EN" stop ∷ put "AMP_PID_EN" 0 ∷ put "EMBEDDED_MODE" 1 ∷ [])
+
+flag : (b : Bool) → code_of b < 2
+flag true = omega arith
+flag false = omega arith
+
+is_set : (b : Bool) → code_of b ≡ 1 → b ≡ true
+is_set true e = refl
+is_set false e = absurd (omega (arith, e))
+
+track_bit : (kind : ActuatorType) (t a r : Bool) → byte (actuator_code kind) (code_of t) (code_of a) (code_of r) / 8 % 2 ≡ code_of t
+unfolding with_of
+track_bit LRA t a r = same₃ (λ t a r. byte 0 t a r / 8 % 2) (λ t a r. t) 2 2 2 refl (code_of t) (code_of a) (code_of r) (flag t) (flag a) (flag r)
+track_bit ERM t a r = same₃ (λ t a r. byte 1 t a r / 8 % 2) (λ t a r. t) 2 2 2 refl (code_of t) (code_of a) (code_of r) (flag t) (flag a) (flag r)
+
+tracks_told : (a : ActuatorConfig) (d : DeviceConfig) → (top_cfg1 a d / 8 % 2 ≡ 1) ↔ (d.driving_mode ≡ FREQUENCY_TRACK)
+tracks_told a d =
+    let t = tracking d.driving_mode in
+    let e = track_bit a.actuator_type t (accelerates d) (t && d.rapid_stop) in
+    (λ h. tracks d.driving_mode (is_set t (sym e ∙ h)), λ p. e ∙ ap (λ (m : DrivingMode). code_of (tracking m)) p)
 
 -- ---- a sweep
 
@@ -220,7 +248,11 @@ ranges = record {
   frequency = λ mode. answered (Frequency mode) (accepted_frequency mode) period_word (frequencies_are mode) (period_range mode) (λ word. (_, _, frequencies mode word, period_is mode word));
   together = together;
   written = written;
+  tracks = λ s. tracks_told s.actuator s.device;
   swept = λ r hz. swept r hz r.settings;
   examples = (voltage_is 255, imax_is 0, imax_is 32);
-  more = (imax_is 31, period_is WIDEBAND 733, period_is FREQUENCY_TRACK 733, period_is CUSTOM_WAVEFORM 4411, period_is FREQUENCY_TRACK 4411, period_is WIDEBAND 0);
+  volts = voltage_is 0;
+  amperes = imax_is 31;
+  tracked = (period_is FREQUENCY_TRACK 2499, period_is FREQUENCY_TRACK 2500, period_is FREQUENCY_TRACK 15000, period_is FREQUENCY_TRACK 30000);
+  untracked = (period_is WIDEBAND 0, period_is WIDEBAND 732, period_is WIDEBAND 733, period_is CUSTOM_WAVEFORM 4411, period_is CUSTOM_WAVEFORM 30000);
 }

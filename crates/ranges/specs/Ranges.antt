@@ -1,7 +1,7 @@
 -- From registers back to settings: document 02, CR 12, "Every setting between them, and no other accepted one, converts to that value, and none is
 -- answered only if no accepted setting does". A setting is accepted if some whole settings hold it that `configure` takes. `Ranges` is proved in
 -- proofs/Ranges.antt.
-use Rattle.std.specs.Prelude.{ℕ, ◌/◌, ◌%◌, ◌≤◌, ◌≡◌, ◌↔◌, Bool, true, ◌&&◌, leb, List, [], ◌∷◌, filter, Option, Some, None}
+use Rattle.std.specs.Prelude.{ℕ, ◌/◌, ◌%◌, ◌≤◌, ◌≡◌, ◌↔◌, Bool, true, ◌&&◌, ◌||◌, leb, eqb, List, [], ◌∷◌, filter, Option, Some, None}
 use Rattle.laws.specs.Lists.{at}
 use Rattle.config.specs.declared.ActuatorConfig.{ActuatorConfig}
 use Rattle.config.specs.declared.DeviceConfig.{DeviceConfig}
@@ -14,7 +14,7 @@ use Rattle.exchange.specs.declared.Step.{Step}
 use Rattle.exchange.specs.declared.Step.TheVariants.{Write}
 use Rattle.exchange.specs.State.{Begun}
 use Rattle.exchange.specs.Steps.{exchange_for}
-use Rattle.plans.specs.Configure.{configure_steps}
+use Rattle.plans.specs.Configure.{top_cfg1, configure_steps}
 use Rattle.da728x.specs.declared.DA728x.{DA728x}
 use Rattle.driver.specs.Operations as operation
 use Rattle.driver.specs.Operations.{begins}
@@ -64,9 +64,9 @@ pub record Answered (P : Place) (accepts : ℕ → Bool) (converts : ℕ → ℕ
   pub accepted : (n : ℕ) → (accepts n ≡ true) ↔ IsAccepted P n
   pub exactly : (value : ℕ) → Exactly P converts value (range value)
 
--- whether what a step sends begins with one of the addresses 0A to 0E
+-- whether what a step sends begins with one of the addresses 0A to 0E, or with 13
 abbrev pub to_source : Step → Bool
-to_source s = let register = at (exchange_for 0 0 [] s).bytes 0 in leb 0x0A register && leb register 0x0E
+to_source s = let register = at (exchange_for 0 0 [] s).bytes 0 in (leb 0x0A register && leb register 0x0E) || eqb register 0x13
 
 abbrev pub from_to : ℕ → ℕ → Option Range
 from_to least greatest = Some (record { least = least; greatest = greatest })
@@ -79,16 +79,23 @@ pub record Ranges : Type 0 where
   -- settings of four answers can have come together
   pub together : (mode : DrivingMode) (nominal absolute mA hz : ℕ) → IsAccepted Nominal nominal → IsAccepted Absolute absolute → IsAccepted Current mA
       → IsAccepted (Frequency mode) hz → (s : Taken) × Nominal s nominal × Absolute s absolute × Current s mA × Frequency mode s hz
-  -- of the registers at 0A to 0E, `configure` writes each once: ACTUATOR1, ACTUATOR2, ACTUATOR3, FRQ_LRA_PER_H, FRQ_LRA_PER_L
+  -- `configure` writes each of these registers once: TOP_CFG1, ACTUATOR1, ACTUATOR2, ACTUATOR3, FRQ_LRA_PER_H, FRQ_LRA_PER_L
   pub written : (s : Taken) → filter to_source (configure_steps s.actuator s.device)
-      ≡ Write 0x0C (voltage_byte s.actuator.nominal_max_mV) ∷ Write 0x0D (voltage_byte s.actuator.absolute_max_mV)
+      ≡ Write 0x13 (top_cfg1 s.actuator s.device)
+      ∷ Write 0x0C (voltage_byte s.actuator.nominal_max_mV) ∷ Write 0x0D (voltage_byte s.actuator.absolute_max_mV)
       ∷ Write 0x0E (imax_code s.actuator.max_current_mA)
       ∷ Write 0x0A (period_word s.actuator.frequency_Hz / 128) ∷ Write 0x0B (period_word s.actuator.frequency_Hz % 128) ∷ []
-  -- and `set_frequency` the last two, of a frequency that is accepted under the mode that is stored
+  -- bit 3 of TOP_CFG1, which is FREQ_TRACK_EN, tells the mode
+  pub tracks : (s : Taken) → (top_cfg1 s.actuator s.device / 8 % 2 ≡ 1) ↔ (s.device.driving_mode ≡ FREQUENCY_TRACK)
+  -- and `set_frequency` writes the last two, of a frequency that is accepted under the mode that is stored
   pub swept : (r : DA728x) (hz : ℕ) (b : Begun) (xs : List Step) → (operation.set_frequency r hz).start ≡ begins b xs →
       InStored (λ a d. IsAccepted (Frequency d.driving_mode) hz) r.settings × (xs ≡ Write 0x0A (period_word hz / 128) ∷ Write 0x0B (period_word hz % 128) ∷ [])
   -- "voltage 255 comes from 5967..5990 mV, IMAX 0 from 29..35 mA, and IMAX 32 from nothing"
   pub examples : (voltage_range 255 ≡ from_to 5967 5990) × (imax_range 0 ≡ from_to 29 35) × (imax_range 32 ≡ None)
-  -- and ours
-  pub more : (imax_range 31 ≡ from_to 252 252) × (period_range WIDEBAND 733 ≡ from_to 1022 1023) × (period_range FREQUENCY_TRACK 733 ≡ None)
-      × (period_range CUSTOM_WAVEFORM 4411 ≡ from_to 170 170) × (period_range FREQUENCY_TRACK 4411 ≡ from_to 170 170) × (period_range WIDEBAND 0 ≡ None)
+  -- and ours: the ends of each band, and two frequencies of one word
+  pub volts : voltage_range 0 ≡ from_to 0 23
+  pub amperes : imax_range 31 ≡ from_to 252 252
+  pub tracked : (period_range FREQUENCY_TRACK 2499 ≡ None) × (period_range FREQUENCY_TRACK 2500 ≡ from_to 300 300)
+      × (period_range FREQUENCY_TRACK 15000 ≡ from_to 50 50) × (period_range FREQUENCY_TRACK 30000 ≡ None)
+  pub untracked : (period_range WIDEBAND 0 ≡ None) × (period_range WIDEBAND 732 ≡ from_to 1024 1024) × (period_range WIDEBAND 733 ≡ from_to 1022 1023)
+      × (period_range CUSTOM_WAVEFORM 4411 ≡ from_to 170 170) × (period_range CUSTOM_WAVEFORM 30000 ≡ from_to 25 25)

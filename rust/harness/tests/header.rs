@@ -234,6 +234,24 @@ fn exported() -> Vec<Prototype> {
         .collect()
 }
 
+/// No exported function asks anything of its input: its contract promises an answer, and has no `requires`.
+#[test]
+fn nothing_is_required() {
+    let mut contracts = 0;
+    for text in ["crates/capi/src/lib.rt", "crates/capi_driver/src/lib.rt"].map(text) {
+        for function in text.split("pub extern \"C\" fn ").skip(1) {
+            let (contract, _) = function.split_once("\n{\n").unwrap();
+            assert!(
+                contract.contains("ensures {") || contract.contains("ensures value {"),
+                "{contract}"
+            );
+            assert!(!contract.contains("requires"), "{contract}");
+            contracts += 1;
+        }
+    }
+    compared("contracts of exports", contracts, 48);
+}
+
 /// The functions that the wrapper calls.
 fn wrapped() -> Vec<Prototype> {
     let text = text("rust/wrapper/src/ffi.rs");
