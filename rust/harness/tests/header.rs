@@ -241,10 +241,7 @@ fn nothing_is_required() {
     for text in ["crates/capi/src/lib.rt", "crates/capi_driver/src/lib.rt"].map(text) {
         for function in text.split("pub extern \"C\" fn ").skip(1) {
             let (contract, _) = function.split_once("\n{\n").unwrap();
-            assert!(
-                contract.contains("ensures {") || contract.contains("ensures value {"),
-                "{contract}"
-            );
+            assert!(contract.contains("\n    ensures "), "{contract}");
             assert!(!contract.contains("requires"), "{contract}");
             contracts += 1;
         }
