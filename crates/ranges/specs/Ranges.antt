@@ -31,7 +31,7 @@ pub record Taken : Type 0 where
   pub device : DeviceConfig
   pub taken : configure_number variant actuator device ≡ 0
 
--- which number they hold in one place
+-- a place of the settings: which number they hold there
 abbrev pub Place : Type 1
 Place = Taken → ℕ → Type 0
 
@@ -59,7 +59,7 @@ Exactly P converts value None = (n : ℕ) → IsAccepted P n → ¬ (converts n 
 Exactly P converts value (Some r) =
     (r.least ≤ r.greatest) × ((n : ℕ) → ((r.least ≤ n) × (n ≤ r.greatest)) ↔ (IsAccepted P n × (converts n ≡ value)))
 
--- of a place: what the search takes for accepted is so, and the answers to all values
+-- of a place: the search takes just what is accepted, and the answer to every value is exact
 pub record Answered (P : Place) (accepts : ℕ → Bool) (converts : ℕ → ℕ) (range : ℕ → Option Range) : Type 0 where
   pub accepted : (n : ℕ) → (accepts n ≡ true) ↔ IsAccepted P n
   pub exactly : (value : ℕ) → Exactly P converts value (range value)
@@ -76,7 +76,7 @@ pub record Ranges : Type 0 where
   pub absolute : Answered Absolute accepted_voltage voltage_byte voltage_range
   pub current : Answered Current accepted_current imax_code imax_range
   pub frequency : (mode : DrivingMode) → Answered (Frequency mode) (accepted_frequency mode) period_word (period_range mode)
-  -- settings of four answers can have come together
+  -- accepted settings of the four places are accepted together
   pub together : (mode : DrivingMode) (nominal absolute mA hz : ℕ) → IsAccepted Nominal nominal → IsAccepted Absolute absolute → IsAccepted Current mA
       → IsAccepted (Frequency mode) hz → (s : Taken) × Nominal s nominal × Absolute s absolute × Current s mA × Frequency mode s hz
   -- `configure` writes each of these registers once: TOP_CFG1, ACTUATOR1, ACTUATOR2, ACTUATOR3, FRQ_LRA_PER_H, FRQ_LRA_PER_L
@@ -85,9 +85,9 @@ pub record Ranges : Type 0 where
       ∷ Write 0x0C (voltage_byte s.actuator.nominal_max_mV) ∷ Write 0x0D (voltage_byte s.actuator.absolute_max_mV)
       ∷ Write 0x0E (imax_code s.actuator.max_current_mA)
       ∷ Write 0x0A (period_word s.actuator.frequency_Hz / 128) ∷ Write 0x0B (period_word s.actuator.frequency_Hz % 128) ∷ []
-  -- bit 3 of TOP_CFG1, which is FREQ_TRACK_EN, tells the mode
+  -- FREQ_TRACK_EN, bit 3 of TOP_CFG1, tells whether the mode tracks
   pub tracks : (s : Taken) → (top_cfg1 s.actuator s.device / 8 % 2 ≡ 1) ↔ (s.device.driving_mode ≡ FREQUENCY_TRACK)
-  -- and `set_frequency` writes the last two, of a frequency that is accepted under the mode that is stored
+  -- `set_frequency` writes the last two registers, of a frequency that is accepted under the mode that is stored
   pub swept : (r : DA728x) (hz : ℕ) (b : Begun) (xs : List Step) → (operation.set_frequency r hz).start ≡ begins b xs →
       InStored (λ a d. IsAccepted (Frequency d.driving_mode) hz) r.settings × (xs ≡ Write 0x0A (period_word hz / 128) ∷ Write 0x0B (period_word hz % 128) ∷ [])
   -- "voltage 255 comes from 5967..5990 mV, IMAX 0 from 29..35 mA, and IMAX 32 from nothing"
