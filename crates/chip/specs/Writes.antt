@@ -1,0 +1,36 @@
+-- What a write does to the chip's waveform memory and its lock: document 02, CR 14. A `Chip` (src/lib.rt) is the chip's address on the bus, its hundred
+-- bytes of memory, and whether they are unlocked; its other registers are not described.
+use Rattle.std.specs.Prelude.{ℕ, suc, ◌-◌, Bool, true, cond, ◌&&◌, List, [], ◌∷◌, leb, eqb, take, set}
+use Rattle.field.specs.Field.{flag_of}
+use Rattle.registers.specs.Table.{address_of}
+use Rattle.exchange.specs.declared.Exchange.{Exchange}
+use Rattle.chip.specs.declared.Chip.{Chip}
+
+abbrev pub holding : Chip → List ℕ → Bool → Chip
+holding c bytes unlocked = record { address = c.address; bytes = bytes; unlocked = unlocked }
+
+-- a byte at its register: "the chip's hundred bytes and lock, which is bit 7 of MEM_CTL2, 0 for locked"; the memory stores "while unlocked and nothing
+-- while locked", and behind its hundred bytes nothing either
+unfoldable pub stored : Chip → ℕ → ℕ → Chip
+stored c register b =
+    cond (eqb register (address_of "MEM_CTL2")) (holding c c.bytes (flag_of b 7))
+    (cond (leb (address_of "SNP_MEM_0") register && c.unlocked) (holding c (set c.bytes (register - address_of "SNP_MEM_0") b) true) c)
+
+-- "a memory write stores consecutive bytes": each at the register behind the one before
+abbrev pub stored_all : Chip → ℕ → List ℕ → Chip
+stored_all c register [] = c
+stored_all c register (b ∷ bytes) = stored_all (stored c register b) (suc register) bytes
+
+-- bytes that reach the chip in one exchange: the first is the register; a read sends no other, and so it stores nothing
+abbrev pub written : Chip → List ℕ → Chip
+written c [] = c
+written c (register ∷ bytes) = stored_all c register bytes
+
+-- "a failed write may have stored any leading part of its bytes": the first k of the bytes that the exchange sends reach the chip; those for another
+-- address do not
+unfoldable pub part_made : ℕ → Chip → Exchange → Chip
+part_made k c e = cond (eqb e.address c.address) (written c (take k (take e.len e.bytes))) c
+
+-- all of them
+abbrev pub made : Chip → Exchange → Chip
+made c e = part_made e.len c e

@@ -1,0 +1,58 @@
+// The chip's waveform memory and its lock under uploads that are cut and repeated (document 02, CR 14).
+// Proved: `transfer` stores what specs/Writes.antt says. The claims on uploads that are cut, over the driver's own sessions, stand in
+// specs/Repeated.antt and specs/General.antt.
+#![tactic(auto)]
+
+ghost use Rattle.std.specs.Prelude.{◌≡◌, ◌≤◌, length};
+ghost use Rattle.chip.specs.Writes.{stored, stored_all, written, part_made};
+
+use exchange::Exchange;
+use registers::Register;
+
+pub const MEMORY_SIZE: usize = 100;
+
+/// The chip's address on the bus, its memory, and whether that is unlocked.
+#[derive(Debug, Clone, Copy, PartialEq, Eq)]
+pub struct Chip {
+    pub address: u8,
+    pub bytes: [u8; MEMORY_SIZE],
+    pub unlocked: bool,
+}
+
+impl Chip {
+    /// What an exchange leaves of which the first `k` bytes reach the chip.
+    #[tactic(auto, unfolding(crate::specs::Writes::part_made))]
+    pub fn transfer(&mut self, e: &Exchange, k: usize)
+        ensures { self.new ≡ part_made k self.old e.now }
+    {
+        if e.address != self.address {
+            return;
+        }
+        let sent = e.sent();
+        if let Some((register, bytes)) = sent[..k.min(sent.len())].split_first() {
+            self.write(*register, bytes);
+        }
+    }
+
+    // Each byte at the register behind the one before.
+    fn write(&mut self, register: u8, bytes: &[u8])
+        requires { length bytes.now ≤ 33 }
+        ensures { self.new ≡ stored_all self.old register bytes.now }
+    {
+        for (i, b) in bytes.iter().enumerate() {
+            self.store(usize::from(register) + i, *b);
+        }
+    }
+
+    #[tactic(auto, unfolding(crate::specs::Writes::stored))]
+    fn store(&mut self, register: usize, b: u8)
+        ensures { self.new ≡ stored self.old register b }
+    {
+        let first = usize::from(Register::SNP_MEM_0.address());
+        if register == usize::from(Register::MEM_CTL2.address()) {
+            self.unlocked = field::flag(b, 7);
+        } else if register >= first && self.unlocked {
+            laws::store(&mut self.bytes, register - first, b);
+        }
+    }
+}
