@@ -1,1 +1,9 @@
--- Proofs.
+pub mod Stores
+pub mod Turns
+pub mod Runs
+pub mod Upload
+pub mod One
+pub mod Repeated
+pub mod Reaches
+pub mod General
+pub mod Needed

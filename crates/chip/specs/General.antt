@@ -1,9 +1,12 @@
--- The same for runs that unlock the memory first or do not, under the proviso of document 02, CR 14, and that it is needed.
-use Rattle.std.specs.Prelude.{◌≡◌, ◌⊎◌, Bool, true, false, List, [], ◌∷◌, ◌++◌}
+-- The same for runs that unlock the memory first, as the driver's do, or do not, as none of the driver's does, under the proviso of document 02, CR 14; and
+-- that runs of both kinds need it.
+use Rattle.std.specs.Prelude.{◌≡◌, ◌⊎◌, Bool, true, false, List, [], ◌∷◌, ◌++◌, length}
 use Rattle.laws.specs.Bytes.{All}
 use Rattle.memory.specs.declared.WaveformMemory.{WaveformMemory}
+use Rattle.exchange.specs.State.{is_session, completed}
+use Rattle.exchange.specs.Session.{final}
 use Rattle.chip.specs.declared.Chip.{Chip}
-use Rattle.chip.specs.Runs.{uploading, Run, AnyRun, running, is_whole_run, after_run, after_runs}
+use Rattle.chip.specs.Runs.{Attempt, calls, uploading, Run, AnyRun, running, is_whole_run, after_run, after_runs}
 use Rattle.chip.specs.Repeated.{Sized}
 
 -- a run to this chip, to its end
@@ -22,9 +25,13 @@ pub record General : Type 0 where
   -- "nothing while locked"
   pub shut : (m : WaveformMemory) (lock_after : Bool) (c : Chip) (x : AnyRun) → Sized m c → c.unlocked ≡ false → x.unlocks ≡ false →
       after_run m lock_after c x ≡ c
+  -- every upload can be run to its end, with nothing that disturbs it
+  pub undisturbed : (m : WaveformMemory) (lock_after : Bool) (x : AnyRun) → length m.«data» ≡ 100 → is_session x.run.session ≡ true →
+      (attempts : List Attempt) × All (λ (a : Attempt). a.tries ≡ []) attempts × (completed (final (running m lock_after x) (calls attempts)) ≡ true)
 
--- without the proviso not even the bytes are the same
+-- without the proviso not even the bytes are the same, though the last run and the sole one are of one kind: where a cut run unlocks a locked memory, and
+-- these two do not
 abbrev pub Needed : Type 0
 Needed = ¬ ((m : WaveformMemory) (lock_after : Bool) (c : Chip) (cut : List AnyRun) (last sole : AnyRun) → Sized m c →
-    WholeRun m lock_after c last → WholeRun m lock_after c sole →
+    WholeRun m lock_after c last → WholeRun m lock_after c sole → last.unlocks ≡ false → sole.unlocks ≡ false →
     (after_runs m lock_after c (cut ++ (last ∷ []))).bytes ≡ (after_run m lock_after c sole).bytes)

@@ -20,8 +20,9 @@ abbrev pub Whole : WaveformMemory → Bool → Chip → Run → Type 0
 Whole m lock_after c x = (x.driver.address ≡ c.address) × (is_whole m lock_after x ≡ true)
 
 -- "However an upload is cut, running the same upload to its end afterwards leaves bytes and lock as one undisturbed run from the same start would": after
--- any runs, each cut in any way or in none, whatever chip they are for. `sole` is one run from the start, undisturbed if it has no tries. Each of ours
--- unlocks the memory first, so no proviso is left.
+-- any runs, each cut in any way or in none, to this chip or another. `sole` is one run from the start, undisturbed if it has no tries: there is such a
+-- one (`General`). The same upload is that of one memory, with one lock choice, from any record and in any lent bytes. Each of ours unlocks the chip's
+-- memory first, so no proviso is left.
 abbrev pub Repeated : Type 0
 Repeated = (m : WaveformMemory) (lock_after : Bool) (c : Chip) (cut : List Run) (last sole : Run) → Sized m c →
     Whole m lock_after c last → Whole m lock_after c sole →
@@ -42,24 +43,26 @@ abbrev pub Result : Type 0
 Result = (m : WaveformMemory) (lock_after : Bool) (c : Chip) (x : Run) → Sized m c → Whole m lock_after c x →
     after_upload m lock_after c x ≡ laid c m (shown m) (not lock_after)
 
--- after any run: the chip as it was; or a front of them, and unlocked; or all of them, and locked, where that is asked
+-- after any run: the chip as it was; or, of one to this chip, a front of them, and unlocked, or all of them, and locked, where that is asked
 abbrev pub Leaves : Type 0
 Leaves = (m : WaveformMemory) (lock_after : Bool) (c : Chip) (x : Run) → Sized m c → let d = after_upload m lock_after c x in
-    (d ≡ c) ⊎ ((j : ℕ) × (j ≤ shown m) × (d ≡ laid c m j true)) ⊎ ((lock_after ≡ true) × (d ≡ laid c m (shown m) false))
+    (d ≡ c) ⊎ ((x.driver.address ≡ c.address) × (((j : ℕ) × (j ≤ shown m) × (d ≡ laid c m j true)) ⊎ ((lock_after ≡ true) × (d ≡ laid c m (shown m) false))))
 
 -- ---- the model leaves no cut out
 
--- a session, not completed, that leaves this chip: the caller stops while the next exchange is made, or that exchange fails, with any code of the bus
+-- a session, not completed and with no tries before, that leaves this chip: the caller stops while the next exchange is made, or that exchange fails, with
+-- any code of the bus
 pub record CutTo (st : List ℕ) (c d : Chip) : Type 0 where
   pub attempts : List Attempt
   pub part : ℕ
   pub buffer : List ℕ
+  pub clean : All (λ (a : Attempt). a.tries ≡ []) attempts
   pub opened : completed (final st (calls attempts)) ≡ false
   pub stopped : chip_after c st attempts (part ∷ []) ≡ d
   pub failed : (code : ℕ) → let call : AnswerCall = record { reply = Failed code; buffer = buffer } in
       (number_at (final st (calls attempts)) call ≡ 17) × (chip_after c st (attempts ++ (record { tries = part ∷ []; call = call } ∷ [])) [] ≡ d)
 
--- each of the chips that `Leaves` lists, cuts of the unlock and of the lock included; and a run that is not cut at all
+-- each of the chips that `Leaves` lists; cuts of the unlock and of the lock are among them
 pub record Reaches : Type 0 where
   pub unchanged : (m : WaveformMemory) (lock_after : Bool) (c : Chip) (r : DA728x) (st : List ℕ) → Sized m c → r.address ≡ c.address → is_session st ≡ true →
       CutTo (uploading m lock_after r st) c c
@@ -67,5 +70,3 @@ pub record Reaches : Type 0 where
       j ≤ shown m → CutTo (uploading m lock_after r st) c (laid c m j true)
   pub locked : (m : WaveformMemory) (c : Chip) (r : DA728x) (st : List ℕ) → Sized m c → r.address ≡ c.address → is_session st ≡ true →
       CutTo (uploading m true r st) c (laid c m (shown m) false)
-  pub undisturbed : (m : WaveformMemory) (lock_after : Bool) (r : DA728x) (st : List ℕ) → length m.«data» ≡ 100 → is_session st ≡ true →
-      (attempts : List Attempt) × All (λ (a : Attempt). a.tries ≡ []) attempts × (completed (final (uploading m lock_after r st) (calls attempts)) ≡ true)

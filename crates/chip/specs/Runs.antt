@@ -12,30 +12,32 @@ use Rattle.sessions.specs.Sessions.{set_unlocked, chunk_steps, lock_steps}
 use Rattle.driver.specs.Operations as operation
 use Rattle.driver.specs.Operations.{started_in, upload_begun}
 use Rattle.chip.specs.declared.Chip.{Chip}
-use Rattle.chip.specs.Writes.{part_made, made}
+use Rattle.chip.specs.Writes.{reached, reached_all}
 
 -- ---- one session
 
 -- tries of an exchange: of each, how many of its bytes reached the chip
 abbrev pub tried : List ℕ → Chip → Exchange → Chip
 tried [] c e = c
-tried (k ∷ ks) c e = tried ks (part_made k c e) e
+tried (k ∷ ks) c e = tried ks (reached k c e) e
 
 -- a call of `answer`, and the tries of the pending exchange before it
 pub record Attempt : Type 0 where
   pub tries : List ℕ
   pub call : AnswerCall
 
--- where 0 is told, the exchange was made, whatever was tried before; where it failed (17), or the answer is refused (19), it was only tried
+-- we suppose that a caller answers done only where the exchange was made whole: so it was where 0 is told, whatever was tried before; where a failure is
+-- told (17), or the answer is refused (19), it was only tried
 abbrev pub answered : Chip → List ℕ → Attempt → Chip
 answered c st a =
     let e = pending_of st in
-    let d = tried a.tries c e in cond (eqb (number_at st a.call) 0) (made d e) d
+    let d = tried a.tries c e in cond (eqb (number_at st a.call) 0) (reached_all d e) d
 
--- "However an upload is cut": after these calls, the last may be a failure, the caller stops, and the exchange that is pending then may have been tried
+-- "However an upload is cut": after these calls, of which the last may tell a failure, the caller stops, and the exchange that is pending then may have
+-- been tried
 abbrev pub chip_after : Chip → List ℕ → List Attempt → List ℕ → Chip
-chip_after c st [] rest = tried rest c (pending_of st)
-chip_after c st (a ∷ attempts) rest = chip_after (answered c st a) (after_call st a.call) attempts rest
+chip_after c st [] last_tries = tried last_tries c (pending_of st)
+chip_after c st (a ∷ attempts) last_tries = chip_after (answered c st a) (after_call st a.call) attempts last_tries
 
 -- ---- runs of one upload
 
@@ -43,12 +45,12 @@ chip_after c st (a ∷ attempts) rest = chip_after (answered c st a) (after_call
 abbrev pub uploading : WaveformMemory → Bool → DA728x → List ℕ → List ℕ
 uploading m lock_after r session = started_in session (operation.upload_waveform_memory r m lock_after).start
 
--- the record and the bytes lent for the session that it is begun with, its calls, and the tries behind them
+-- the record and the bytes lent for the session that it is begun with, its calls, and the tries behind the last of them
 pub record Run : Type 0 where
   pub driver : DA728x
   pub session : List ℕ
   pub attempts : List Attempt
-  pub rest : List ℕ
+  pub last_tries : List ℕ
 
 abbrev pub calls : List Attempt → List AnswerCall
 calls attempts = map (λ (a : Attempt). a.call) attempts
@@ -58,14 +60,17 @@ abbrev pub is_whole : WaveformMemory → Bool → Run → Bool
 is_whole m lock_after x = completed (final (uploading m lock_after x.driver x.session) (calls x.attempts))
 
 abbrev pub after_upload : WaveformMemory → Bool → Chip → Run → Chip
-after_upload m lock_after c x = chip_after c (uploading m lock_after x.driver x.session) x.attempts x.rest
+after_upload m lock_after c x = chip_after c (uploading m lock_after x.driver x.session) x.attempts x.last_tries
 
 -- one run after the other; "between them nothing else is written and the chip keeps its power"
-abbrev pub after_uploads : WaveformMemory → Bool → Chip → List Run → Chip
-after_uploads m lock_after c [] = c
-after_uploads m lock_after c (x ∷ xs) = after_uploads m lock_after (after_upload m lock_after c x) xs
+abbrev pub in_turn : {A : Type 0} → (Chip → A → Chip) → Chip → List A → Chip
+in_turn f c [] = c
+in_turn f c (x ∷ xs) = in_turn f (f c x) xs
 
--- ---- the same for runs that unlock the memory or do not
+abbrev pub after_uploads : WaveformMemory → Bool → Chip → List Run → Chip
+after_uploads m lock_after c xs = in_turn (after_upload m lock_after) c xs
+
+-- ---- the same for runs that unlock the memory, as the driver's do, or do not
 
 pub record AnyRun : Type 0 where
   pub unlocks : Bool
@@ -82,8 +87,7 @@ abbrev pub is_whole_run : WaveformMemory → Bool → AnyRun → Bool
 is_whole_run m lock_after x = completed (final (running m lock_after x) (calls x.run.attempts))
 
 abbrev pub after_run : WaveformMemory → Bool → Chip → AnyRun → Chip
-after_run m lock_after c x = chip_after c (running m lock_after x) x.run.attempts x.run.rest
+after_run m lock_after c x = chip_after c (running m lock_after x) x.run.attempts x.run.last_tries
 
 abbrev pub after_runs : WaveformMemory → Bool → Chip → List AnyRun → Chip
-after_runs m lock_after c [] = c
-after_runs m lock_after c (x ∷ xs) = after_runs m lock_after (after_run m lock_after c x) xs
+after_runs m lock_after c xs = in_turn (after_run m lock_after) c xs

@@ -1,6 +1,6 @@
 -- What a write does to the chip's waveform memory and its lock: document 02, CR 14. A `Chip` (src/lib.rt) is the chip's address on the bus, its hundred
 -- bytes of memory, and whether they are unlocked; its other registers are not described.
-use Rattle.std.specs.Prelude.{ℕ, suc, ◌-◌, Bool, true, cond, ◌&&◌, List, [], ◌∷◌, leb, eqb, take, set}
+use Rattle.std.specs.Prelude.{ℕ, suc, ◌+◌, ◌-◌, ◌≤◌, ◌<◌, ◌≡◌, ◌⊎◌, Bool, true, false, cond, ◌&&◌, List, [], ◌∷◌, leb, eqb, length, take, set}
 use Rattle.field.specs.Field.{flag_of}
 use Rattle.registers.specs.Table.{address_of}
 use Rattle.exchange.specs.declared.Exchange.{Exchange}
@@ -21,16 +21,25 @@ abbrev pub stored_all : Chip → ℕ → List ℕ → Chip
 stored_all c register [] = c
 stored_all c register (b ∷ bytes) = stored_all (stored c register b) (suc register) bytes
 
--- bytes that reach the chip in one exchange: the first is the register; a read sends no other, and so it stores nothing
+-- bytes that reach the chip in one exchange: the first is the register
 abbrev pub written : Chip → List ℕ → Chip
 written c [] = c
 written c (register ∷ bytes) = stored_all c register bytes
 
--- "a failed write may have stored any leading part of its bytes": the first k of the bytes that the exchange sends reach the chip; those for another
--- address do not
-unfoldable pub part_made : ℕ → Chip → Exchange → Chip
-part_made k c e = cond (eqb e.address c.address) (written c (take k (take e.len e.bytes))) c
+-- "a failed write may have stored any leading part of its bytes": what an exchange leaves of which the first k bytes reach the bus; those for another
+-- address do not reach the chip
+unfoldable pub reached : ℕ → Chip → Exchange → Chip
+reached k c e = cond (eqb e.address c.address) (written c (take k (take e.len e.bytes))) c
 
 -- all of them
-abbrev pub made : Chip → Exchange → Chip
-made c e = part_made e.len c e
+abbrev pub reached_all : Chip → Exchange → Chip
+reached_all c e = reached e.len c e
+
+-- the same in words of single bytes, with the addresses said again here
+pub record Stores : Type 0 where
+  pub lock : (c : Chip) (b : ℕ) → b < 256 → stored c 0x2D b ≡ holding c c.bytes (leb 128 b)
+  pub unlocked : (c : Chip) (i b : ℕ) → c.unlocked ≡ true → stored c (0x84 + i) b ≡ holding c (set c.bytes i b) true
+  pub locked : (c : Chip) (i b : ℕ) → c.unlocked ≡ false → stored c (0x84 + i) b ≡ c
+  pub elsewhere : (c : Chip) (register b : ℕ) → length c.bytes ≡ 100 → ¬ (register ≡ 0x2D) → (register < 0x84) ⊎ (0xE7 < register) → stored c register b ≡ c
+  -- a read sends the register alone: it changes nothing, so any may be made between the runs
+  pub reads : (k : ℕ) (c : Chip) (e : Exchange) → e.len ≤ 1 → reached k c e ≡ c

@@ -1,10 +1,10 @@
 // The chip's waveform memory and its lock under uploads that are cut and repeated (document 02, CR 14).
-// Proved: `transfer` stores what specs/Writes.antt says. The claims on uploads that are cut, over the driver's own sessions, stand in
-// specs/Repeated.antt and specs/General.antt.
+// Proved: `transfer` stores what specs/Writes.antt says. specs/Repeated.antt: an upload by the driver's own sessions, run to its end, makes good whatever was
+// cut before; specs/General.antt says the same of runs that do not unlock, of which the driver has none.
 #![tactic(auto)]
 
 ghost use Rattle.std.specs.Prelude.{◌≡◌, ◌≤◌, length};
-ghost use Rattle.chip.specs.Writes.{stored, stored_all, written, part_made};
+ghost use Rattle.chip.specs.Writes.{stored, stored_all, written, reached};
 
 use exchange::Exchange;
 use registers::Register;
@@ -20,10 +20,10 @@ pub struct Chip {
 }
 
 impl Chip {
-    /// What an exchange leaves of which the first `k` bytes reach the chip.
-    #[tactic(auto, unfolding(crate::specs::Writes::part_made))]
+    /// What an exchange leaves of which the first `k` bytes reach the bus; the register is one of them.
+    #[tactic(auto, unfolding(crate::specs::Writes::reached))]
     pub fn transfer(&mut self, e: &Exchange, k: usize)
-        ensures { self.new ≡ part_made k self.old e.now }
+        ensures { self.new ≡ reached k self.old e.now }
     {
         if e.address != self.address {
             return;
