@@ -3,6 +3,7 @@
 pub mod boundary;
 pub mod bus;
 pub mod cases;
+pub mod chip;
 pub mod drive_points;
 pub mod driver;
 pub mod generate;
@@ -18,6 +19,7 @@ pub mod registers;
 pub mod settings;
 pub mod triggers;
 pub mod trim;
+pub mod uploads;
 pub mod whole;
 
 use std::fs;
