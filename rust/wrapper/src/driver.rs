@@ -451,6 +451,10 @@ impl DA728x {
     /// image, its second byte. If the upload fails, or its session is dropped, the memory may have
     /// a part of each image, and no sequence can be selected or played until one is completed.
     ///
+    /// To upload the same bytes again, with the same lock, makes good whatever was cut before, and
+    /// however often: once completed, memory and lock are as if nothing had been cut, if nothing
+    /// else writes to the memory or locks it in between, and the chip keeps its supply.
+    ///
     /// # Errors
     /// `WaveformMemoryFull` for more than 100 bytes; the driver is as before then.
     ///
@@ -473,6 +477,36 @@ impl DA728x {
     /// assert_eq!(driver.sequences(), 1);
     /// drop(driver.upload_waveform_memory(&image, true)?);
     /// assert_eq!(driver.sequences(), 0);
+    ///
+    /// // Cut in the second exchange, of which ten bytes came, and uploaded again.
+    /// let (mut memory, mut unlocked) = ([0xFF; IMAGE], false);
+    /// let mut write = |bytes: &[u8]| {
+    ///     for (at, byte) in bytes.iter().enumerate().skip(1) {
+    ///         match usize::from(bytes[0]) + at - 1 {
+    ///             0x2D => unlocked = *byte >= 0x80, // MEM_CTL2
+    ///             register if unlocked => memory[register - 0x84] = *byte,
+    ///             _ => {}
+    ///         }
+    ///     }
+    /// };
+    /// let mut exchanges = 0;
+    /// let cut = driver.upload_waveform_memory(&image, true)?.run(
+    ///     |exchange| {
+    ///         exchanges += 1;
+    ///         if exchanges == 2 {
+    ///             write(&exchange.bytes()[..11]);
+    ///             return Reply::Failed(7);
+    ///         }
+    ///         write(exchange.bytes());
+    ///         Reply::Done
+    ///     },
+    ///     &mut [],
+    /// );
+    /// assert_eq!(cut.unwrap_err().error, Error::I2c(7));
+    /// let again = driver.upload_waveform_memory(&image, true)?;
+    /// again.run(|exchange| { write(exchange.bytes()); Reply::Done }, &mut [])?;
+    /// assert!(memory == image && !unlocked);
+    /// assert_eq!(driver.sequences(), 1);
     /// # Ok::<(), Error>(())
     /// ```
     pub fn upload_waveform_memory(&mut self, image: &[u8], lock_after: bool) -> Started<'_> {
