@@ -26,7 +26,7 @@ fn main(rt: HostRuntime) -> io::Result<()> {
     println!(rt; "\nturn now")?;
     example_lists::read(&rt, turn.bytes())?;
     damaged(&rt, &turn)?;
-    example_drive::drive(&rt, &turn)
+    example_drive::drive(&rt, &ahead, &turn)
 }
 
 fn image(rt: &impl Print, title: &str, memory: &WaveformMemory) -> io::Result<()> {

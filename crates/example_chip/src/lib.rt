@@ -1,11 +1,11 @@
-// A simulated chip, and a session run on it. Each exchange is printed with the count that the session tells.
+// A simulated chip, its waveform memory the proved one, and a session run on it. Each exchange is printed with the count that the session tells.
 // Proved: every function returns.
 #![tactic(auto)]
 
-mod chip;
+mod device;
 
-pub use chip::Chip;
 use da728x::DA728x;
+pub use device::Device;
 use errors::Error;
 use exchange::{Exchange, Reply, SESSION_SIZE, Turn};
 use show::{Bytes, Column, Refusal, RegisterName};
@@ -17,24 +17,30 @@ const MOST: u8 = 125;
 // The code of the simulated bus for its failure.
 const NO_ACKNOWLEDGE: u8 = 3;
 
+/// The exchange at which the bus fails, by its index, and how many of its bytes reach the chip, the register's among them.
+#[derive(Clone, Copy, Debug)]
+pub struct Failure {
+    pub exchange: u8,
+    pub bytes: usize,
+}
+
 /// A chip, its driver's record, and the session that is run on it.
 #[derive(Clone, Copy, Debug)]
 pub struct Bench {
-    pub chip: Chip,
+    pub device: Device,
     pub record: DA728x,
     pub session: [u8; SESSION_SIZE],
-    /// The bus fails at the exchange with this index.
-    pub fails_at: Option<u8>,
+    pub fails: Option<Failure>,
 }
 
 impl Bench {
-    /// A chip that has been reset, with a record that no operation has made.
-    pub fn new(record: DA728x) -> Bench {
+    /// A chip at this address that has been reset, with a record that no operation has made.
+    pub fn new(address: u8, record: DA728x) -> Bench {
         Bench {
-            chip: Chip::reset(),
+            device: Device::reset(address),
             record,
             session: [0; SESSION_SIZE],
-            fails_at: None,
+            fails: None,
         }
     }
 
@@ -59,6 +65,25 @@ impl Bench {
         println!(rt; "  exchanges made: {made}, {end}")
     }
 
+    /// Tells how much of an image the chip's memory holds, from its first byte on, and its lock.
+    pub fn tell_memory(&self, rt: &impl Print, name: &str, image: &[u8]) -> io::Result<()> {
+        let memory = self.device.memory();
+        let held = memory
+            .bytes
+            .iter()
+            .zip(image)
+            .take_while(|(a, b)| a == b)
+            .count();
+        let len = image.len();
+        let lock = if memory.unlocked {
+            "unlocked"
+        } else {
+            "locked"
+        };
+        println!(rt; "  the chip's memory holds {held} of {len} bytes of {name}, {lock}")?;
+        println!(rt; "  its first 16 bytes:{}", Bytes(&memory.bytes[..16]))
+    }
+
     // One exchange; the answer goes back with the record.
     fn step(&mut self, rt: &impl Print, e: &Exchange) -> io::Result<()> {
         let reply = self.transfer(e);
@@ -68,10 +93,13 @@ impl Bench {
     }
 
     fn transfer(&mut self, e: &Exchange) -> Reply {
-        if self.fails_at == Some(exchange::made(&self.session)) {
-            return Reply::Failed(NO_ACKNOWLEDGE);
+        match self.fails {
+            Some(failure) if failure.exchange == exchange::made(&self.session) => {
+                self.device.reach(e, failure.bytes);
+                Reply::Failed(NO_ACKNOWLEDGE)
+            }
+            _ => self.device.transfer(e),
         }
-        self.chip.transfer(e)
     }
 }
 

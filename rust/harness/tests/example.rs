@@ -1,7 +1,8 @@
 //! What the program `example` says (crates/example/stdout) against the published Rust: its builder calls give its images, so do the
-//! lists that it read back, and its exchanges are the published driver's on the same chip.
+//! lists that it read back, and its exchanges are the published driver's on the same chip, whose memory and lock are the harness's own.
 
 use harness::bus::Script;
+use harness::chip;
 use harness::driver::{Operation, Outcome, Pair, compare_new};
 use harness::images::plain;
 use harness::oracle::Builders;
@@ -12,8 +13,8 @@ use yambelugo::{Call, DrivingMode, Error, OperationMode, Variant};
 
 const PATTERNS: [&str; 2] = ["shallow ahead", "turn now"];
 
-/// The index of the exchange that fails in part 5, and the bus's code.
-const FAILS: (usize, u8) = (4, 3);
+/// The bus's code for its failure, in parts 5 and 6.
+const CODE: u8 = 3;
 
 /// The lines below the title of a numbered part.
 fn part(number: usize) -> Vec<String> {
@@ -269,18 +270,22 @@ fn lists_give_the_images() {
 /// The simulated chip, on which the published driver is run.
 struct Chip {
     registers: [u8; 256],
+    memory: chip::Chip,
     exchanges: usize,
 }
 
+/// The exchange at which the bus fails, and how many bytes of it are stored.
+type Failure = (usize, usize);
+
 impl Chip {
     /// The bus on which these registers are read, in turn.
-    fn script(&self, reads: &[u8], fails: Option<(usize, u8)>) -> Script {
+    fn script(&self, reads: &[u8], fails: Option<Failure>) -> Script {
         let reads = reads.iter().map(|it| self.registers[usize::from(*it)]).collect();
-        Script { reads, fails }
+        Script { reads, fails: fails.map(|(exchange, _)| (exchange, CODE)) }
     }
 
     /// What is printed of an operation with this outcome, words parted by single blanks.
-    fn printed(&mut self, outcome: &Outcome) -> Vec<String> {
+    fn printed(&mut self, outcome: &Outcome, fails: Option<Failure>) -> Vec<String> {
         if let (Err((number, None)), 0) = (outcome.answer, outcome.made) {
             return vec![format!("refused with {}", refusal(number))];
         }
@@ -294,14 +299,16 @@ impl Chip {
                 0 => ("write", sent.to_vec()),
                 _ => ("read", vec![self.registers[at]]),
             };
-            if !breaks {
-                self.registers[at..at + sent.len()].copy_from_slice(sent);
+            let stored = fails.filter(|it| it.0 == i).map_or(sent.len(), |it| it.1);
+            let all = &exchange.bytes[..exchange.len];
+            self.memory.reached(exchange.address, all, exchange.wanted, stored);
+            if at < 0x84 {
+                self.registers[at..at + stored].copy_from_slice(&sent[..stored]);
             }
             let bytes: Vec<_> = bytes.iter().map(|byte| format!("{byte:02X}")).collect();
             let mut line = format!("{} {kind} {} {}", i + 1, named(register), bytes.join(" "));
             if breaks {
-                let code = FAILS.1;
-                line += &format!(" ends with {}, the bus's code {code}", refusal(17));
+                line += &format!(" ends with {}, the bus's code {CODE}", refusal(17));
             }
             lines.push(line);
             self.exchanges += 1;
@@ -310,6 +317,33 @@ impl Chip {
         lines.push(format!("exchanges made: {}, {end}", outcome.made));
         lines
     }
+
+    /// What is printed of the memory after an upload of this image.
+    fn held(&self, name: &str, image: &[u8]) -> [String; 2] {
+        let chip::Chip { bytes, unlocked, .. } = self.memory;
+        let held = image.iter().zip(bytes).take_while(|(new, held)| *new == held).count();
+        let lock = if unlocked { "unlocked" } else { "locked" };
+        let first: Vec<_> = bytes[..16].iter().map(|byte| format!("{byte:02X}")).collect();
+        [
+            format!("the chip's memory holds {held} of {} bytes of {name}, {lock}", image.len()),
+            format!("its first 16 bytes: {}", first.join(" ")),
+        ]
+    }
+}
+
+/// The bytes of a pattern's image without the zeros behind them.
+fn used(name: &str) -> Vec<u8> {
+    let mut image = printed_image(name);
+    let last = image[1 + usize::from(image[0] + image[1])];
+    image.truncate(usize::from(last) + 1);
+    image
+}
+
+/// How many bytes of the image are stored where the upload of part 6 is cut, as its paragraph says.
+fn stored_in_part_6() -> usize {
+    let (title, _) = &paragraphs(6)[0];
+    let bytes = title.split_once("; the bus fails when ").unwrap().1;
+    bytes.strip_suffix(" bytes of it are stored").unwrap().parse().unwrap()
 }
 
 /// A register's published name, or its place in the waveform memory.
@@ -333,34 +367,39 @@ fn operation(lines: &[String]) -> Vec<String> {
     joined
 }
 
-/// Each operation of parts 4 and 5: its exchanges in order, their bytes, the counts, and how it ends.
+/// Each operation of parts 4 to 6: its exchanges in order, their bytes, the counts, how it ends, and what the memory holds of an image.
 #[test]
 fn exchanges_are_the_published_ones() {
-    let mut chip = Chip { registers: [0; 256], exchanges: 0 };
+    let memory = chip::Chip { address: 0x4A, bytes: [0; 100], unlocked: false };
+    let mut chip = Chip { registers: [0; 256], memory, exchanges: 0 };
     for (register, byte) in [(0x00, 0xBA), (0x14, 0x05), (0x20, 0x50)] {
         chip.registers[register] = byte;
     }
-    let image = printed_image("turn now");
-    let used = usize::from(image[1 + usize::from(image[0] + image[1])]) + 1;
-    let upload = Operation::UploadWaveformMemory(image[..used].to_vec(), true);
+    let upload = |name| Operation::UploadWaveformMemory(used(name), true);
     let settings = |mode, driving| Operation::Configure(Settings::plain(mode, driving));
     let rtwm = settings(OperationMode::RTWM_MODE, DrivingMode::WIDEBAND);
     let dro = settings(OperationMode::DRO_MODE, DrivingMode::FREQUENCY_TRACK);
     let play = |id| Operation::PlaySequence(id, 0);
-    assert_eq!(image[1], 2, "the sequences of turn now");
-    let memory = ["the chip's memory holds the image of turn now"];
-    let record = ["the record is the one from before"];
-    let operations: [(&str, Operation, &[u8], Option<_>, &[&str]); 7] = [
-        ("configure:", rtwm, &[0x14, 0x20], None, &[]),
-        ("upload_waveform_memory:", upload, &[], None, &memory),
-        ("enable", Operation::Enable, &[], None, &[]),
-        ("play_sequence: sequence 1, loops 0", play(1), &[0x22], None, &[]),
-        ("play_sequence: sequence 2, which is not loaded", play(2), &[], None, &[]),
-        ("configure:", dro, &[0x14, 0x20], Some(FAILS), &record),
-        ("enable, ", Operation::Enable, &[], None, &[]),
+    let [ahead, turn] = PATTERNS;
+    assert_eq!(used(turn)[1], 2, "the sequences of turn now");
+    // The part within the image, so that bytes of both images are held.
+    let stored = stored_in_part_6();
+    assert!((1..used(ahead).len()).contains(&stored));
+    let record = "the record is the one from before";
+    // How a paragraph starts, the operation, the registers that are read, the failure, and a line behind it or the pattern's name.
+    let operations: [(&str, Operation, &[u8], Option<Failure>, &str); 9] = [
+        ("configure:", rtwm, &[0x14, 0x20], None, ""),
+        ("upload_waveform_memory: turn now,", upload(turn), &[], None, turn),
+        ("enable", Operation::Enable, &[], None, ""),
+        ("play_sequence: sequence 1, loops 0", play(1), &[0x22], None, ""),
+        ("play_sequence: sequence 2, which is not loaded", play(2), &[], None, ""),
+        ("configure:", dro, &[0x14, 0x20], Some((4, 0)), record),
+        ("enable, ", Operation::Enable, &[], None, ""),
+        ("upload_waveform_memory: shallow", upload(ahead), &[], Some((1, stored)), ahead),
+        ("upload_waveform_memory: the same,", upload(ahead), &[], None, ahead),
     ];
 
-    let mut told = paragraphs(4).into_iter().chain(paragraphs(5));
+    let mut told = (4..=6).flat_map(paragraphs);
     let mut hold = |start: &str, wanted: Vec<String>| {
         let (first, below) = told.next().unwrap();
         assert!(first.starts_with(start), "{first:?}, not {start:?}");
@@ -368,19 +407,30 @@ fn exchanges_are_the_published_ones() {
     };
     let variant = Variant::DA7280;
     let made = compare_new(0x4A, variant, &chip.script(&[0x00], None));
-    hold("new", chip.printed(&made));
+    hold("new", chip.printed(&made, None));
     let mut pair = Pair::new(0x4A, variant);
     for (start, operation, reads, fails, after) in operations {
+        let before = chip.memory;
         let outcome = pair.compare(&operation, &chip.script(reads, fails));
-        let mut wanted = chip.printed(&outcome);
-        wanted.extend(after.iter().map(|line| line.to_string()));
-        hold(start, wanted);
-        if let Operation::UploadWaveformMemory(bytes, _) = operation {
-            assert_eq!(chip.registers[0x84..][..used], bytes, "the chip's memory");
+        let mut wanted = chip.printed(&outcome, fails);
+        match &operation {
+            Operation::UploadWaveformMemory(image, _) => {
+                wanted.extend(chip.held(after, image));
+                // The image, or what is stored of it, over what was there, and locked at the end alone.
+                let new = if fails.is_some() { &image[..stored] } else { &image[..] };
+                let bytes = [new, &before.bytes[new.len()..]].concat();
+                assert_eq!(chip.memory.bytes, bytes[..], "{start}");
+                assert_eq!(chip.memory.unlocked, fails.is_some(), "{start}");
+            }
+            _ => {
+                wanted.extend((!after.is_empty()).then(|| after.to_string()));
+                assert_eq!(chip.memory, before, "{start}");
+            }
         }
+        hold(start, wanted);
     }
     assert!(told.next().is_none(), "more operations");
-    compared("exchanges of the example", chip.exchanges, 31);
+    compared("exchanges of the example", chip.exchanges, 36);
 }
 
 /// A pattern's calls in part 1 as one list, without the calls that begin an empty snippet or sequence.

@@ -1,6 +1,8 @@
 //! The stored sample, `crates/vectors/stdin`, and what the program `vectors` has to say of it, are
 //! what `sample` makes of the published Rust, and hold every kind of case that their head lists.
 
+use harness::chip::Chip;
+use harness::uploads::{Bare, Upload};
 use harness::{compared, text};
 use std::process::Command;
 
@@ -50,6 +52,9 @@ fn exported() -> Vec<String> {
     names.map(|(name, _)| name.to_string()).collect()
 }
 
+/// The kind of case that is of no function, but of the proved chip.
+const OF_THE_CHIP: &str = "cut uploads";
+
 /// As many cases of each kind as the head says, under its heading; every function is of some kind,
 /// or every session uses it.
 #[test]
@@ -70,12 +75,14 @@ fn every_kind_is_there() {
     }
     assert_eq!(sections.next(), None);
 
-    let named: Vec<&str> = kinds.iter().flat_map(|(_, names, _)| names.split(", ")).collect();
+    let named = kinds.iter().flat_map(|(_, names, _)| names.split(", "));
+    let named: Vec<&str> = named.filter(|name| *name != OF_THE_CHIP).collect();
     let exported = exported();
     let (shared, of_kinds): (Vec<&str>, Vec<&str>) =
         exported.iter().map(String::as_str).partition(|name| SHARED.contains(name));
     assert_eq!((&shared[..], of_kinds), (&SHARED[..], named));
-    compared("cases of the stored sample", cases, 5126);
+    compared("kinds of the stored sample", kinds.len(), 44);
+    compared("cases of the stored sample", cases, 5246);
 }
 
 fn bytes(field: &str) -> Vec<u8> {
@@ -193,4 +200,98 @@ fn settings_of_values_are_there() {
     let [[none, one, two], others] = met;
     assert!(none > 5 && one > 5 && two == 0 && others.iter().all(|cases| *cases > 1), "{met:?}");
     assert_eq!(Vec::from_iter(codes), [0, 1, 2, 3, 255]);
+}
+
+/// A case of uploads that are cut: the upload, the chip at first, and the runs.
+struct CutUploads {
+    upload: Upload,
+    start: Chip,
+    runs: Vec<Run>,
+}
+
+/// A run: how many exchanges are made, how it ends, how many bytes of the next reach the chip, and the chip then.
+struct Run {
+    made: usize,
+    end: u8,
+    reached: usize,
+    after: Chip,
+}
+
+fn cut_uploads(sample: &str) -> Vec<CutUploads> {
+    let cases = sample.lines().filter_map(|line| line.strip_prefix("32 "));
+    cases
+        .map(|case| {
+            let fields: Vec<Vec<u8>> = case.split(' ').map(bytes).collect();
+            let [record, lock, image, start, runs @ ..] = &fields[..] else { panic!("{case}") };
+            let chip = |unlocked: u8, bytes: &[u8]| {
+                assert!(unlocked < 2);
+                let bytes = bytes.try_into().unwrap();
+                Chip { address: record[0], bytes, unlocked: unlocked == 1 }
+            };
+            let run = |run: &Vec<u8>| Run {
+                made: run[0].into(),
+                end: run[1],
+                reached: run[2].into(),
+                after: chip(run[4], &run[5..]),
+            };
+            CutUploads {
+                upload: Upload { image: image.clone(), lock: lock[0] == 1 },
+                start: chip(start[0], &start[1..]),
+                runs: runs.iter().map(run).collect(),
+            }
+        })
+        .collect()
+}
+
+/// Uploads are cut in the unlock, in each of four chunks and in the lock, before the first byte that is stored, in the midst and behind the
+/// last one, by a session that is dropped and by a failure; from locked and unlocked memory, once to five times. Each run leaves what
+/// document 01's writes leave, as far as they reach the chip, and the last one the whole image and the lock that is asked.
+#[test]
+fn cuts_are_there() {
+    let sample = text("crates/vectors/stdin");
+    // By exchange (unlock, the chunks, lock), by how much is stored of it, and by how the run ends.
+    let mut met = [[[0; 2]; 3]; 6];
+    let (mut starts, mut lengths, mut cuts) = ([0; 4], [0; 101], [0; 6]);
+    let mut whole_between = 0;
+    for CutUploads { upload, start, runs } in cut_uploads(&sample) {
+        let (writes, mut chip) = (Bare::new(true).writes(&upload), start);
+        for run in &runs {
+            for sent in &writes[..run.made] {
+                chip.reached(chip.address, sent, 0, sent.len());
+            }
+            let next = writes.get(run.made);
+            assert_eq!(run.end == 0, next.is_none());
+            if let Some(sent) = next {
+                let stored = run.reached.saturating_sub(1);
+                chip.reached(chip.address, sent, 0, stored);
+                let place = if run.made > 0 && sent[0] == 0x2D { 5 } else { run.made };
+                let part = if stored == 0 { 0 } else { 1 + usize::from(run.reached == sent.len()) };
+                met[place][part][usize::from(run.end) - 1] += 1;
+            }
+            assert_eq!(chip, run.after);
+        }
+        let (last, before) = runs.split_last().unwrap();
+        assert_eq!((last.end, last.after), (0, upload.whole(&start)));
+        let cut = before.iter().filter(|run| run.end != 0).count();
+        starts[2 * usize::from(start.unlocked) + usize::from(upload.lock)] += 1;
+        lengths[upload.image.len()] += 1;
+        cuts[cut] += 1;
+        whole_between += before.len() - cut;
+    }
+    println!("cuts by exchange, by the part that is stored, dropped and failed: {met:?}");
+    println!(
+        "starts {starts:?}, how many cuts {cuts:?}, whole runs before the last {whole_between}"
+    );
+    for (place, parts) in met.iter().enumerate() {
+        for (part, ends) in parts.iter().enumerate() {
+            // An unlock and a lock have one byte, which is stored or not.
+            let is_there = part != 1 || (1..5).contains(&place);
+            assert!(ends.iter().all(|cases| (*cases > 0) == is_there), "{place}, {part}: {ends:?}");
+        }
+    }
+    assert!(starts.iter().chain(&cuts[1..]).all(|cases| *cases > 5));
+    assert!(cuts[0] == 0 && whole_between > 5);
+    let given = [0, 1, 31, 32, 33, 63, 64, 65, 96, 97, 98, 99, 100];
+    assert!(given.iter().all(|length| lengths[*length] > 2), "{lengths:?}");
+    compared("cases of cut uploads", lengths.iter().sum(), 120);
 }

@@ -9,7 +9,8 @@
 
 use da728x::waveform::PwlPoint;
 use harness::bus::{Script, Wire, kind};
-use harness::driver::{Operation, Outcome, Published, Value, revision};
+use harness::chip::{Board, Chip, Cut, Plan};
+use harness::driver::{Operation, Outcome, Published, Value, record_bytes, revision};
 use harness::generate::{add_frames, any_call, any_frame_call, any_point, frame, good_point};
 use harness::generate::{list, with_noise};
 use harness::images::{Lists, added, frame_word, hundred, plain};
@@ -22,13 +23,14 @@ use harness::raw::{LISTS, result_word};
 use harness::registers::{ADDRESSES, Field, GROUPS};
 use harness::settings::{DRIVINGS, MEMORY_TIMEBASES, Settings, VARIANTS, near};
 use harness::text;
+use harness::uploads::{self, Program, Upload};
 use harness::whole::Judged;
 use std::fmt::Write;
 use yambelugo::{Call, DrivingMode, OperationMode, Reply, Variant};
 
-/// Each kind of case: its number, the name of its C function without `da728x_`, and how many there
-/// are. A kind's cases depend on nothing but its number and how many they are.
-const KINDS: [(u8, &str, usize); 43] = [
+/// Each kind of case: its number, the name of its C function without `da728x_`, or of what it is in
+/// two words, and how many there are. A kind's cases depend on nothing but its number and how many they are.
+const KINDS: [(u8, &str, usize); 44] = [
     (0x01, "point", 300),
     (0x02, "point_is_ramp", 256),
     (0x03, "point_timebases", 256),
@@ -72,6 +74,7 @@ const KINDS: [(u8, &str, usize); 43] = [
     (0x17, "voltage_settings", 60),
     (0x18, "current_settings", 60),
     (0x19, "frequency_settings", 60),
+    (0x32, "cut uploads", 120),
 ];
 
 /// The lengths of buffer that the addresses are copied into.
@@ -86,6 +89,10 @@ const WORDS: [u16; 21] = [
     0, 1, 731, 732, 733, 734, 735, 837, 2499, 2500, 2501, 4411, 14999, 15000, 15001, 29999, 30000,
     30001, 32767, 32768, 65535,
 ];
+
+/// The lengths of image that are uploaded in turn, before others: the ends of each chunk with their
+/// neighbours, and more that have four chunks.
+const LENGTHS: [usize; 16] = [0, 1, 31, 32, 33, 63, 64, 65, 96, 97, 98, 99, 100, 100, 100, 100];
 
 /// The longest line that the program takes.
 const LONGEST: usize = 4096;
@@ -118,6 +125,12 @@ kind 20 has none at the start, and 38 bytes A5 are lent with its answer. A recor
 bytes says that the one lent is as before. An exchange is the chip address; how many bytes are
 sent, plus 80 if a byte is wanted, plus 40 if the bus fails; the bytes sent; the byte read or the
 bus's code, if there is one.
+Kind 32, runs of one upload to one chip, cut or not, the last one whole: the record, the lock choice,
+the image, then whether the chip's memory is unlocked (01 or 00) and its hundred bytes; then a field
+of each run: how many exchanges are made before it ends; 00 if they are all, 01 if it is dropped, 02
+if the bus fails; how many bytes of one exchange more reach the chip, the register's among them; the
+bus's code; whether the memory is unlocked then, and its bytes. The record and the session's bytes are
+lent to one run after the other. The chip is the harness's, after document 02 (CR 14).
 ";
 
 fn main() {
@@ -186,6 +199,7 @@ fn fields(kind: u8, at: usize, random: &mut Random) -> Vec<Vec<u8>> {
         0x0C..=0x13 => register_fields(kind, random),
         0x17..=0x19 => settings_of(kind, at, random),
         0x20 => made(random),
+        0x32 => cut(at, random),
         _ => operated(kind, random),
     }
 }
@@ -781,4 +795,63 @@ fn result(outcome: &Outcome) -> Vec<u8> {
         Ok(Value::Nothing) | Err(_) => 0,
     };
     bytes_of(result_word(value, outcome.made, outcome.answer.is_ok()))
+}
+
+// ---- uploads that are cut
+
+/// An upload to one chip: run one to five times, the first cut and the others nearly always, and then to
+/// its end, which leaves what one run alone leaves.
+fn cut(at: usize, random: &mut Random) -> Vec<Vec<u8>> {
+    let (address, variant) = (random.byte(), random.pick(&VARIANTS));
+    let settings = random.chance(50).then(|| Settings::accepted(random));
+    let sequences = random.near(&[0, 1, 2, 16]);
+    let record = record_bytes(address, variant, settings.as_ref(), sequences);
+    let len = LENGTHS.get(at % 24).copied().unwrap_or_else(|| random.within(2, 95));
+    let image = (0..len).map(|_| random.byte()).collect();
+    let upload = Upload { image, lock: random.chance(50) };
+    let bytes = [(); 100].map(|()| random.byte());
+    let start = Chip { address, bytes, unlocked: random.chance(50) };
+
+    let (mut published, mut chip) = (uploads::Published::default(), start);
+    let mut runs = Vec::new();
+    for before in 0..1 + at % 5 {
+        let cut = (before == 0 || random.chance(90)).then(|| place(&upload, random));
+        runs.push(run(&mut published, &mut chip, &upload, cut));
+    }
+    runs.push(run(&mut published, &mut chip, &upload, None));
+    assert_eq!(chip, uploads::Published::default().whole(start, &upload), "{upload:02X?}");
+
+    let start = [vec![start.unlocked.into()], bytes.to_vec()].concat();
+    [vec![record.to_vec(), vec![upload.lock.into()], upload.image, start], runs].concat()
+}
+
+/// An exchange, how many of its bytes reach the chip, often none or all of those behind the register,
+/// and the bus's code if it fails.
+fn place(upload: &Upload, random: &mut Random) -> (usize, usize, Option<u8>) {
+    let at = random.below(upload.exchanges());
+    let sent = 1 + upload.data(at);
+    let some = random.within(2, sent);
+    let reached = random.pick(&[0, 1, 2, some, sent - 1, sent, sent]);
+    (at, reached, random.chance(50).then(|| random.byte()))
+}
+
+/// Runs the published upload as far as it is cut; the field of the run.
+fn run(
+    published: &mut uploads::Published,
+    chip: &mut Chip,
+    upload: &Upload,
+    cut: Option<(usize, usize, Option<u8>)>,
+) -> Vec<u8> {
+    let (plan, head) = match cut {
+        None => (Plan::default(), [upload.exchanges() as u8, 0, 0, 0]),
+        Some((at, reached, code)) => {
+            let end = if code.is_none() { 1 } else { 2 };
+            let head = [at as u8, end, reached as u8, code.unwrap_or(0)];
+            (Plan::cut(Cut { at, part: reached.saturating_sub(1), code }), head)
+        }
+    };
+    let mut board = Board::new(*chip, plan);
+    assert_eq!(published.run(&mut board, chip.address, upload), cut.is_none());
+    *chip = board.chip;
+    [&head[..], &[chip.unlocked.into()], &chip.bytes].concat()
 }
