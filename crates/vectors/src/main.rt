@@ -1,6 +1,6 @@
 // Replays the stored sample of the published Rust's answers, with the papers' values where docs/DIFFERENCES.md has them, which comes by
-// standard input, on the functions exported for C, images also by Rattle's own types, and says of each kind how many cases agree. The sample's
-// head says what it is; a case that does not agree, or is no case, is told by the number of its line.
+// standard input, on the functions exported for C, images also by Rattle's own types, uploads that are cut on the proved chip, and says
+// of each kind how many cases agree. The sample's head says what it is; a case that does not agree, or is no case, is told by the number of its line.
 // Proved: every function is safe and returns, whatever the input.
 #![tactic(auto)]
 
