@@ -1,9 +1,8 @@
 // The cases of the stored sample that drive the chip: a session is begun, run on the exchanges that the case tells, and asked for what
-// it leaves; of uploads that are cut, the chip is.
+// it leaves.
 // Proved: every function is safe and returns.
 #![tactic(auto)]
 
-mod cut;
 mod kind;
 mod told;
 
@@ -32,11 +31,6 @@ struct Case<'a> {
 
 /// Whether these fields are a case that drives the chip, and it agrees.
 pub fn agrees(fields: &[Vec<u8>]) -> bool {
-    operation_agrees(fields) || cut::agrees(fields)
-}
-
-// The same of one operation.
-fn operation_agrees(fields: &[Vec<u8>]) -> bool {
     let [
         kind,
         record,

@@ -1,4 +1,7 @@
-// Uploads that are cut and run again, on the proved chip.
+// The cases of the stored sample that upload and are cut, replayed on the proved chip, which is asked what it holds after each run.
+// Proved: every function is safe and returns.
+#![tactic(auto)]
+
 use chip::Chip;
 use exchange::Exchange;
 use laws::byte_at;
