@@ -311,7 +311,9 @@ size_t da728x_replace_trigger(uint8_t byte, uint8_t value, uint8_t *out, size_t 
  *                                da728x_select_sequence that was begun before an upload still
  *                                sends its number
  *   two sessions at a time on    NO refusal: one may write back a byte that it read before the
- *   a chip                       other changed it
+ *   a chip                       other changed it, or lock the memory under an upload, which then
+ *                                is completed and has its count, although its other bytes are not
+ *                                stored
  *   a start in a session that    NO refusal: it replaces that session, whose exchanges that were
  *   is under way                 left are not made, so that the chip has a part of what was meant
  *   an upload that is not run    the count stays 0, and da728x_select_sequence and
@@ -320,8 +322,9 @@ size_t da728x_replace_trigger(uint8_t byte, uint8_t value, uint8_t *out, size_t 
  *   another image after an       NO refusal: behind the end of a shorter one the memory keeps bytes
  *   upload that was cut          of the one that was cut, as it does of any longer image before
  *   done is answered for a       NO refusal: it counts as made. An upload is then completed, and
- *   write that failed            has its count, although the memory has a part of each image.
- *                                Answer DA728X_FAILED wherever the bus does not acknowledge all
+ *   write that failed            has its count, although the memory may have none or a part of the
+ *                                image, or be left unlocked. Answer DA728X_FAILED wherever the bus
+ *                                does not acknowledge all
  *   one session buffer for two   fine, one session after the other
  *   chips
  *   another chip's record, lent  the operation goes to that other chip: NO refusal. An upload sets
@@ -525,9 +528,9 @@ uint8_t da728x_lock_waveform_memory(const uint8_t *record, size_t record_len,
  * of its bytes, and locks it if lock_after is not 0: 6 exchanges for a hundred bytes and the
  * lock. 8 for more than 100 bytes. The bytes go out as they are: it is da728x_read_counts that
  * tells whether they are an image. The session keeps a copy of them. If an exchange fails, or the
- * session is left half-way, the memory is as it was before, or it is unlocked and the first of
- * its bytes are new, or, if the lock is asked for, all are and it is locked: upload again before
- * playing. An upload of the same bytes with the same lock_after that is completed then makes good
+ * session is left half-way, the memory is as it was before; or it is unlocked and has the first
+ * bytes of the image, or none; or, if the lock is asked for, it has them all and is locked: upload
+ * again before playing. An upload of the same bytes with the same lock_after that is completed then makes good
  * whatever was cut before, and however often: memory and lock are as if nothing had been cut, if
  * nothing else writes to the memory or locks it in between, and the chip keeps its supply. It is
  * begun with a new start: no exchange is left out because it was made before.

@@ -7,8 +7,9 @@ use Rattle.laws.specs.Bytes.{All}
 use Rattle.memory.specs.declared.WaveformMemory.{WaveformMemory}
 use Rattle.sessions.specs.Sessions.{send_steps}
 use Rattle.chip.specs.declared.Chip.{Chip}
-use Rattle.chip.specs.Writes.{holding}
-use Rattle.chip.specs.Runs.{Run, after_upload, after_uploads, AnyRun, after_run, after_runs}
+use Rattle.chip.specs.Writes.{holding, reached}
+use Rattle.exchange.specs.declared.Exchange.{Exchange}
+use Rattle.chip.specs.Runs.{tried, in_turn, InTurn, Run, after_upload, after_uploads, AnyRun, after_run, after_runs}
 use Rattle.chip.specs.Repeated.{Sized, Whole, laid, shown, Repeated, Result, Leaves}
 use Rattle.chip.specs.General.{WholeRun}
 use Rattle.chip.proofs.Stores.{front, at, length_front, take_front, drop_front}
@@ -85,18 +86,32 @@ module _ (m : WaveformMemory) (lock_after : Bool) (start : Chip) (z : Sized m st
           let f : d.bytes ≡ front image start.bytes n = sym (take-append-drop n d.bytes) ∙ (λ i. l.2 i ++ b.behind i) in
           o.shut u l.0 ∙ (λ i. record { address = b.address i; bytes = f i; unlocked = (l.0 ∙ ap not (sym l.1)) i })
 
--- ---- one run after others
+-- ---- one after the other
 
-after_append : (m : WaveformMemory) (lock_after : Bool) (xs : List AnyRun) (c : Chip) (x : AnyRun) →
-    after_runs m lock_after c (xs ++ (x ∷ [])) ≡ after_run m lock_after (after_runs m lock_after c xs) x
-after_append m lock_after [] c x = refl
-after_append m lock_after (y ∷ ys) c x = after_append m lock_after ys (after_run m lock_after c y) x
+-- a list and one more
+in_turn_more : {A : Type 0} (f : Chip → A → Chip) (xs : List A) (c : Chip) (x : A) → in_turn f c (xs ++ (x ∷ [])) ≡ f (in_turn f c xs) x
+in_turn_more f [] c x = refl
+in_turn_more f (y ∷ ys) c x = in_turn_more f ys (f c y) x
+
+tried_more : (ks : List ℕ) (k : ℕ) (c : Chip) (e : Exchange) → tried (ks ++ (k ∷ [])) c e ≡ reached k (tried ks c e) e
+tried_more [] k c e = refl
+tried_more (j ∷ ks) k c e = tried_more ks k (reached j c e) e
+
+pub in_their_turn : InTurn
+in_their_turn = record {
+  tries = tried_more;
+  untried = λ c e. refl;
+  uploads = λ m lock_after c xs x. in_turn_more (after_upload m lock_after) xs c x;
+  no_upload = λ m lock_after c. refl;
+  runs = λ m lock_after c xs x. in_turn_more (after_run m lock_after) xs c x;
+  no_run = λ m lock_after c. refl;
+}
 
 pub repeats : (m : WaveformMemory) (lock_after : Bool) (c : Chip) (cut : List AnyRun) (last sole : AnyRun) → Sized m c →
     WholeRun m lock_after c last → WholeRun m lock_after c sole → (c.unlocked ≡ true) ⊎ All (λ (x : AnyRun). x.unlocks ≡ true) (sole ∷ last ∷ cut) →
     after_runs m lock_after c (cut ++ (last ∷ [])) ≡ after_run m lock_after c sole
 repeats m lock_after c cut last sole z w v p =
-    after_append m lock_after cut c last
+    in_turn_more (after_run m lock_after) cut c last
     ∙ to_end m lock_after c z last (after_runs m lock_after c cut) (between m lock_after c z cut c (first m lock_after c z c.unlocked refl)) w (of_last p)
     ∙ sym (to_end m lock_after c z sole c (first m lock_after c z c.unlocked refl) v (of_sole p))
   where

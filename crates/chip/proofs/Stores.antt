@@ -1,7 +1,7 @@
 -- What writes store: a part of an image over the front of a memory that is unlocked, and nothing in one that is locked. Assumes nothing.
 use Rattle.std.proofs.Common.{ℕ, zero, suc, ◌+◌, ◌-◌, ◌≤◌, ◌<◌, ◌/◌, ◌%◌, max, ◌≡◌, ◌∙◌, ◌⊎◌, inl, inr, refl, sym, ap, Bool, true, false, cond, ltb, leb, eqb, List, [], ◌∷◌, ◌++◌, length, take, drop, set, replicate, arith, le-leb, leb-true, leb-false, eq-eqb, ne_eqb}
 use Rattle.std.proofs.lemmas.Bool.{lt-ltb, le-ltb, lt-leb}
-use Rattle.std.proofs.Math.Seq.{sets, sets-eq, take-add, take-append_seam, take-nil}
+use Rattle.std.proofs.Math.Seq.{sets, sets-eq, take-add, take-append_seam, take-nil, take_all}
 use Rattle.std.proofs.Math.ListN.{length-take, length-drop, length-append}
 use Rattle.std.proofs.lemmas.List.{take-append-le, take-append-drop, take-take, drop-take}
 use Rattle.std.proofs.lemmas.Slice.{drop-append-drop}
@@ -169,6 +169,13 @@ read_only k c e h = go (eqb e.address c.address) where
   go true = alone c (take k (take e.len e.bytes)) (simp length-take (omega arith))
   go false = refl
 
+unsent : (c : Chip) (e : Exchange) → reached 0 c e ≡ c
+unfolding reached
+unsent c e = go (eqb e.address c.address) where
+  go : (q : Bool) → cond q c c ≡ c
+  go true = refl
+  go false = refl
+
 pub stores : Stores
 unfolding stored
 stores = record {
@@ -178,5 +185,14 @@ stores = record {
       rw (ne_eqb (132 + i) 0x2D (λ e. omega arith), le-leb 132 (132 + i) (omega arith), k, h);
   locked = λ c i b h. shut_stays c (132 + i) b h (omega arith);
   elsewhere = nothing_there;
+  none = unsent;
+  parts = λ k c register bytes.
+      let p : suc k - 1 ≡ k = omega arith in
+      part_own c c.address register bytes (suc k) refl ∙ ap (λ (i : ℕ). stored_all c register (take i bytes)) p;
+  all = λ c register bytes.
+      let p : length (register ∷ bytes) - 1 ≡ length bytes = omega arith in
+      part_own c c.address register bytes (length (register ∷ bytes)) refl
+      ∙ ap (λ (i : ℕ). stored_all c register (take i bytes)) p
+      ∙ ap (stored_all c register) (take_all (length bytes) bytes (omega arith));
   reads = read_only;
 }

@@ -1,6 +1,6 @@
 -- What the chip holds after an upload's session went as far as it did: document 02, CR 14. The session is the driver's own: what it hands out, what an
 -- answer tells and what it does are those of the contracts of `pending`, `answer` and `upload_waveform_memory`.
-use Rattle.std.specs.Prelude.{ℕ, min, Bool, true, cond, List, [], ◌∷◌, ◌++◌, map, eqb}
+use Rattle.std.specs.Prelude.{ℕ, min, ◌≡◌, Bool, true, cond, List, [], ◌∷◌, ◌++◌, map, eqb}
 use Rattle.memory.specs.declared.WaveformMemory.{WaveformMemory}
 use Rattle.da728x.specs.declared.DA728x.{DA728x}
 use Rattle.exchange.specs.declared.Step.{Step}
@@ -91,3 +91,14 @@ after_run m lock_after c x = chip_after c (running m lock_after x) x.run.attempt
 
 abbrev pub after_runs : WaveformMemory → Bool → Chip → List AnyRun → Chip
 after_runs m lock_after c xs = in_turn (after_run m lock_after) c xs
+
+-- each try and each run counts, in its turn: the same from behind
+pub record InTurn : Type 0 where
+  pub tries : (ks : List ℕ) (k : ℕ) (c : Chip) (e : Exchange) → tried (ks ++ (k ∷ [])) c e ≡ reached k (tried ks c e) e
+  pub untried : (c : Chip) (e : Exchange) → tried [] c e ≡ c
+  pub uploads : (m : WaveformMemory) (lock_after : Bool) (c : Chip) (xs : List Run) (x : Run) →
+      after_uploads m lock_after c (xs ++ (x ∷ [])) ≡ after_upload m lock_after (after_uploads m lock_after c xs) x
+  pub no_upload : (m : WaveformMemory) (lock_after : Bool) (c : Chip) → after_uploads m lock_after c [] ≡ c
+  pub runs : (m : WaveformMemory) (lock_after : Bool) (c : Chip) (xs : List AnyRun) (x : AnyRun) →
+      after_runs m lock_after c (xs ++ (x ∷ [])) ≡ after_run m lock_after (after_runs m lock_after c xs) x
+  pub no_run : (m : WaveformMemory) (lock_after : Bool) (c : Chip) → after_runs m lock_after c [] ≡ c

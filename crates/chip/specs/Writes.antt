@@ -4,6 +4,7 @@ use Rattle.std.specs.Prelude.{ℕ, suc, ◌+◌, ◌-◌, ◌≤◌, ◌<◌, �
 use Rattle.field.specs.Field.{flag_of}
 use Rattle.registers.specs.Table.{address_of}
 use Rattle.exchange.specs.declared.Exchange.{Exchange}
+use Rattle.exchange.specs.Steps.{exchange}
 use Rattle.chip.specs.declared.Chip.{Chip}
 
 abbrev pub holding : Chip → List ℕ → Bool → Chip
@@ -41,5 +42,9 @@ pub record Stores : Type 0 where
   pub unlocked : (c : Chip) (i b : ℕ) → c.unlocked ≡ true → stored c (0x84 + i) b ≡ holding c (set c.bytes i b) true
   pub locked : (c : Chip) (i b : ℕ) → c.unlocked ≡ false → stored c (0x84 + i) b ≡ c
   pub elsewhere : (c : Chip) (register b : ℕ) → length c.bytes ≡ 100 → ¬ (register ≡ 0x2D) → (register < 0x84) ⊎ (0xE7 < register) → stored c register b ≡ c
+  -- of a write the register reaches the chip first, and then byte for byte what is behind it
+  pub none : (c : Chip) (e : Exchange) → reached 0 c e ≡ c
+  pub parts : (k : ℕ) (c : Chip) (register : ℕ) (bytes : List ℕ) → reached (suc k) c (exchange c.address (register ∷ bytes) 0) ≡ stored_all c register (take k bytes)
+  pub all : (c : Chip) (register : ℕ) (bytes : List ℕ) → reached_all c (exchange c.address (register ∷ bytes) 0) ≡ stored_all c register bytes
   -- a read sends the register alone: it changes nothing, so any may be made between the runs
   pub reads : (k : ℕ) (c : Chip) (e : Exchange) → e.len ≤ 1 → reached k c e ≡ c

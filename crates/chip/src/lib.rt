@@ -1,6 +1,6 @@
 // The chip's waveform memory and its lock under uploads that are cut and repeated (document 02, CR 14).
 // Proved: `transfer` stores what specs/Writes.antt says. specs/Repeated.antt: an upload by the driver's own sessions, run to its end, makes good whatever was
-// cut before; specs/General.antt says the same of runs that do not unlock, of which the driver has none.
+// cut before; specs/General.antt says when runs do so of which some do not unlock, as none of the driver's does.
 #![tactic(auto)]
 
 ghost use Rattle.std.specs.Prelude.{◌≡◌, ◌≤◌, length};

@@ -451,7 +451,7 @@ impl DA728x {
     /// image, its second byte. If the upload fails, or its session is dropped, the memory may have
     /// a part of each image, and no sequence can be selected or played until one is completed.
     ///
-    /// To upload the same bytes again, with the same lock, makes good whatever was cut before, and
+    /// Uploading the same bytes again, with the same lock, makes good whatever was cut before, and
     /// however often: once completed, memory and lock are as if nothing had been cut, if nothing
     /// else writes to the memory or locks it in between, and the chip keeps its supply.
     ///
