@@ -127,20 +127,21 @@ fn every_cut(program: &mut impl Program, lengths: impl Iterator<Item = usize>) -
 /// those of the chunks.
 const CUTS: usize = 2 * (2 * (101 * 2 + 5050 + 32 * (1 + 2 + 3) + 4 * 4) + 101 * 2);
 
-#[test]
-fn every_cut_of_the_library() {
-    let found = every_cut(&mut Library::default(), 0..=IMAGE);
-    compared("cuts of the library's uploads", found.cuts, 22_244);
+fn every_cut_is_made_good(mut program: impl Program, what: &str) {
+    let found = every_cut(&mut program, 0..=IMAGE);
+    compared(what, found.cuts, 22_244);
     compared("runs cut there", found.runs, 66_732);
     assert_eq!(found, Found { cuts: CUTS, runs: 3 * CUTS, ..Found::default() });
 }
 
 #[test]
+fn every_cut_of_the_library() {
+    every_cut_is_made_good(Library::default(), "cuts of the library's uploads");
+}
+
+#[test]
 fn every_cut_of_the_published_rust() {
-    let found = every_cut(&mut Published::default(), 0..=IMAGE);
-    compared("cuts of the published uploads", found.cuts, 22_244);
-    compared("runs cut there", found.runs, 66_732);
-    assert_eq!(found, Found { cuts: CUTS, runs: 3 * CUTS, ..Found::default() });
+    every_cut_is_made_good(Published::default(), "cuts of the published uploads");
 }
 
 /// Writes with a fault leave something else in the end, after some cut; the same writes without one never do.
