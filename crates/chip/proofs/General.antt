@@ -67,7 +67,8 @@ pub general : General
 unfolding send_steps
 general = record {
   repeated = repeats;
-  ours = λ m lock_after x. refl;
+  ours = λ m lock_after c x. (refl, refl, refl);
   shut = λ m lock_after c x z l u. (one m lock_after c x z).shut u l;
-  undisturbed = undisturbed;
+  undisturbed = λ m lock_after unlocks r st e s.
+      undisturbed m lock_after (record { unlocks = unlocks; run = record { driver = r; session = st; attempts = []; last_tries = [] } }) e s;
 }

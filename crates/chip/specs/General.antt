@@ -1,12 +1,12 @@
 -- The same for runs that unlock the memory first, as the driver's do, or do not, as none of the driver's does, under the proviso of document 02, CR 14; and
 -- that runs of both kinds need it.
-use Rattle.std.specs.Prelude.{◌≡◌, ◌⊎◌, Bool, true, false, List, [], ◌∷◌, ◌++◌, length}
+use Rattle.std.specs.Prelude.{ℕ, ◌≡◌, ◌⊎◌, Bool, true, false, List, [], ◌∷◌, ◌++◌, length}
 use Rattle.laws.specs.Bytes.{All}
 use Rattle.memory.specs.declared.WaveformMemory.{WaveformMemory}
-use Rattle.exchange.specs.State.{is_session, completed}
-use Rattle.exchange.specs.Session.{final}
+use Rattle.da728x.specs.declared.DA728x.{DA728x}
+use Rattle.exchange.specs.State.{is_session}
 use Rattle.chip.specs.declared.Chip.{Chip}
-use Rattle.chip.specs.Runs.{Attempt, calls, uploading, Run, AnyRun, running, is_whole_run, after_run, after_runs}
+use Rattle.chip.specs.Runs.{Attempt, uploading, Run, is_whole, after_upload, AnyRun, running, is_whole_run, after_run, after_runs}
 use Rattle.chip.specs.Repeated.{Sized}
 
 -- a run to this chip, to its end
@@ -19,15 +19,18 @@ pub record General : Type 0 where
       WholeRun m lock_after c last → WholeRun m lock_after c sole →
       (c.unlocked ≡ true) ⊎ All (λ (x : AnyRun). x.unlocks ≡ true) (sole ∷ last ∷ cut) →
       after_runs m lock_after c (cut ++ (last ∷ [])) ≡ after_run m lock_after c sole
-  -- the driver's own upload is the run that unlocks
-  pub ours : (m : WaveformMemory) (lock_after : Bool) (x : Run) →
-      running m lock_after (record { unlocks = true; run = x }) ≡ uploading m lock_after x.driver x.session
+  -- the driver's own upload is the run that unlocks: its session, what it leaves, and whether it is run to its end
+  pub ours : (m : WaveformMemory) (lock_after : Bool) (c : Chip) (x : Run) → let y : AnyRun = record { unlocks = true; run = x } in
+      (running m lock_after y ≡ uploading m lock_after x.driver x.session)
+      × (after_run m lock_after c y ≡ after_upload m lock_after c x)
+      × (is_whole_run m lock_after y ≡ is_whole m lock_after x)
   -- "nothing while locked"
   pub shut : (m : WaveformMemory) (lock_after : Bool) (c : Chip) (x : AnyRun) → Sized m c → c.unlocked ≡ false → x.unlocks ≡ false →
       after_run m lock_after c x ≡ c
-  -- every upload can be run to its end, with nothing that disturbs it
-  pub undisturbed : (m : WaveformMemory) (lock_after : Bool) (x : AnyRun) → length m.«data» ≡ 100 → is_session x.run.session ≡ true →
-      (attempts : List Attempt) × All (λ (a : Attempt). a.tries ≡ []) attempts × (completed (final (running m lock_after x) (calls attempts)) ≡ true)
+  -- in any bytes that are a session each can be run to its end, with nothing that disturbs it
+  pub undisturbed : (m : WaveformMemory) (lock_after : Bool) (unlocks : Bool) (r : DA728x) (st : List ℕ) → length m.«data» ≡ 100 → is_session st ≡ true →
+      (attempts : List Attempt) × All (λ (a : Attempt). a.tries ≡ []) attempts
+      × (is_whole_run m lock_after (record { unlocks = unlocks; run = record { driver = r; session = st; attempts = attempts; last_tries = [] } }) ≡ true)
 
 -- without the proviso not even the bytes are the same, though the last run and the sole one are of one kind: where a cut run unlocks a locked memory, and
 -- these two do not
