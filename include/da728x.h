@@ -532,7 +532,8 @@ uint8_t da728x_lock_waveform_memory(const uint8_t *record, size_t record_len,
  * bytes of the image, or none; or, if the lock is asked for, it has them all and is locked: upload
  * again before playing. An upload of the same bytes with the same lock_after that is completed
  * then makes good whatever was cut before, and however often: memory and lock are as if nothing
- * had been cut, if nothing else writes to the memory or locks it in between, and the chip keeps
+ * had been cut, if nothing else writes to the memory or locks it in between (no other function
+ * here does but da728x_unlock_waveform_memory and da728x_lock_waveform_memory), and the chip keeps
  * its supply. It is begun with a new start: no exchange is left out because it was made before.
  * The start sets the count of the record to 0, unless it is refused, or the record or the session
  * is of another length. So does each answer that is taken (da728x_answer says of which records),

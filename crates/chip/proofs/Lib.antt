@@ -7,3 +7,4 @@ pub mod Repeated
 pub mod Reaches
 pub mod General
 pub mod Needed
+pub mod Between

@@ -4,7 +4,7 @@ use Rattle.std.proofs.lemmas.Bool.{true≢false, eqb-false}
 use mathlib.Core.List.{append-nil}
 use Rattle.memory.specs.declared.WaveformMemory.{WaveformMemory}
 use Rattle.exchange.specs.declared.Step.{Step}
-use Rattle.exchange.specs.State.{is_session, is_unbroken, read_count, left, completed, begun_in}
+use Rattle.exchange.specs.State.{is_session, is_unbroken, read_count, left, completed, Begun, begun_in}
 use Rattle.exchange.proofs.Session.{session}
 use Rattle.sessions.specs.Sessions.{send_steps}
 use Rattle.driver.specs.Operations.{upload_begun, upload_steps}
@@ -47,7 +47,11 @@ begins m lock_after x e s =
     }
 
 -- bytes that are no session begin nothing
-no_steps : (st : List ℕ) → is_session st ≡ false → (left st ≡ []) × (completed st ≡ false)
+pub none_begun : (st : List ℕ) (b : Begun) (xs : List Step) → is_session st ≡ false → begun_in st b xs ≡ st
+unfolding begun_in
+none_begun st b xs e = rw e
+
+pub no_steps : (st : List ℕ) → is_session st ≡ false → (left st ≡ []) × (completed st ≡ false)
 no_steps st s = session.closed st (rw s)
 
 -- what a run leaves, and one that is completed
@@ -115,15 +119,11 @@ module _ (m : WaveformMemory) (lock_after : Bool) (c : Chip) (x : AnyRun) (z : S
       let r = run (Spared c x.run.driver.address image other) x.run.driver.address image (keeps_spared c x.run.driver.address image other) x.run.attempts st c x.run.last_tries b.of refl in
       idle m lock_after c x r.holds (λ a w. other a)
 
-  begun_none : is_session x.run.session ≡ false → st ≡ x.run.session
-  unfolding begun_in
-  begun_none e = rw e
-
   by_session : (k : Bool) → is_session x.run.session ≡ k → One m lock_after c x
   by_session true e = by_address (eqb x.run.driver.address c.address) refl (begins m lock_after x z.0 e)
   by_session false e =
       let n = no_steps x.run.session e in
-      let s : st ≡ x.run.session = begun_none e in
+      let s : st ≡ x.run.session = none_begun x.run.session (upload_begun x.run.driver m) (run_steps x.unlocks m lock_after) e in
       let k = stays x.run.attempts st (ap left s ∙ n.0) in
       idle m lock_after c x (k.chip c x.run.last_tries) (λ a w. true≢false (sym w ∙ k.ends ∙ ap completed s ∙ n.1))
 

@@ -3,3 +3,4 @@ pub mod Writes
 pub mod Runs
 pub mod Repeated
 pub mod General
+pub mod Between

@@ -171,6 +171,30 @@ pub fn read_back(chip: &Chip) -> [u8; IMAGE] {
     buffer
 }
 
+/// Runs any operation of the library as far as the board goes; whether it was begun.
+pub fn operate(board: &mut Board, operation: &Operation, record: &mut [u8]) -> bool {
+    let (mut session, mut buffer) = ([MARKER; SESSION], vec![MARKER; operation.room()]);
+    if raw::start(operation, record, &mut session) != 0 {
+        return false;
+    }
+    loop {
+        let mut bytes = [MARKER; CHUNK + 1];
+        let [len, to, wanted, _] = raw::pending(&session, &mut bytes).to_le_bytes();
+        let (sent, wanted) = (&bytes[..len.into()], wanted.into());
+        if sent.is_empty() {
+            return true;
+        }
+        board.tries(to, sent, wanted, |_| {});
+        let (kind, byte) = match board.make(to, sent, wanted) {
+            Some(Reply::Failed(code)) => (FAILED, code),
+            Some(Reply::Byte(byte)) => (BYTE, byte),
+            Some(Reply::Done) => (DONE, 0),
+            None => return true,
+        };
+        raw::answer(record, &mut session, kind, byte, &mut buffer);
+    }
+}
+
 // ---- the published Rust
 
 /// The published Rust: a driver for each address, on a bus whose board is that of the run.

@@ -5,9 +5,13 @@
 
 use harness::chip::{Board, Chip, Cut, Plan, Try};
 use harness::compared;
+use harness::driver::{Operation, record_bytes};
 use harness::random::Random;
-use harness::uploads::{Bare, Fault, Library, Program, Published, Upload, read_back};
-use yambelugo::IMAGE;
+use harness::settings::{MEMORY_TIMEBASES, Settings, VARIANTS};
+use harness::uploads::{Bare, Fault, Library, Program, Published, Upload, operate, read_back};
+use std::collections::HashSet;
+use std::mem::discriminant;
+use yambelugo::{IMAGE, Variant};
 
 /// A chip's memory as it may have been before, and an upload of so many bytes, each of which is another than the chip's.
 fn apart(random: &mut Random, len: usize, lock: bool, unlocked: bool) -> (Chip, Upload) {
@@ -287,6 +291,66 @@ fn random_chains_of_cuts() {
     compared("chains of cuts", met.chains, 200_000);
     compared("cuts in chains", met.failed + met.lost, 458_529);
     compared("answers refused in chains", library.refused, 235_074);
+}
+
+// ---- what may be between the runs
+
+/// One of the operations that neither upload nor write the lock alone.
+fn other(random: &mut Random) -> Operation {
+    match random.below(14) {
+        0 => Operation::Configure(Settings::accepted(random)),
+        1 => Operation::GetChipRev,
+        2 => Operation::GetEvents,
+        3 => Operation::GetStatus,
+        4 => Operation::SetFrequency(random.within(50, 300) as u16),
+        5 => Operation::SetOverrideValue(random.byte() as i8),
+        6 => Operation::SetTimebase(random.pick(&MEMORY_TIMEBASES)),
+        7 => Operation::Enable,
+        8 => Operation::Disable,
+        9 => Operation::SetCustomDriveWaveform([(); 3].map(|()| random.byte())),
+        10 => Operation::ReadWaveformMemory(random.below(101), random.below(101)),
+        11 => Operation::SelectSequence(random.below(16) as u8, random.below(16) as u8),
+        12 => Operation::StartSequence,
+        _ => Operation::PlaySequence(random.below(16) as u8, random.below(16) as u8),
+    }
+}
+
+/// "Between them nothing else is written": no other operation changes the memory or its lock, wherever it is cut; those of the lock change that alone.
+#[test]
+fn other_operations_leave_the_chip() {
+    let (mut random, mut begun, mut kinds) = (Random::new(0x0DD5), 0, HashSet::new());
+    for _ in 0..100_000 {
+        let (start, _) = any(&mut random);
+        let settings = Settings::accepted(&mut random);
+        let variant = random.pick(&VARIANTS);
+        let mut record = record_bytes(start.address, variant, Some(&settings), 16);
+        let operation = other(&mut random);
+        let place = |random: &mut Random| (random.below(26), random.below(34));
+        let tries = (0..random.below(4)).map(|_| place(&mut random));
+        let tries = tries.map(|(at, part)| Try { at, part, refused: false }).collect();
+        let cut = random.chance(50).then(|| {
+            let (at, part) = place(&mut random);
+            Cut { at, part, code: random.chance(50).then(|| random.byte()) }
+        });
+        let mut board = Board::new(start, Plan { tries, cut });
+        if operate(&mut board, &operation, &mut record) {
+            begun += 1;
+            kinds.insert(discriminant(&operation));
+        }
+        assert_eq!(board.chip, start, "{operation:?}, {cut:?}");
+    }
+    compared("other operations run on the chip", begun, 89_484);
+    compared("kinds of them", kinds.len(), 14);
+
+    for (operation, unlocked) in
+        [(Operation::UnlockWaveformMemory, true), (Operation::LockWaveformMemory, false)]
+    {
+        let (start, _) = any(&mut random);
+        let mut board = Board::new(start, Plan::default());
+        let mut record = record_bytes(start.address, Variant::DA7280, None, 0);
+        assert!(operate(&mut board, &operation, &mut record));
+        assert_eq!(board.chip, Chip { unlocked, ..start });
+    }
 }
 
 // ---- the proviso
