@@ -29,7 +29,7 @@ use Rattle.driver.proofs.Begun.{Fits, holds}
 use Rattle.chip.specs.declared.Chip.{Chip}
 use Rattle.chip.specs.Writes.{stored, stored_all, reached, reached_all}
 use Rattle.chip.specs.Runs.{Attempt, chip_after}
-use Rattle.chip.specs.Between.{is_lock, Between}
+use Rattle.chip.specs.Between.{writes_lock, Between}
 use Rattle.chip.proofs.Stores.{part_own, part_other, stores}
 use Rattle.chip.proofs.Runs.{Keeps, run, stays}
 use Rattle.chip.proofs.One.{none_begun, no_steps}
@@ -147,7 +147,7 @@ by_settings Q (Some (a, d)) f q = q a d
 abbrev Steps : Begun → List Step → Type 0
 Steps b xs = All Apart xs
 
-operation_apart : (r : DA728x) (q : Request) → is_upload q ≡ false → is_lock q ≡ false → By Steps (operation_of r q).start
+operation_apart : (r : DA728x) (q : Request) → is_upload q ≡ false → writes_lock q ≡ false → By Steps (operation_of r q).start
 operation_apart r (configure a d) u l = by_unless Steps (configure_number r.variant a d) _ (configure_apart a d)
 operation_apart r get_chip_rev u l = (tt, tt)
 operation_apart r get_events u l = (tt, (tt, (tt, (refl, tt))))

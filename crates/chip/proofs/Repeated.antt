@@ -9,7 +9,9 @@ use Rattle.sessions.specs.Sessions.{send_steps}
 use Rattle.chip.specs.declared.Chip.{Chip}
 use Rattle.chip.specs.Writes.{holding, reached}
 use Rattle.exchange.specs.declared.Exchange.{Exchange}
-use Rattle.chip.specs.Runs.{tried, in_turn, InTurn, Run, after_upload, after_uploads, AnyRun, after_run, after_runs}
+use Rattle.exchange.specs.Turn.{pending_of}
+use Rattle.exchange.specs.Session.{after_call, final}
+use Rattle.chip.specs.Runs.{tried, Attempt, answered, chip_after, calls, one_by_one, OneByOne, Run, after_upload, after_uploads, AnyRun, after_run, after_runs}
 use Rattle.chip.specs.Repeated.{Sized, Whole, laid, shown, Repeated, Result, Leaves}
 use Rattle.chip.specs.General.{WholeRun}
 use Rattle.chip.proofs.Stores.{front, at, length_front, take_front, drop_front}
@@ -89,21 +91,34 @@ module _ (m : WaveformMemory) (lock_after : Bool) (start : Chip) (z : Sized m st
 -- ---- one after the other
 
 -- a list and one more
-in_turn_more : {A : Type 0} (f : Chip → A → Chip) (xs : List A) (c : Chip) (x : A) → in_turn f c (xs ++ (x ∷ [])) ≡ f (in_turn f c xs) x
-in_turn_more f [] c x = refl
-in_turn_more f (y ∷ ys) c x = in_turn_more f ys (f c y) x
+one_more : {A : Type 0} (f : Chip → A → Chip) (xs : List A) (c : Chip) (x : A) → one_by_one f c (xs ++ (x ∷ [])) ≡ f (one_by_one f c xs) x
+one_more f [] c x = refl
+one_more f (y ∷ ys) c x = one_more f ys (f c y) x
 
 tried_more : (ks : List ℕ) (k : ℕ) (c : Chip) (e : Exchange) → tried (ks ++ (k ∷ [])) c e ≡ reached k (tried ks c e) e
 tried_more [] k c e = refl
 tried_more (j ∷ ks) k c e = tried_more ks k (reached j c e) e
 
-pub in_their_turn : InTurn
-in_their_turn = record {
+after_stop : (attempts : List Attempt) (c : Chip) (st : List ℕ) (ks : List ℕ) →
+    chip_after c st attempts ks ≡ tried ks (chip_after c st attempts []) (pending_of (final st (calls attempts)))
+after_stop [] c st ks = refl
+after_stop (a ∷ more) c st ks = after_stop more (answered c st a) (after_call st a.call) ks
+
+after_answer : (attempts : List Attempt) (c : Chip) (st : List ℕ) (a : Attempt) →
+    chip_after c st (attempts ++ (a ∷ [])) [] ≡ answered (chip_after c st attempts []) (final st (calls attempts)) a
+after_answer [] c st a = refl
+after_answer (b ∷ more) c st a = after_answer more (answered c st b) (after_call st b.call) a
+
+pub each : OneByOne
+each = record {
   tries = tried_more;
   untried = λ c e. refl;
-  uploads = λ m lock_after c xs x. in_turn_more (after_upload m lock_after) xs c x;
+  begun = λ c st. refl;
+  stopped = λ c st attempts ks. after_stop attempts c st ks;
+  answers = λ c st attempts a. after_answer attempts c st a;
+  uploads = λ m lock_after c xs x. one_more (after_upload m lock_after) xs c x;
   no_upload = λ m lock_after c. refl;
-  runs = λ m lock_after c xs x. in_turn_more (after_run m lock_after) xs c x;
+  runs = λ m lock_after c xs x. one_more (after_run m lock_after) xs c x;
   no_run = λ m lock_after c. refl;
 }
 
@@ -111,7 +126,7 @@ pub repeats : (m : WaveformMemory) (lock_after : Bool) (c : Chip) (cut : List An
     WholeRun m lock_after c last → WholeRun m lock_after c sole → (c.unlocked ≡ true) ⊎ All (λ (x : AnyRun). x.unlocks ≡ true) (sole ∷ last ∷ cut) →
     after_runs m lock_after c (cut ++ (last ∷ [])) ≡ after_run m lock_after c sole
 repeats m lock_after c cut last sole z w v p =
-    in_turn_more (after_run m lock_after) cut c last
+    one_more (after_run m lock_after) cut c last
     ∙ to_end m lock_after c z last (after_runs m lock_after c cut) (between m lock_after c z cut c (first m lock_after c z c.unlocked refl)) w (of_last p)
     ∙ sym (to_end m lock_after c z sole c (first m lock_after c z c.unlocked refl) v (of_sole p))
   where

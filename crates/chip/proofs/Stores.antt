@@ -11,7 +11,7 @@ use Rattle.sessions.specs.Sessions.{mem_ctl2}
 use Rattle.exchange.specs.declared.Exchange.{Exchange}
 use Rattle.exchange.specs.Steps.{exchange}
 use Rattle.chip.specs.declared.Chip.{Chip}
-use Rattle.chip.specs.Writes.{holding, stored, stored_all, written, reached, Stores}
+use Rattle.chip.specs.Writes.{holding, stored, stored_all, written, reached, ByteByByte}
 
 -- ---- an exchange
 
@@ -169,6 +169,12 @@ read_only k c e h = go (eqb e.address c.address) where
   go true = alone c (take k (take e.len e.bytes)) (simp length-take (omega arith))
   go false = refl
 
+all_next : (bytes : List ℕ) (c : Chip) (register b : ℕ) → stored_all c register (bytes ++ (b ∷ [])) ≡ stored (stored_all c register bytes) (register + length bytes) b
+all_next [] c register b = let p : register ≡ register + 0 = omega arith in ap (λ (r : ℕ). stored c r b) p
+all_next (x ∷ bytes) c register b =
+    let p : suc register + length bytes ≡ register + suc (length bytes) = omega arith in
+    all_next bytes (stored c register x) (suc register) b ∙ ap (λ (r : ℕ). stored (stored_all (stored c register x) (suc register) bytes) r b) p
+
 unsent : (c : Chip) (e : Exchange) → reached 0 c e ≡ c
 unfolding reached
 unsent c e = go (eqb e.address c.address) where
@@ -176,7 +182,7 @@ unsent c e = go (eqb e.address c.address) where
   go true = refl
   go false = refl
 
-pub stores : Stores
+pub stores : ByteByByte
 unfolding stored
 stores = record {
   lock = λ c b h. ap (holding c c.bytes) (bit_7 b h);
@@ -185,6 +191,9 @@ stores = record {
       rw (ne_eqb (132 + i) 0x2D (λ e. omega arith), le-leb 132 (132 + i) (omega arith), k, h);
   locked = λ c i b h. shut_stays c (132 + i) b h (omega arith);
   elsewhere = nothing_there;
+  nothing = λ c register. refl;
+  next = λ c register b bytes. all_next bytes c register b;
+  other = λ k c e h. part_other c e k h;
   none = unsent;
   parts = λ k c register bytes.
       let p : suc k - 1 ≡ k = omega arith in

@@ -1,5 +1,5 @@
--- What may be done between the runs: no other operation of the driver changes the chip's memory or its lock, whatever is answered. Document 02, CR 14,
--- "between them nothing else is written".
+-- What may be done between the runs: no operation of the driver but an upload and the two that write the lock alone changes the chip's memory or its lock,
+-- whatever is answered and tried. Document 02, CR 14, "between them nothing else is written".
 use Rattle.std.specs.Prelude.{ℕ, ◌≡◌, Bool, true, false, List, length}
 use Rattle.config.specs.declared.Variant.{Variant}
 use Rattle.exchange.specs.declared.Step.{Step}
@@ -12,13 +12,13 @@ use Rattle.chip.specs.declared.Chip.{Chip}
 use Rattle.chip.specs.Runs.{Attempt, chip_after}
 
 -- the two that write the lock alone
-abbrev pub is_lock : Request → Bool
-is_lock unlock_waveform_memory = true
-is_lock lock_waveform_memory = true
-is_lock q = false
+abbrev pub writes_lock : Request → Bool
+writes_lock unlock_waveform_memory = true
+writes_lock lock_waveform_memory = true
+writes_lock q = false
 
 pub record Between : Type 0 where
-  pub others : (r : DA728x) (q : Request) → Typed q → is_upload q ≡ false → is_lock q ≡ false → (b : Begun) (xs : List Step) → (operation_of r q).start ≡ begins b xs →
+  pub others : (r : DA728x) (q : Request) → Typed q → is_upload q ≡ false → writes_lock q ≡ false → (b : Begun) (xs : List Step) → (operation_of r q).start ≡ begins b xs →
       (st : List ℕ) (c : Chip) (attempts : List Attempt) (last_tries : List ℕ) → length c.bytes ≡ 100 → chip_after c (begun_in st b xs) attempts last_tries ≡ c
   pub new : (address : ℕ) (variant : Variant) (st : List ℕ) (c : Chip) (attempts : List Attempt) (last_tries : List ℕ) → length c.bytes ≡ 100 →
       chip_after c (started_in st (operation.new address variant).start) attempts last_tries ≡ c

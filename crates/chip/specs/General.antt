@@ -1,5 +1,5 @@
 -- The same for runs that unlock the memory first, as the driver's do, or do not, as none of the driver's does, under the proviso of document 02, CR 14; and
--- that runs of both kinds need it.
+-- that where they are mixed it is needed.
 use Rattle.std.specs.Prelude.{ℕ, ◌≡◌, ◌⊎◌, Bool, true, false, List, [], ◌∷◌, ◌++◌, length}
 use Rattle.laws.specs.Bytes.{All}
 use Rattle.memory.specs.declared.WaveformMemory.{WaveformMemory}
@@ -32,7 +32,7 @@ pub record General : Type 0 where
       (attempts : List Attempt) × All (λ (a : Attempt). a.tries ≡ []) attempts
       × (is_whole_run m lock_after (record { unlocks = unlocks; run = record { driver = r; session = st; attempts = attempts; last_tries = [] } }) ≡ true)
 
--- without the proviso not even the bytes are the same, though the last run and the sole one are of one kind: where a cut run unlocks a locked memory, and
+-- without the proviso not even the bytes need be the same, though the last run and the sole one are of one kind: where a cut run unlocks a locked memory, and
 -- these two do not
 abbrev pub Needed : Type 0
 Needed = ¬ ((m : WaveformMemory) (lock_after : Bool) (c : Chip) (cut : List AnyRun) (last sole : AnyRun) → Sized m c →

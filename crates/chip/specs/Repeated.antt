@@ -20,7 +20,7 @@ abbrev pub Whole : WaveformMemory → Bool → Chip → Run → Type 0
 Whole m lock_after c x = (x.driver.address ≡ c.address) × (is_whole m lock_after x ≡ true)
 
 -- "However an upload is cut, running the same upload to its end afterwards leaves bytes and lock as one undisturbed run from the same start would": after
--- any runs, each cut in any way or in none, to this chip or another. `sole` is one run from the start, undisturbed if it has no tries: there is such a
+-- any runs, each cut in any way or not at all, to this chip or another. `sole` is one run from the start, undisturbed if it has no tries: there is such a
 -- one (`General`). The same upload is that of one memory, with one lock choice, from any record and in any lent bytes. Each of ours unlocks the chip's
 -- memory first, so no proviso is left.
 abbrev pub Repeated : Type 0
@@ -50,8 +50,8 @@ Leaves = (m : WaveformMemory) (lock_after : Bool) (c : Chip) (x : Run) → Sized
 
 -- ---- the model leaves no cut out
 
--- a session, not completed and with no tries before, that leaves this chip: the caller stops while the next exchange is made, or that exchange fails, with
--- any code of the bus
+-- a session, not completed and with no tries before, that leaves d where c was: the caller stops while the next exchange is made, of which `part` bytes with
+-- the register's reach the chip, or that exchange fails there, with any code of the bus
 pub record CutTo (st : List ℕ) (c d : Chip) : Type 0 where
   pub attempts : List Attempt
   pub part : ℕ
@@ -62,7 +62,7 @@ pub record CutTo (st : List ℕ) (c d : Chip) : Type 0 where
   pub failed : (code : ℕ) → let call : AnswerCall = record { reply = Failed code; buffer = buffer } in
       (number_at (final st (calls attempts)) call ≡ 17) × (chip_after c st (attempts ++ (record { tries = part ∷ []; call = call } ∷ [])) [] ≡ d)
 
--- each of the chips that `Leaves` lists; cuts of the unlock and of the lock are among them
+-- each of the chips that `Leaves` lists: so a cut unlock can leave the memory locked or unlocked, and a cut lock too
 pub record Reaches : Type 0 where
   pub unchanged : (m : WaveformMemory) (lock_after : Bool) (c : Chip) (r : DA728x) (st : List ℕ) → Sized m c → r.address ≡ c.address → is_session st ≡ true →
       CutTo (uploading m lock_after r st) c c

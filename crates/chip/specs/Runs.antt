@@ -27,7 +27,7 @@ pub record Attempt : Type 0 where
   pub call : AnswerCall
 
 -- we suppose that a caller answers done only where the exchange was made whole: so it was where 0 is told, whatever was tried before; where a failure is
--- told (17), or the answer is refused (19), it was only tried
+-- told (17), or the answer is refused (19), it was only tried (16 is told of a read alone, which changes nothing)
 abbrev pub answered : Chip → List ℕ → Attempt → Chip
 answered c st a =
     let e = pending_of st in
@@ -63,12 +63,12 @@ abbrev pub after_upload : WaveformMemory → Bool → Chip → Run → Chip
 after_upload m lock_after c x = chip_after c (uploading m lock_after x.driver x.session) x.attempts x.last_tries
 
 -- one run after the other; "between them nothing else is written and the chip keeps its power"
-abbrev pub in_turn : {A : Type 0} → (Chip → A → Chip) → Chip → List A → Chip
-in_turn f c [] = c
-in_turn f c (x ∷ xs) = in_turn f (f c x) xs
+abbrev pub one_by_one : {A : Type 0} → (Chip → A → Chip) → Chip → List A → Chip
+one_by_one f c [] = c
+one_by_one f c (x ∷ xs) = one_by_one f (f c x) xs
 
 abbrev pub after_uploads : WaveformMemory → Bool → Chip → List Run → Chip
-after_uploads m lock_after c xs = in_turn (after_upload m lock_after) c xs
+after_uploads m lock_after c xs = one_by_one (after_upload m lock_after) c xs
 
 -- ---- the same for runs that unlock the memory, as the driver's do, or do not
 
@@ -90,12 +90,19 @@ abbrev pub after_run : WaveformMemory → Bool → Chip → AnyRun → Chip
 after_run m lock_after c x = chip_after c (running m lock_after x) x.run.attempts x.run.last_tries
 
 abbrev pub after_runs : WaveformMemory → Bool → Chip → List AnyRun → Chip
-after_runs m lock_after c xs = in_turn (after_run m lock_after) c xs
+after_runs m lock_after c xs = one_by_one (after_run m lock_after) c xs
 
--- each try and each run counts, in its turn: the same from behind
-pub record InTurn : Type 0 where
+-- each try, each answer and each run counts, one after the other: the same from behind
+pub record OneByOne : Type 0 where
   pub tries : (ks : List ℕ) (k : ℕ) (c : Chip) (e : Exchange) → tried (ks ++ (k ∷ [])) c e ≡ reached k (tried ks c e) e
   pub untried : (c : Chip) (e : Exchange) → tried [] c e ≡ c
+  pub begun : (c : Chip) (st : List ℕ) → chip_after c st [] [] ≡ c
+  pub stopped : (c : Chip) (st : List ℕ) (attempts : List Attempt) (ks : List ℕ) →
+      chip_after c st attempts ks ≡ tried ks (chip_after c st attempts []) (pending_of (final st (calls attempts)))
+  pub answers : (c : Chip) (st : List ℕ) (attempts : List Attempt) (a : Attempt) →
+      let e = pending_of (final st (calls attempts)) in
+      let d = tried a.tries (chip_after c st attempts []) e in
+      chip_after c st (attempts ++ (a ∷ [])) [] ≡ cond (eqb (number_at (final st (calls attempts)) a.call) 0) (reached_all d e) d
   pub uploads : (m : WaveformMemory) (lock_after : Bool) (c : Chip) (xs : List Run) (x : Run) →
       after_uploads m lock_after c (xs ++ (x ∷ [])) ≡ after_upload m lock_after (after_uploads m lock_after c xs) x
   pub no_upload : (m : WaveformMemory) (lock_after : Bool) (c : Chip) → after_uploads m lock_after c [] ≡ c

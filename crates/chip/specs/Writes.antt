@@ -1,6 +1,6 @@
 -- What a write does to the chip's waveform memory and its lock: document 02, CR 14. A `Chip` (src/lib.rt) is the chip's address on the bus, its hundred
 -- bytes of memory, and whether they are unlocked; its other registers are not described.
-use Rattle.std.specs.Prelude.{ℕ, suc, ◌+◌, ◌-◌, ◌≤◌, ◌<◌, ◌≡◌, ◌⊎◌, Bool, true, false, cond, ◌&&◌, List, [], ◌∷◌, leb, eqb, length, take, set}
+use Rattle.std.specs.Prelude.{ℕ, suc, ◌+◌, ◌-◌, ◌≤◌, ◌<◌, ◌≡◌, ◌⊎◌, Bool, true, false, cond, ◌&&◌, List, [], ◌∷◌, ◌++◌, leb, eqb, length, take, set}
 use Rattle.field.specs.Field.{flag_of}
 use Rattle.registers.specs.Table.{address_of}
 use Rattle.exchange.specs.declared.Exchange.{Exchange}
@@ -36,13 +36,18 @@ reached k c e = cond (eqb e.address c.address) (written c (take k (take e.len e.
 abbrev pub reached_all : Chip → Exchange → Chip
 reached_all c e = reached e.len c e
 
--- the same in words of single bytes, with the addresses said again here
-pub record Stores : Type 0 where
+-- the same byte by byte, with the addresses said again here
+pub record ByteByByte : Type 0 where
   pub lock : (c : Chip) (b : ℕ) → b < 256 → stored c 0x2D b ≡ holding c c.bytes (leb 128 b)
   pub unlocked : (c : Chip) (i b : ℕ) → c.unlocked ≡ true → stored c (0x84 + i) b ≡ holding c (set c.bytes i b) true
   pub locked : (c : Chip) (i b : ℕ) → c.unlocked ≡ false → stored c (0x84 + i) b ≡ c
   pub elsewhere : (c : Chip) (register b : ℕ) → length c.bytes ≡ 100 → ¬ (register ≡ 0x2D) → (register < 0x84) ⊎ (0xE7 < register) → stored c register b ≡ c
-  -- of a write the register reaches the chip first, and then byte for byte what is behind it
+  -- each byte goes to the register behind the one before
+  pub nothing : (c : Chip) (register : ℕ) → stored_all c register [] ≡ c
+  pub next : (c : Chip) (register b : ℕ) (bytes : List ℕ) →
+      stored_all c register (bytes ++ (b ∷ [])) ≡ stored (stored_all c register bytes) (register + length bytes) b
+  -- to another chip there goes nothing; to this one the register of a write first, and then what is behind it
+  pub other : (k : ℕ) (c : Chip) (e : Exchange) → ¬ (e.address ≡ c.address) → reached k c e ≡ c
   pub none : (c : Chip) (e : Exchange) → reached 0 c e ≡ c
   pub parts : (k : ℕ) (c : Chip) (register : ℕ) (bytes : List ℕ) → reached (suc k) c (exchange c.address (register ∷ bytes) 0) ≡ stored_all c register (take k bytes)
   pub all : (c : Chip) (register : ℕ) (bytes : List ℕ) → reached_all c (exchange c.address (register ∷ bytes) 0) ≡ stored_all c register bytes
