@@ -55,7 +55,7 @@ steps_send unlocks m lock_after = go unlocks where
   tail = all_send _ (harmless (size m) lock_after 0 _ (omega arith) (ahead (size m) lock_after (omega arith)))
 
   go : (u : Bool) → All Sends (run_steps u m lock_after)
-  go true = (tt, tail)
+  go true = ((λ address last image. refl), tail)
   go false = tail
 
 pub undisturbed : (m : WaveformMemory) (lock_after : Bool) (x : AnyRun) → length m.«data» ≡ 100 → is_session x.run.session ≡ true → Undisturbed (running m lock_after x)

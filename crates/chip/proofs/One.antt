@@ -2,6 +2,7 @@
 use Rattle.std.proofs.Common.{ℕ, ◌≤◌, min, ◌≡◌, ◌∙◌, ◌⊎◌, inl, inr, refl, sym, ap, subst, Bool, true, false, eqb, eqb-true, List, [], length, arith}
 use Rattle.std.proofs.lemmas.Bool.{true≢false, eqb-false}
 use mathlib.Core.List.{append-nil}
+use Rattle.laws.specs.Bytes.{All}
 use Rattle.memory.specs.declared.WaveformMemory.{WaveformMemory}
 use Rattle.exchange.specs.declared.Step.{Step}
 use Rattle.exchange.specs.State.{is_session, is_unbroken, read_count, left, completed, Begun, begun_in}
@@ -14,8 +15,8 @@ use Rattle.chip.specs.declared.Chip.{Chip}
 use Rattle.chip.specs.Writes.{holding}
 use Rattle.chip.specs.Runs.{AnyRun, run_steps, running, is_whole_run, after_run}
 use Rattle.chip.specs.Repeated.{Sized}
-use Rattle.chip.proofs.Runs.{stays, Of, run}
-use Rattle.chip.proofs.Upload.{ahead, done, Stage, waiting, sending, keeps, at_end, Stopped, stopped, harmless, Unmoved, keeps_shut, Spared, keeps_spared}
+use Rattle.chip.proofs.Runs.{stays, Of, run, Idle, idle_run}
+use Rattle.chip.proofs.Upload.{ahead, done, Stage, waiting, sending, keeps, at_end, Stopped, stopped, harmless, all_shut, all_spared}
 
 -- how many bytes are shown
 abbrev pub size : WaveformMemory → ℕ
@@ -99,13 +100,13 @@ module _ (m : WaveformMemory) (lock_after : Bool) (c : Chip) (x : AnyRun) (z : S
         staged (subst (λ (f : Bool). Stage c image z.0 z.1 (size m) small lock_after (run_steps f m lock_after) c) (sym u)
         (sending 0 0 _ c (ahead (size m) lock_after small) (omega arith) (omega arith) (ap (holding c c.bytes) v))) (λ h. true≢false (sym v ∙ h.1))
     by_flags false false u v =
-        let h = harmless (size m) lock_after 0 _ small (ahead (size m) lock_after small) in
-        let r = run (Unmoved c image v) c.address image (keeps_shut c image v) x.run.attempts st c x.run.last_tries of
-        (subst (λ (xs : List Step). Unmoved c image v xs c) (sym (b.steps ∙ ap (λ (f : Bool). run_steps f m lock_after) u)) (h, refl)) in
+        let h = all_shut c image v _ (harmless (size m) lock_after 0 _ small (ahead (size m) lock_after small)) in
+        let p = subst (λ (xs : List Step). All (Idle c c.address image) xs) (sym (b.steps ∙ ap (λ (f : Bool). run_steps f m lock_after) u)) h in
+        let r = idle_run c c.address image st of p x.run.attempts x.run.last_tries in
         record {
-          leaves = inl r.holds.1;
+          leaves = inl r;
           whole = λ a w k. absurd (go k);
-          shut = λ k s. r.holds.1;
+          shut = λ k s. r;
         }
       where
         go : (x.unlocks ≡ true) ⊎ (c.unlocked ≡ true) → ⊥
@@ -116,8 +117,8 @@ module _ (m : WaveformMemory) (lock_after : Bool) (c : Chip) (x : AnyRun) (z : S
   by_address true e b = by_flags b (eqb-true _ _ e) x.unlocks c.unlocked refl refl
   by_address false e b =
       let other = eqb-false _ _ e in
-      let r = run (Spared c x.run.driver.address image other) x.run.driver.address image (keeps_spared c x.run.driver.address image other) x.run.attempts st c x.run.last_tries b.of refl in
-      idle m lock_after c x r.holds (λ a w. other a)
+      let a = x.run.driver.address in
+      idle m lock_after c x (idle_run c a image st b.of (all_spared c a image other (left st)) x.run.attempts x.run.last_tries) (λ a w. other a)
 
   by_session : (k : Bool) → is_session x.run.session ≡ k → One m lock_after c x
   by_session true e = by_address (eqb x.run.driver.address c.address) refl (begins m lock_after x z.0 e)

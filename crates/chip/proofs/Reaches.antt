@@ -1,19 +1,20 @@
 -- Each cut is reached, and an upload that nothing disturbs is completed. Assumes nothing.
 use Rattle.std.proofs.Common.{ℕ, zero, suc, ◌+◌, ◌-◌, ◌≤◌, ◌<◌, min, max, ◌≡◌, ◌∙◌, refl, sym, ap, subst, Bool, true, false, cond, not, ◌&&◌, ltb, eqb, List, [], ◌∷◌, ◌++◌, length, drop, arith}
-use Rattle.std.proofs.lemmas.Bool.{true≢false, lt-ltb}
+use Rattle.std.proofs.lemmas.Bool.{true≢false}
 use mathlib.Core.List.{cons-ne-nil}
 use native.Mathlib.Decide.{dec_le}
 use Rattle.memory.specs.declared.WaveformMemory.{WaveformMemory}
 use Rattle.da728x.specs.declared.DA728x.{DA728x}
 use Rattle.exchange.specs.declared.Step.{Step}
-use Rattle.exchange.specs.declared.Step.TheVariants.{Write, Read, Update, Match, Chunk, Store}
+use Rattle.exchange.specs.declared.Step.TheVariants.{Write, Chunk}
 use Rattle.exchange.specs.declared.Reply.{Reply}
 use Rattle.exchange.specs.declared.Reply.TheVariants.{Done, Failed}
 use Rattle.exchange.specs.Steps.{exchange_for}
-use Rattle.exchange.specs.State.{is_session, last_in, read_count, room_in, left, completed}
+use Rattle.exchange.specs.State.{is_session, address_in, last_in, image_in, read_count, room_in, left, completed}
 use Rattle.exchange.specs.Turn.{pending_for, pending_of}
 use Rattle.exchange.specs.Session.{AnswerCall, fits_exchange, taken, number_at, after_call}
 use Rattle.exchange.proofs.Session.{session}
+use Rattle.exchange.proofs.Takes.{sends}
 use Rattle.sessions.specs.Sessions.{mem_ctl2, set_unlocked, chunk_steps, lock_steps, send_steps}
 use Rattle.chip.specs.declared.Chip.{Chip}
 use Rattle.chip.specs.Writes.{holding, reached, reached_all}
@@ -29,20 +30,12 @@ use Rattle.chip.proofs.Repeated.{unlocking, laid_is, all_laid, shown_is}
 -- ---- a session that sends, and takes done and failures
 
 abbrev pub Sends : Step → Type 0
-Sends (Write register value) = Unit
-Sends (Chunk offset len) = Unit
-Sends (Read register) = ⊥
-Sends (Update register shift width value) = ⊥
-Sends (Match register value) = ⊥
-Sends (Store index) = ⊥
+Sends x = (address last : ℕ) (image : List ℕ) → (exchange_for address last image x).wanted ≡ 0
 
 pub sends_if : (x : Step) → Harmless x → Sends x
-sends_if (Write register value) h = tt
-sends_if (Chunk offset len) h = tt
-sends_if (Read register) h = absurd h
-sends_if (Update register shift width value) h = absurd h
-sends_if (Match register value) h = absurd h
-sends_if (Store index) h = absurd h
+sends_if (Write register value) h = λ address last image. refl
+sends_if (Chunk offset len) h = λ address last image. refl
+sends_if x h = absurd h
 
 -- with these steps left
 pub record Ready (address : ℕ) (image st : List ℕ) (xs : List Step) : Type 0 where
@@ -57,20 +50,7 @@ abbrev pub done : Attempt
 done = record { tries = []; call = call Done }
 
 pub fits_done : (st : List ℕ) (x : Step) (xs : List Step) → Sends x → fits_exchange (pending_for st (x ∷ xs)) Done ≡ true
-fits_done st (Write register value) xs h = refl
-fits_done st (Chunk offset len) xs h = rw (lt-ltb 0 (pending_for st (Chunk offset len ∷ xs)).len (omega arith))
-fits_done st (Read register) xs h = absurd h
-fits_done st (Update register shift width value) xs h = absurd h
-fits_done st (Match register value) xs h = absurd h
-fits_done st (Store index) xs h = absurd h
-
-fits_failed : (st : List ℕ) (x : Step) (xs : List Step) (code : ℕ) → Sends x → fits_exchange (pending_for st (x ∷ xs)) (Failed code) ≡ true
-fits_failed st (Write register value) xs code h = refl
-fits_failed st (Chunk offset len) xs code h = lt-ltb 0 (pending_for st (Chunk offset len ∷ xs)).len (omega arith)
-fits_failed st (Read register) xs code h = absurd h
-fits_failed st (Update register shift width value) xs code h = absurd h
-fits_failed st (Match register value) xs code h = absurd h
-fits_failed st (Store index) xs code h = absurd h
+fits_done st x xs s = λ i. sends st x i && eqb (s (address_in st) (last_in st) (image_in st) i) 0
 
 module _ {address : ℕ} {image st : List ℕ} {x : Step} {xs : List Step} (r : Ready address image st (x ∷ xs)) (s : Sends x) where
   pub takes : (a : Reply) → fits_exchange (pending_for st (x ∷ xs)) a ≡ true → taken st a 0 ≡ true
@@ -92,7 +72,7 @@ module _ {address : ℕ} {image st : List ℕ} {x : Step} {xs : List Step} (r : 
 
   -- a failure by 17
   told_failed : (code : ℕ) → number_at st (call (Failed code)) ≡ 17
-  told_failed code = (session.fails st code 0 (takes (Failed code) (fits_failed st x xs code s))).0
+  told_failed code = (session.fails st code 0 (takes (Failed code) (sends st x))).0
 
   -- with a step left it is not completed
   not_completed : (b : Bool) → completed st ≡ b → b ≡ false
@@ -153,37 +133,31 @@ module _ (c : Chip) (image : List ℕ) (e : length image ≡ 100) (f : length c.
     go : Dec (j ≤ i + len) → CutTo st (at c image i) (at c image j)
     go (yes k) =
         let p : max i (i + min (suc (j - i) - 1) len) ≡ j = omega arith in
-        stop r tt (at c image i) (at c image j) (suc (j - i))
+        stop r (λ address last image. refl) (at c image i) (at c image j) (suc (j - i))
         (ap (λ (o : ℕ). reached (suc (j - i)) (at c image i) (exchange_for c.address (last_in st) image (Chunk o len))) a.0
         ∙ part_chunk c image e f n small lock_after i len i (suc (j - i)) (last_in st) (omega arith) (omega (arith, a.3)) a.2 a.3
         ∙ ap (at c image) p)
-    go (no k) = go_on r tt (at c image i) (at c image (i + len)) (at c image j) (part_done st offset len i (last_in st) xs a) (next_part (omega arith))
+    go (no k) = go_on r (λ address last image. refl) (at c image i) (at c image (i + len)) (at c image j) (part_done st offset len i (last_in st) xs a) (next_part (omega arith))
 
   to_front : (xs : List Step) (st : List ℕ) (i j : ℕ) → Ready c.address image st xs → Ahead n lock_after i xs → i < j → j ≤ n → CutTo st (at c image i) (at c image j)
   to_front [] st i j r a h g = absurd (omega (arith, a.0))
   to_front (Write register value ∷ xs) st i j r a h g = absurd (omega (arith, a.0))
   to_front (Chunk offset len ∷ xs) st i j r a h g =
-      in_part st offset len i j xs r a h g (λ k. to_front xs (after_call st (call Done)) (i + len) j (next r tt) a.4 k g)
-  to_front (Read register ∷ xs) st i j r a h g = absurd a
-  to_front (Update register shift width value ∷ xs) st i j r a h g = absurd a
-  to_front (Match register value ∷ xs) st i j r a h g = absurd a
-  to_front (Store index ∷ xs) st i j r a h g = absurd a
+      in_part st offset len i j xs r a h g (λ k. to_front xs (after_call st (call Done)) (i + len) j (next r (λ address last image. refl)) a.4 k g)
+  to_front (x ∷ xs) st i j r a h g = absurd a
 
   -- all of them, and the lock
   to_lock : (xs : List Step) (st : List ℕ) (i : ℕ) → lock_after ≡ true → Ready c.address image st xs → Ahead n lock_after i xs →
       CutTo st (at c image i) (holding c (front image c.bytes n) false)
   to_lock [] st i b r a = absurd (true≢false (sym b ∙ a.1))
   to_lock (Write register value ∷ xs) st i b r a =
-      stop r tt (at c image i) (holding c (front image c.bytes n) false) 2
+      stop r (λ address last image. refl) (at c image i) (holding c (front image c.bytes n) false) 2
       ((λ z. reached 2 (at c image (a.0 z)) (exchange_for c.address (last_in st) image (Write (a.2 z) (a.3 z))))
       ∙ lock_made (at c image n) false c.address refl)
   to_lock (Chunk offset len ∷ xs) st i b r a =
-      go_on r tt (at c image i) (at c image (i + len)) (holding c (front image c.bytes n) false) (part_done st offset len i (last_in st) xs a)
-      (to_lock xs (after_call st (call Done)) (i + len) b (next r tt) a.4)
-  to_lock (Read register ∷ xs) st i b r a = absurd a
-  to_lock (Update register shift width value ∷ xs) st i b r a = absurd a
-  to_lock (Match register value ∷ xs) st i b r a = absurd a
-  to_lock (Store index ∷ xs) st i b r a = absurd a
+      go_on r (λ address last image. refl) (at c image i) (at c image (i + len)) (holding c (front image c.bytes n) false) (part_done st offset len i (last_in st) xs a)
+      (to_lock xs (after_call st (call Done)) (i + len) b (next r (λ address last image. refl)) a.4)
+  to_lock (x ∷ xs) st i b r a = absurd a
 
 -- ---- an upload
 
@@ -205,17 +179,17 @@ module _ (m : WaveformMemory) (lock_after : Bool) (r : DA728x) (session_bytes : 
     here = subst (λ (a : ℕ). Ready a m.«data» (running m lock_after x) (set_unlocked true ∷ tail)) h ready
 
     ready_tail : Ready c.address m.«data» (after_call (running m lock_after x) (call Done)) tail
-    ready_tail = next here tt
+    ready_tail = next here (λ address last image. refl)
 
     -- before the unlock, or behind it
     pub cut_none : CutTo (running m lock_after x) c c
-    cut_none = stop here tt c c 1 (part_own c c.address 0x2D (mem_ctl2 true ∷ []) 1 refl)
+    cut_none = stop here (λ address last image. refl) c c 1 (part_own c c.address 0x2D (mem_ctl2 true ∷ []) 1 refl)
 
     behind : (d : Chip) → CutTo (after_call (running m lock_after x) (call Done)) (at c m.«data» 0) d → CutTo (running m lock_after x) c d
-    behind d = go_on here tt c (at c m.«data» 0) d (lock_made c true c.address refl)
+    behind d = go_on here (λ address last image. refl) c (at c m.«data» 0) d (lock_made c true c.address refl)
 
     pub cut_front : (j : ℕ) → j ≤ size m → CutTo (running m lock_after x) c (at c m.«data» j)
-    cut_front zero g = stop here tt c (at c m.«data» 0) 2 (lock_made c true c.address refl)
+    cut_front zero g = stop here (λ address last image. refl) c (at c m.«data» 0) 2 (lock_made c true c.address refl)
     cut_front (suc j) g = behind _ (to_front c m.«data» e f (size m) small lock_after tail _ 0 (suc j) ready_tail (ahead (size m) lock_after small) (omega arith) g)
 
     pub cut_lock : lock_after ≡ true → CutTo (running m lock_after x) c (holding c (front m.«data» c.bytes (size m)) false)

@@ -26,17 +26,17 @@ module _ (m : WaveformMemory) (lock_after : Bool) (start : Chip) (z : Sized m st
   n = size m
 
   -- what stays from run to run: the hundred bytes, those behind the bytes shown, and, of a memory that was unlocked at the start, that it is so or all is stored
-  record Between (d : Chip) : Type 0 where
+  record Kept (d : Chip) : Type 0 where
     address : d.address ≡ start.address
     size_is : length d.bytes ≡ 100
     behind : drop n d.bytes ≡ drop n start.bytes
     lock : (start.unlocked ≡ false) ⊎ (d.unlocked ≡ true) ⊎ ((d.unlocked ≡ false) × (lock_after ≡ true) × (take n d.bytes ≡ take n image))
 
-  first : (b : Bool) → start.unlocked ≡ b → Between start
+  first : (b : Bool) → start.unlocked ≡ b → Kept start
   first true e = record { address = refl; size_is = z.1; behind = refl; lock = inr (inl e) }
   first false e = record { address = refl; size_is = z.1; behind = refl; lock = inl e }
 
-  next_front : (d : Chip) (j : ℕ) → j ≤ n → Between d → Between (at d image j)
+  next_front : (d : Chip) (j : ℕ) → j ≤ n → Kept d → Kept (at d image j)
   next_front d j h b = record {
     address = b.address;
     size_is = length_front image d.bytes z.0 b.size_is j (omega arith);
@@ -44,30 +44,30 @@ module _ (m : WaveformMemory) (lock_after : Bool) (start : Chip) (z : Sized m st
     lock = inr (inl refl);
   }
 
-  next_stopped : (d e : Chip) → Stopped d image n lock_after e → Between d → Between e
-  next_stopped d e (inl h) b = subst Between (sym h) b
-  next_stopped d e (inr (inl h)) b = subst Between (sym h.2) (next_front d h.0 h.1 b)
-  next_stopped d e (inr (inr h)) b = subst Between (sym h.1) (record {
+  next_stopped : (d e : Chip) → Stopped d image n lock_after e → Kept d → Kept e
+  next_stopped d e (inl h) b = subst Kept (sym h) b
+  next_stopped d e (inr (inl h)) b = subst Kept (sym h.2) (next_front d h.0 h.1 b)
+  next_stopped d e (inr (inr h)) b = subst Kept (sym h.1) (record {
     address = b.address;
     size_is = length_front image d.bytes z.0 b.size_is n (omega arith);
     behind = drop_front image d.bytes z.0 b.size_is n n (omega arith) (omega arith) ∙ b.behind;
     lock = inr (inr (refl, h.0, take_front image d.bytes z.0 b.size_is n n (omega arith) (omega arith)));
   })
 
-  next : (x : AnyRun) (d e : Chip) → (e ≡ d) ⊎ ((x.run.driver.address ≡ d.address) × Stopped d image n lock_after e) → Between d → Between e
-  next x d e (inl h) b = subst Between (sym h) b
+  next : (x : AnyRun) (d e : Chip) → (e ≡ d) ⊎ ((x.run.driver.address ≡ d.address) × Stopped d image n lock_after e) → Kept d → Kept e
+  next x d e (inl h) b = subst Kept (sym h) b
   next x d e (inr h) b = next_stopped d e h.1 b
 
-  between : (xs : List AnyRun) (d : Chip) → Between d → Between (after_runs m lock_after d xs)
-  between [] d b = b
-  between (x ∷ xs) d b =
-      between xs (after_run m lock_after d x) (next x d (after_run m lock_after d x) (one m lock_after d x (z.0, b.size_is)).leaves b)
+  kept : (xs : List AnyRun) (d : Chip) → Kept d → Kept (after_runs m lock_after d xs)
+  kept [] d b = b
+  kept (x ∷ xs) d b =
+      kept xs (after_run m lock_after d x) (next x d (after_run m lock_after d x) (one m lock_after d x (z.0, b.size_is)).leaves b)
 
   -- from any of these chips all bytes make the same
-  same_done : (d : Chip) → Between d → done d image n lock_after ≡ done start image n lock_after
+  same_done : (d : Chip) → Kept d → done d image n lock_after ≡ done start image n lock_after
   same_done d b = λ i. record { address = b.address i; bytes = take n image ++ b.behind i; unlocked = not lock_after }
 
-  to_end : (x : AnyRun) (d : Chip) → Between d → WholeRun m lock_after start x → (start.unlocked ≡ true) ⊎ (x.unlocks ≡ true) →
+  to_end : (x : AnyRun) (d : Chip) → Kept d → WholeRun m lock_after start x → (start.unlocked ≡ true) ⊎ (x.unlocks ≡ true) →
       after_run m lock_after d x ≡ done start image n lock_after
   to_end x d b w p = go x.unlocks refl p b.lock
     where
@@ -127,7 +127,7 @@ pub repeats : (m : WaveformMemory) (lock_after : Bool) (c : Chip) (cut : List An
     after_runs m lock_after c (cut ++ (last ∷ [])) ≡ after_run m lock_after c sole
 repeats m lock_after c cut last sole z w v p =
     one_more (after_run m lock_after) cut c last
-    ∙ to_end m lock_after c z last (after_runs m lock_after c cut) (between m lock_after c z cut c (first m lock_after c z c.unlocked refl)) w (of_last p)
+    ∙ to_end m lock_after c z last (after_runs m lock_after c cut) (kept m lock_after c z cut c (first m lock_after c z c.unlocked refl)) w (of_last p)
     ∙ sym (to_end m lock_after c z sole c (first m lock_after c z c.unlocked refl) v (of_sole p))
   where
     of_last : (c.unlocked ≡ true) ⊎ All (λ (x : AnyRun). x.unlocks ≡ true) (sole ∷ last ∷ cut) → (c.unlocked ≡ true) ⊎ (last.unlocks ≡ true)

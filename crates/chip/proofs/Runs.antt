@@ -1,6 +1,7 @@
 -- What each try of a session's exchanges keeps, and each exchange that is made hands on, holds of a run of the session, however it is cut. Assumes nothing.
 use Rattle.std.proofs.Common.{ℕ, ◌≡◌, ◌∙◌, refl, sym, ap, subst, Bool, true, false, cond, eqb, List, [], ◌∷◌}
 use Rattle.std.proofs.lemmas.Bool.{true≢false}
+use Rattle.laws.specs.Bytes.{All}
 use Rattle.exchange.specs.declared.Step.{Step}
 use Rattle.exchange.specs.declared.Exchange.{Exchange}
 use Rattle.exchange.specs.Steps.{exchange, exchange_for}
@@ -120,3 +121,22 @@ module _ (P : List Step → Chip → Type 0) (address : ℕ) (image : List ℕ) 
   run (a ∷ more) st d rest o p =
       run_by st (after_call st a.call) (number_at st a.call) (tried a.tries d (pending_of st)) more rest o (some_tried a.tries (left st) st d o p) (told st a.call)
       (λ b q. run more (after_call st a.call) b rest (of_after address image st a.call o) q)
+
+-- ---- steps of which no part changes the chip
+
+module _ (c : Chip) (address : ℕ) (image : List ℕ) where
+  abbrev pub Idle : Step → Type 0
+  Idle x = (k last : ℕ) → reached k c (exchange_for address last image x) ≡ c
+
+  abbrev AllIdle : List Step → Chip → Type 0
+  AllIdle xs d = All Idle xs × (d ≡ c)
+
+  idles : Keeps AllIdle address image
+  idles = record {
+    tries = λ x xs d k last p. (p.0, ap (λ (b : Chip). reached k b (exchange_for address last image x)) p.1 ∙ p.0.0 k last);
+    makes = λ x xs d last p. let e = exchange_for address last image x in (p.0.1, ap (λ (b : Chip). reached_all b e) p.1 ∙ p.0.0 e.len last);
+  }
+
+  -- nor does a session that has these left
+  pub idle_run : (st : List ℕ) → Of address image st → All Idle (left st) → (attempts : List Attempt) (rest : List ℕ) → chip_after c st attempts rest ≡ c
+  idle_run st o p attempts rest = (run AllIdle address image idles attempts st c rest o (p, refl)).holds.1

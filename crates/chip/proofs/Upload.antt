@@ -6,13 +6,14 @@ use Rattle.std.proofs.Math.ListN.{length-take, length-drop}
 use native.Mathlib.Decide.{dec_le}
 use Rattle.laws.specs.Bytes.{All}
 use Rattle.exchange.specs.declared.Step.{Step}
-use Rattle.exchange.specs.declared.Step.TheVariants.{Write, Read, Update, Match, Chunk, Store}
+use Rattle.exchange.specs.declared.Step.TheVariants.{Write, Chunk}
 use Rattle.exchange.specs.Steps.{exchange, exchange_for, memory_address, chunk}
 use Rattle.sessions.specs.Sessions.{mem_ctl2, set_unlocked, chunk_step, chunk_steps, lock_steps}
+use Rattle.driver.proofs.Begun.{to_chip}
 use Rattle.chip.specs.declared.Chip.{Chip}
 use Rattle.chip.specs.Writes.{holding, stored, stored_all, reached, reached_all}
 use Rattle.chip.proofs.Stores.{part_own, part_other, locks, shut_all, front, at, lays}
-use Rattle.chip.proofs.Runs.{Keeps}
+use Rattle.chip.proofs.Runs.{Keeps, Idle}
 
 take_min : (p q : ℕ) (l : List ℕ) → take p (take q l) ≡ take (min p q) l
 take_min p q l = go (dec_le p q) where
@@ -43,10 +44,7 @@ module _ (n : ℕ) (lock_after : Bool) where
   Ahead i [] = (i ≡ n) × (lock_after ≡ false)
   Ahead i (Write register value ∷ xs) = (i ≡ n) × (lock_after ≡ true) × (register ≡ 0x2D) × (value ≡ mem_ctl2 false) × (xs ≡ [])
   Ahead i (Chunk offset len ∷ xs) = (offset ≡ i) × (1 ≤ len) × (len ≤ 32) × (i + len ≤ n) × Ahead (i + len) xs
-  Ahead i (Read register ∷ xs) = ⊥
-  Ahead i (Update register shift width value ∷ xs) = ⊥
-  Ahead i (Match register value ∷ xs) = ⊥
-  Ahead i (Store index ∷ xs) = ⊥
+  Ahead i (x ∷ xs) = ⊥
 
   -- a part, or none behind the end
   ahead_chunk : (i : ℕ) (xs : List Step) → Ahead (min n (i + 32)) xs → Ahead (min n i) (chunk_step n i ++ xs)
@@ -80,6 +78,11 @@ module _ (n : ℕ) (lock_after : Bool) where
 
 -- ---- a run on an unlocked chip, or of an upload that unlocks it
 
+-- what holds of two chips holds of one that is either
+either : (P : Chip → Type 0) (x y d : Chip) → P x → P y → (d ≡ x) ⊎ (d ≡ y) → P d
+either P x y d p q (inl h) = subst P (sym h) p
+either P x y d p q (inr h) = subst P (sym h) q
+
 -- all bytes, and the lock
 abbrev pub done : Chip → List ℕ → ℕ → Bool → Chip
 done c image n lock_after = holding c (front image c.bytes n) (not lock_after)
@@ -89,6 +92,9 @@ abbrev pub Stopped : Chip → List ℕ → ℕ → Bool → Chip → Type 0
 Stopped c image n lock_after d = (d ≡ c) ⊎ ((j : ℕ) × (j ≤ n) × (d ≡ at c image j)) ⊎ ((lock_after ≡ true) × (d ≡ holding c (front image c.bytes n) false))
 
 module _ (c : Chip) (image : List ℕ) (e : length image ≡ 100) (f : length c.bytes ≡ 100) (n : ℕ) (small : n ≤ 100) (lock_after : Bool) where
+  abbrev own : Chip → Type 0
+  own d = c.address ≡ d.address
+
   -- the first k bytes of a part of the image, behind the register
   pub part_chunk : (i len j k last : ℕ) → i ≤ j → j ≤ n → len ≤ 32 → i + len ≤ n →
       reached k (at c image j) (exchange_for c.address last image (Chunk i len)) ≡ at c image (max j (i + min (k - 1) len))
@@ -121,16 +127,11 @@ module _ (c : Chip) (image : List ℕ) (e : length image ≡ 100) (f : length c.
 
   -- the unlock
   opens : (d : Chip) → (d ≡ c) ⊎ (d ≡ at c image 0) → holding d d.bytes true ≡ at c image 0
-  opens d (inl h) = ap (λ (b : Chip). holding b b.bytes true) h
-  opens d (inr h) = ap (λ (b : Chip). holding b b.bytes true) h
-
-  own : (d : Chip) → (d ≡ c) ⊎ (d ≡ at c image 0) → c.address ≡ d.address
-  own d (inl h) = ap (λ (b : Chip). b.address) (sym h)
-  own d (inr h) = ap (λ (b : Chip). b.address) (sym h)
+  opens d q = either (λ (b : Chip). holding b b.bytes true ≡ at c image 0) c (at c image 0) d refl refl q
 
   tries_unlock : (ys : List Step) (d : Chip) (k last : ℕ) → Ahead n lock_after 0 ys → (d ≡ c) ⊎ (d ≡ at c image 0) →
       Stage (set_unlocked true ∷ ys) (reached k d (exchange_for c.address last image (set_unlocked true)))
-  tries_unlock ys d k last a q = go (lock_part d true c.address (own d q) k) where
+  tries_unlock ys d k last a q = go (lock_part d true c.address (either own c (at c image 0) d refl refl q) k) where
     go : (reached k d (exchange_for c.address last image (set_unlocked true)) ≡ d)
         ⊎ (reached k d (exchange_for c.address last image (set_unlocked true)) ≡ holding d d.bytes true) → Stage (set_unlocked true ∷ ys) (reached k d (exchange_for c.address last image (set_unlocked true)))
     go (inl h) = subst (Stage (set_unlocked true ∷ ys)) (sym h) (waiting ys d a q)
@@ -138,12 +139,9 @@ module _ (c : Chip) (image : List ℕ) (e : length image ≡ 100) (f : length c.
 
   -- the lock
   shuts : (d : Chip) → lock_after ≡ true → (d ≡ at c image n) ⊎ (d ≡ done c image n lock_after) → holding d d.bytes false ≡ done c image n lock_after
-  shuts d b (inl h) = ap (λ (x : Chip). holding x x.bytes false) h ∙ ap (λ (u : Bool). holding c (front image c.bytes n) (not u)) (sym b)
-  shuts d b (inr h) = ap (λ (x : Chip). holding x x.bytes false) h ∙ ap (λ (u : Bool). holding c (front image c.bytes n) (not u)) (sym b)
-
-  own_full : (d : Chip) → (d ≡ at c image n) ⊎ (d ≡ done c image n lock_after) → c.address ≡ d.address
-  own_full d (inl h) = ap (λ (b : Chip). b.address) (sym h)
-  own_full d (inr h) = ap (λ (b : Chip). b.address) (sym h)
+  shuts d b q =
+      let p : holding c (front image c.bytes n) false ≡ done c image n lock_after = ap (λ (u : Bool). holding c (front image c.bytes n) (not u)) (sym b) in
+      either (λ (x : Chip). holding x x.bytes false ≡ done c image n lock_after) (at c image n) (done c image n lock_after) d p p q
 
   module _ (register value : ℕ) (xs : List Step) (d : Chip) (last : ℕ) (a : Ahead n lock_after n (Write register value ∷ xs)) (q : (d ≡ at c image n) ⊎ (d ≡ done c image n lock_after)) where
     abbrev x : Step
@@ -153,14 +151,14 @@ module _ (c : Chip) (image : List ℕ) (e : length image ≡ 100) (f : length c.
     is_lock k = λ i. reached k d (exchange c.address (a.2 i ∷ a.3 i ∷ []) 0)
 
     tries_lock : (k : ℕ) → Stage (x ∷ xs) d → Stage (x ∷ xs) (reached k d (exchange_for c.address last image x))
-    tries_lock k s = go (lock_part d false c.address (own_full d q) k) where
+    tries_lock k s = go (lock_part d false c.address (either own (at c image n) (done c image n lock_after) d refl refl q) k) where
       go : (reached k d (exchange c.address (0x2D ∷ mem_ctl2 false ∷ []) 0) ≡ d) ⊎ (reached k d (exchange c.address (0x2D ∷ mem_ctl2 false ∷ []) 0) ≡ holding d d.bytes false) →
           Stage (x ∷ xs) (reached k d (exchange_for c.address last image x))
       go (inl h) = subst (Stage (x ∷ xs)) (sym (is_lock k ∙ h)) s
       go (inr h) = locking (x ∷ xs) _ a (is_lock k ∙ h ∙ shuts d a.1 q)
 
     makes_lock : Stage xs (reached_all d (exchange_for c.address last image x))
-    makes_lock = subst (λ (l : List Step). Stage l (reached_all d (exchange_for c.address last image x))) (sym a.4) (ended _ (is_lock 2 ∙ lock_made d false c.address (own_full d q) ∙ shuts d a.1 q))
+    makes_lock = subst (λ (l : List Step). Stage l (reached_all d (exchange_for c.address last image x))) (sym a.4) (ended _ (is_lock 2 ∙ lock_made d false c.address (either own (at c image n) (done c image n lock_after) d refl refl q) ∙ shuts d a.1 q))
 
   -- before the lock all bytes were made, and behind them there is no other part
   full_ahead : (i register value : ℕ) (xs : List Step) → Ahead n lock_after i (Write register value ∷ xs) → Ahead n lock_after n (Write register value ∷ xs)
@@ -178,18 +176,12 @@ module _ (c : Chip) (image : List ℕ) (e : length image ≡ 100) (f : length c.
       ∙ part_chunk i len j k last h g a.2 a.3)
   tries_step (Write register value) xs d k last i j a h g q =
       tries_lock register value xs d last (full_ahead i register value xs a) (inl (full j d (omega (arith, a.0)) g q)) k (sending i j (Write register value ∷ xs) d a h g q)
-  tries_step (Read register) xs d k last i j a h g q = absurd a
-  tries_step (Update register shift width value) xs d k last i j a h g q = absurd a
-  tries_step (Match register value) xs d k last i j a h g q = absurd a
-  tries_step (Store index) xs d k last i j a h g q = absurd a
+  tries_step x xs d k last i j a h g q = absurd a
 
   tries_full : (x : Step) (xs : List Step) (d : Chip) (k last : ℕ) → Ahead n lock_after n (x ∷ xs) → d ≡ done c image n lock_after → Stage (x ∷ xs) (reached k d (exchange_for c.address last image x))
   tries_full (Write register value) xs d k last a h = tries_lock register value xs d last a (inr h) k (locking (Write register value ∷ xs) d a h)
   tries_full (Chunk offset len) xs d k last a h = absurd (none_ahead offset len xs a)
-  tries_full (Read register) xs d k last a h = absurd a
-  tries_full (Update register shift width value) xs d k last a h = absurd a
-  tries_full (Match register value) xs d k last a h = absurd a
-  tries_full (Store index) xs d k last a h = absurd a
+  tries_full x xs d k last a h = absurd a
 
   tries : (x : Step) (xs : List Step) (d : Chip) (k last : ℕ) → Stage (x ∷ xs) d → Stage (x ∷ xs) (reached k d (exchange_for c.address last image x))
   tries x xs d k last (waiting ys b a q) = tries_unlock xs d k last a q
@@ -205,21 +197,15 @@ module _ (c : Chip) (image : List ℕ) (e : length image ≡ 100) (f : length c.
       ∙ made_chunk i len j last h g a.2 a.3)
   makes_step (Write register value) xs d last i j a h g q =
       makes_lock register value xs d last (full_ahead i register value xs a) (inl (full j d (omega (arith, a.0)) g q))
-  makes_step (Read register) xs d last i j a h g q = absurd a
-  makes_step (Update register shift width value) xs d last i j a h g q = absurd a
-  makes_step (Match register value) xs d last i j a h g q = absurd a
-  makes_step (Store index) xs d last i j a h g q = absurd a
+  makes_step x xs d last i j a h g q = absurd a
 
   makes_full : (x : Step) (xs : List Step) (d : Chip) (last : ℕ) → Ahead n lock_after n (x ∷ xs) → d ≡ done c image n lock_after → Stage xs (reached_all d (exchange_for c.address last image x))
   makes_full (Write register value) xs d last a h = makes_lock register value xs d last a (inr h)
   makes_full (Chunk offset len) xs d last a h = absurd (none_ahead offset len xs a)
-  makes_full (Read register) xs d last a h = absurd a
-  makes_full (Update register shift width value) xs d last a h = absurd a
-  makes_full (Match register value) xs d last a h = absurd a
-  makes_full (Store index) xs d last a h = absurd a
+  makes_full x xs d last a h = absurd a
 
   makes : (x : Step) (xs : List Step) (d : Chip) (last : ℕ) → Stage (x ∷ xs) d → Stage xs (reached_all d (exchange_for c.address last image x))
-  makes x xs d last (waiting ys b a q) = sending 0 0 xs _ a (omega arith) (omega arith) (lock_made d true c.address (own d q) ∙ opens d q)
+  makes x xs d last (waiting ys b a q) = sending 0 0 xs _ a (omega arith) (omega arith) (lock_made d true c.address (either own c (at c image 0) d refl refl q) ∙ opens d q)
   makes x xs d last (sending i j zs b a h g q) = makes_step x xs d last i j a h g q
   makes x xs d last (locking zs b a h) = makes_full x xs d last a h
 
@@ -250,62 +236,33 @@ module _ (c : Chip) (image : List ℕ) (e : length image ≡ 100) (f : length c.
 abbrev pub Harmless : Step → Type 0
 Harmless (Chunk offset len) = offset ≤ 100
 Harmless (Write register value) = (register ≡ 0x2D) × (value ≡ mem_ctl2 false)
-Harmless (Read register) = ⊥
-Harmless (Update register shift width value) = ⊥
-Harmless (Match register value) = ⊥
-Harmless (Store index) = ⊥
+Harmless x = ⊥
 
 pub harmless : (n : ℕ) (lock_after : Bool) (i : ℕ) (xs : List Step) → n ≤ 100 → Ahead n lock_after i xs → All Harmless xs
 harmless n lock_after i [] h a = tt
 harmless n lock_after i (Write register value ∷ xs) h a = ((a.2, a.3), subst (All Harmless) (sym a.4) tt)
 harmless n lock_after i (Chunk offset len ∷ xs) h a = (omega (arith, a.0, a.3), harmless n lock_after (i + len) xs h a.4)
-harmless n lock_after i (Read register ∷ xs) h a = absurd a
-harmless n lock_after i (Update register shift width value ∷ xs) h a = absurd a
-harmless n lock_after i (Match register value ∷ xs) h a = absurd a
-harmless n lock_after i (Store index ∷ xs) h a = absurd a
+harmless n lock_after i (x ∷ xs) h a = absurd a
 
 module _ (c : Chip) (image : List ℕ) (shut : c.unlocked ≡ false) where
-  part_shut : (x : Step) (k last : ℕ) → Harmless x → reached k c (exchange_for c.address last image x) ≡ c
-  part_shut (Chunk offset len) k last h =
+  pub part_shut : (x : Step) → Harmless x → Idle c c.address image x
+  part_shut (Chunk offset len) h k last =
       part_own c c.address (memory_address offset) (chunk image offset len) k refl
       ∙ shut_all (take (k - 1) (chunk image offset len)) c (memory_address offset) shut (omega arith)
-  part_shut (Write register value) k last h = (λ i. reached k c (exchange c.address (h.0 i ∷ h.1 i ∷ []) 0)) ∙ go (lock_part c false c.address refl k) where
+  part_shut (Write register value) h k last = (λ i. reached k c (exchange c.address (h.0 i ∷ h.1 i ∷ []) 0)) ∙ go (lock_part c false c.address refl k) where
     go : (reached k c (exchange c.address (0x2D ∷ mem_ctl2 false ∷ []) 0) ≡ c) ⊎ (reached k c (exchange c.address (0x2D ∷ mem_ctl2 false ∷ []) 0) ≡ holding c c.bytes false) →
         reached k c (exchange c.address (0x2D ∷ mem_ctl2 false ∷ []) 0) ≡ c
     go (inl e) = e
     go (inr e) = e ∙ ap (holding c c.bytes) (sym shut)
-  part_shut (Read register) k last h = absurd h
-  part_shut (Update register shift width value) k last h = absurd h
-  part_shut (Match register value) k last h = absurd h
-  part_shut (Store index) k last h = absurd h
+  part_shut x h k last = absurd h
 
-  abbrev pub Unmoved : List Step → Chip → Type 0
-  Unmoved xs d = All Harmless xs × (d ≡ c)
-
-  pub keeps_shut : Keeps Unmoved c.address image
-  keeps_shut = record {
-    tries = λ x xs d k last p. (p.0, ap (λ (b : Chip). reached k b (exchange_for c.address last image x)) p.1 ∙ part_shut x k last p.0.0);
-    makes = λ x xs d last p. let e = exchange_for c.address last image x in (p.0.1, ap (λ (b : Chip). reached_all b e) p.1 ∙ part_shut x e.len last p.0.0);
-  }
+  pub all_shut : (xs : List Step) → All Harmless xs → All (Idle c c.address image) xs
+  all_shut [] h = tt
+  all_shut (x ∷ xs) h = (part_shut x h.0, all_shut xs h.1)
 
 -- ---- nor does one for another chip
 
-module _ (c : Chip) (address : ℕ) (image : List ℕ) (other : ¬ (address ≡ c.address)) where
-  abbrev pub Spared : List Step → Chip → Type 0
-  Spared xs d = d ≡ c
-
-  spares : (x : Step) (k last : ℕ) → reached k c (exchange_for address last image x) ≡ c
-  spares x k last = part_other c (exchange_for address last image x) k (λ h. other (sym (to x) ∙ h)) where
-    to : (x : Step) → (exchange_for address last image x).address ≡ address
-    to (Write register value) = refl
-    to (Read register) = refl
-    to (Update register shift width value) = refl
-    to (Match register value) = refl
-    to (Chunk offset len) = refl
-    to (Store index) = refl
-
-  pub keeps_spared : Keeps Spared address image
-  keeps_spared = record {
-    tries = λ x xs d k last p. ap (λ (b : Chip). reached k b (exchange_for address last image x)) p ∙ spares x k last;
-    makes = λ x xs d last p. let e = exchange_for address last image x in ap (λ (b : Chip). reached_all b e) p ∙ spares x e.len last;
-  }
+pub all_spared : (c : Chip) (address : ℕ) (image : List ℕ) → ¬ (address ≡ c.address) → (xs : List Step) → All (Idle c address image) xs
+all_spared c address image other [] = tt
+all_spared c address image other (x ∷ xs) =
+    ((λ k last. part_other c (exchange_for address last image x) k (λ h. other (sym (to_chip (x ∷ []) address last image []).0 ∙ h))), all_spared c address image other xs)

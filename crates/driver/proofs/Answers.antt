@@ -36,7 +36,7 @@ use Rattle.driver.specs.Theorems.{Request, configure, get_chip_rev, get_events, 
 use Rattle.driver.proofs.Records.{Leaves}
 use Rattle.driver.proofs.Begun.{Fits, Holds, holds, no_image_lem, no_record, value_of, answered, counted, within, all_made}
 use Rattle.exchange.proofs.Latest.{bytes_wanted}
-use Rattle.driver.proofs.Mismatch.{AllPlain, AllTame, plain, all_plain, frequency_tame, configure_tame, send_plain, never}
+use Rattle.driver.proofs.Mismatch.{AllPlain, AllTame, plain, all_plain, tame_if, frequency_apart, configure_apart, send_plain, never}
 use Rattle.driver.proofs.Starts.{configured}
 use Rattle.driver.proofs.Upload.{few}
 
@@ -51,7 +51,7 @@ pub by_unless : (Q : Begun → List Step → Type 0) (n : ℕ) (s : Start) → B
 by_unless Q zero s q = q
 by_unless Q (suc n) s q = tt
 
-by_settings : (Q : Begun → List Step → Type 0) (s : Option (ActuatorConfig × DeviceConfig)) (f : ActuatorConfig → DeviceConfig → Start) →
+pub by_settings : (Q : Begun → List Step → Type 0) (s : Option (ActuatorConfig × DeviceConfig)) (f : ActuatorConfig → DeviceConfig → Start) →
     ((a : ActuatorConfig) (d : DeviceConfig) → By Q (f a d)) → By Q (with_settings s f)
 by_settings Q None f q = tt
 by_settings Q (Some (a, d)) f q = q a d
@@ -121,7 +121,7 @@ quiet r get_events t u c = ((((omega arith, omega arith, no_image_lem, no_record
 quiet r get_status t u c = one_byte r (Read (address_of "IRQ_STATUS1") ∷ []) (omega arith) (refl, tt) (λ bytes e. e)
 quiet r (set_frequency hz) t u c =
     by_settings _ r.settings _ (λ a d. by_unless _ (first_failing ((outside_band d.driving_mode hz, 23) ∷ [])) _
-    (quiet_runs r (frequency_steps hz) (omega (arith, frequency hz)) (frequency_tame hz)))
+    (quiet_runs r (frequency_steps hz) (omega (arith, frequency hz)) (tame_if _ (frequency_apart hz))))
 quiet r (set_override_value value) t u c =
     by_settings _ r.settings _ (λ a d. by_unless _ (first_failing (override_checks d value)) _
     (quiet_runs r (Write (address_of "TOP_CTL2") (override_byte value) ∷ []) (omega arith) (refl, tt)))
@@ -153,7 +153,7 @@ pub fits_upload : (r : DA728x) (m : WaveformMemory) (lock_after : Bool) → leng
 fits_upload r m lock_after e = (few m lock_after, omega arith, e, record_length (upload_record r m))
 
 pub tamed : (r : DA728x) (q : Request) → Typed q → is_upload q ≡ false → By (Tamed r.address (operation_of r q).answers) (operation_of r q).start
-tamed r (configure a d) t u = by_unless _ (configure_number r.variant a d) _ ((fits_configure r a d, λ bytes e. refl, refl), configure_tame a d)
+tamed r (configure a d) t u = by_unless _ (configure_number r.variant a d) _ ((fits_configure r a d, λ bytes e. refl, refl), tame_if _ (configure_apart a d))
 tamed r (upload_waveform_memory m lock_after) t u = absurd (true≢false u)
 tamed r q t u = by_both {P = Quiet r.address (operation_of r q).answers} (λ b xs p. p.0) (operation_of r q).start (quiet r q t u refl)
 

@@ -96,7 +96,7 @@ none_past (x ∷ xs) zero h = sym (eqb-zero-suc (length xs))
 none_past (x ∷ xs) (suc k) h = none_past xs k (omega arith) ∙ sym (eqb-suc-suc k (length xs))
 
 -- every exchange is the chip's
-to_chip : (xs : List Step) (address last : ℕ) (image bytes : List ℕ) → All (λ (e : Exchange). e.address ≡ address) (exchanges_of address last image xs bytes)
+pub to_chip : (xs : List Step) (address last : ℕ) (image bytes : List ℕ) → All (λ (e : Exchange). e.address ≡ address) (exchanges_of address last image xs bytes)
 to_chip [] address last image bytes = tt
 to_chip (x ∷ xs) address last image bytes = (own x, to_chip xs address _ image _)
   where

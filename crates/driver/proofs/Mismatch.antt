@@ -2,7 +2,7 @@
 use Prim.Native.Nat.{ℕ, zero, suc, ◌-◌, min}
 use native.Mathlib.Omega.{arith}
 use mathlib.Core.Path.{◌≡◌, refl, sym, ◌∙◌, ap, subst}
-use mathlib.Core.Bool.{Bool, true, false, cond, not, ◌&&◌, true≢false}
+use mathlib.Core.Bool.{Bool, true, false, cond, not, ◌&&◌, true≢false, and-eq-true_iff}
 use mathlib.Core.List.{List, [], ◌∷◌, ◌++◌}
 use Prim.Native.String.{String, ◌++◌ as ◌&◌}
 use lib.Dec.{ltb, leb, eqb}
@@ -44,7 +44,7 @@ module _ (P : Step → Type 0) (store : (i : ℕ) → P (Store i)) where
   all_stores zero i = tt
   all_stores (suc n) i = (store i, all_stores n (suc i))
 
-  every_step : (b : Begun) (xs : List Step) → All P xs → All P (all_steps b xs)
+  pub every_step : (b : Begun) (xs : List Step) → All P xs → All P (all_steps b xs)
   every_step b xs p = all_append P xs _ p (all_stores (min b.reads 100) 0)
 
 -- ---- steps that compare nothing
@@ -112,48 +112,70 @@ tame_exchanges (x ∷ xs) p address last image bytes = (one x p.0, tame_exchange
     one (Chunk offset len) h = absurd h
     one (Store i) h = cond_self (leb 132 (memory_address i)) []
 
--- ---- such are those of `configure`
+-- ---- steps on registers alone, MEM_CTL2 not among them
 
-pub frequency_tame : (hz : ℕ) → AllTame (frequency_steps hz)
+abbrev apart : ℕ → Bool
+apart register = not (eqb register 0x2D) && ltb register 132
+
+abbrev pub Apart : Step → Type 0
+Apart (Write register value) = apart register ≡ true
+Apart (Read register) = ltb register 132 ≡ true
+Apart (Update register shift width value) = apart register ≡ true
+Apart (Store i) = Unit
+Apart x = ⊥
+
+pub tame_if : (xs : List Step) → All Apart xs → AllTame xs
+tame_if [] p = tt
+tame_if (x ∷ xs) p = (one x p.0, tame_if xs p.1)
+  where
+    one : (x : Step) → Apart x → Tame x
+    one (Write register value) h = ((and-eq-true_iff (not (eqb register 0x2D)) (ltb register 132)).0 h).1
+    one (Read register) h = h
+    one (Update register shift width value) h = ((and-eq-true_iff (not (eqb register 0x2D)) (ltb register 132)).0 h).1
+    one (Store i) h = tt
+    one x h = absurd h
+
+-- such are those of `configure`
+pub frequency_apart : (hz : ℕ) → All Apart (frequency_steps hz)
 unfolding frequency_steps
-frequency_tame hz = (refl, (refl, tt))
+frequency_apart hz = (refl, (refl, tt))
 
-pid_tame : (p : Option (ℕ × ℕ)) → AllTame (pid_steps p)
+pid_apart : (p : Option (ℕ × ℕ)) → All Apart (pid_steps p)
 unfolding pid_steps
-pid_tame None = tt
-pid_tame (Some (kp, ki)) = (refl, (refl, (refl, (refl, tt))))
+pid_apart None = tt
+pid_apart (Some (kp, ki)) = (refl, (refl, (refl, (refl, tt))))
 
-driving_tame : (m : DrivingMode) → AllTame (driving_steps m)
+driving_apart : (m : DrivingMode) → All Apart (driving_steps m)
 unfolding driving_steps phase_steps custom_steps
-driving_tame FREQUENCY_TRACK = tt
-driving_tame WIDEBAND = (refl, (refl, tt))
-driving_tame CUSTOM_WAVEFORM = (refl, (refl, (refl, (refl, tt))))
+driving_apart FREQUENCY_TRACK = tt
+driving_apart WIDEBAND = (refl, (refl, tt))
+driving_apart CUSTOM_WAVEFORM = (refl, (refl, (refl, (refl, tt))))
 
-gpi_tame : (digit : String) (t : Option TriggerConfig) → ltb (address_of ("GPI_" & digit & "_CTL")) 132 ≡ true → AllTame (gpi_steps digit t)
+gpi_apart : (digit : String) (t : Option TriggerConfig) → apart (address_of ("GPI_" & digit & "_CTL")) ≡ true → All Apart (gpi_steps digit t)
 unfolding gpi_steps
-gpi_tame digit None e = tt
-gpi_tame digit (Some t) e = (e, tt)
+gpi_apart digit None e = tt
+gpi_apart digit (Some t) e = (e, tt)
 
-given_tame : (r s t : Option TriggerConfig) → AllTame (given_steps r s t)
+given_apart : (r s t : Option TriggerConfig) → All Apart (given_steps r s t)
 unfolding given_steps
-given_tame r s t =
-    all_append Tame (gpi_steps "0" r) (gpi_steps "1" s ++ gpi_steps "2" t) (gpi_tame "0" r refl)
-    (all_append Tame (gpi_steps "1" s) (gpi_steps "2" t) (gpi_tame "1" s refl) (gpi_tame "2" t refl))
+given_apart r s t =
+    all_append Apart (gpi_steps "0" r) (gpi_steps "1" s ++ gpi_steps "2" t) (gpi_apart "0" r refl)
+    (all_append Apart (gpi_steps "1" s) (gpi_steps "2" t) (gpi_apart "1" s refl) (gpi_apart "2" t refl))
 
-triggers_tame : (d : DeviceConfig) → AllTame (trigger_steps d)
+triggers_apart : (d : DeviceConfig) → All Apart (trigger_steps d)
 unfolding trigger_steps
-triggers_tame d =
-    choice AllTame (etwm d.operation_mode) (given_steps d.gpi_trigger_0 d.gpi_trigger_1 d.gpi_trigger_2) []
-    (given_tame d.gpi_trigger_0 d.gpi_trigger_1 d.gpi_trigger_2) tt
+triggers_apart d =
+    choice (All Apart) (etwm d.operation_mode) (given_steps d.gpi_trigger_0 d.gpi_trigger_1 d.gpi_trigger_2) []
+    (given_apart d.gpi_trigger_0 d.gpi_trigger_1 d.gpi_trigger_2) tt
 
-pub configure_tame : (a : ActuatorConfig) (d : DeviceConfig) → AllTame (configure_steps a d)
+pub configure_apart : (a : ActuatorConfig) (d : DeviceConfig) → All Apart (configure_steps a d)
 unfolding feature_steps limit_steps calibration_steps rapid_stop_steps
-configure_tame a d =
+configure_apart a d =
     let mode = driving_steps d.driving_mode in
     let last = rapid_stop_steps ++ (mode ++ trigger_steps d) in
     let period = frequency_steps a.frequency_Hz in
-    let end : AllTame last = (refl, (refl, all_append Tame mode (trigger_steps d) (driving_tame d.driving_mode) (triggers_tame d))) in
-    let rest = all_append Tame (pid_steps a.pid_Kp_Ki) (period ++ last) (pid_tame a.pid_Kp_Ki) (all_append Tame period last (frequency_tame a.frequency_Hz) end) in
+    let end : All Apart last = (refl, (refl, all_append Apart mode (trigger_steps d) (driving_apart d.driving_mode) (triggers_apart d))) in
+    let rest = all_append Apart (pid_steps a.pid_Kp_Ki) (period ++ last) (pid_apart a.pid_Kp_Ki) (all_append Apart period last (frequency_apart a.frequency_Hz) end) in
     (refl, (refl, (refl, (refl, (refl, (refl, (refl, (refl, (refl, (refl, rest))))))))))
 
 -- ---- an upload compares nothing
