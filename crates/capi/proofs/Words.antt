@@ -8,12 +8,16 @@ use Prim.Native.Nat.{ℕ, ◌<◌, ◌≤◌}
 use native.Mathlib.Nat.{min-le_left, min-le_right}
 use native.Mathlib.Omega.{arith}
 use lib.Dec.{ltb}
-use lib.ListN.{length, take, replicate, length-take, length-map}
+use lib.ListN.{length, take, get_or, replicate, length-take, length-map}
 use Rattle.laws.specs.Whole.{whole, length_of}
 use Rattle.errors.specs.Packed.{Room}
 use Rattle.errors.specs.Told.{Told, gives, refuses, on_told}
 use Rattle.frame.specs.Frame.{bytes_of, frame_bytes, built_frame}
 use Rattle.content.specs.Content.{byte_of, point_bytes, frames_bytes}
+use Rattle.laws.proofs.Lists.{bytes_of as bytes_of_list}
+use Rattle.content.specs.ReadImage.{read_image}
+use Rattle.page.specs.Lines.{page_item}
+use Rattle.page.proofs.Long.{page_room}
 use Rattle.pattern.specs.Calls.{points_from, frames_from}
 use Rattle.pattern.proofs.Snippets.{snippet_holds}
 use Rattle.pattern.proofs.Sequences.{sequence_holds}
@@ -66,3 +70,7 @@ frame_few (Some f) =
 
 pub few_frame : (calls : List ℕ) → Few (frame_item calls)
 few_frame calls = frame_few (builders_of calls).frame
+
+-- the length of a page has room too
+pub page_fits : (l out : List ℕ) (answer : Told ℕ) → ((i : ℕ) → get_or l i 0 < 256) → answer ≡ length_of (whole out (page_item (read_image l))) → Room 16 answer
+page_fits l out answer h e = subst (Room 16) (sym e) (page_room out l (bytes_of_list l h))

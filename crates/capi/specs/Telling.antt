@@ -10,6 +10,8 @@ use Rattle.content.specs.ReadImage.{read_image}
 use Rattle.readings.specs.Readings.{counts_answer, point_answer, frame_answer}
 use Rattle.readings.specs.Lists.{lists_answer}
 use Rattle.readings.specs.Telling.{ReadingsTold}
+use Rattle.page.specs.Lines.{page_item}
+use Rattle.page.specs.Page.{Page}
 use Rattle.assemble.specs.Items.{snippet_item, frame_item, sequence_item, WholeItems}
 use Rattle.assemble.specs.Strict.{Assembled, Strict}
 
@@ -29,11 +31,13 @@ pub record Telling : Type 0 where
   pub lists : Tells 16 (λ (x : List ℕ × ((l : List ℕ) × Bytes l)). lists_answer x.0 (read_image x.1.0))
   pub image_points : (i j : ℕ) → Tells 16 (λ (x : (l : List ℕ) × Bytes l). point_answer (read_image x.0) i j)
   pub image_frames : (i j : ℕ) → Tells 56 (λ (x : (l : List ℕ) × Bytes l). frame_answer (read_image x.0) i j)
+  -- da728x_page with any buffer on slices of bytes; images that print alike are equal
+  pub pages : Tells 16 (λ (x : List ℕ × ((l : List ℕ) × Bytes l)). length_of (whole x.0 (page_item (read_image x.1.0))))
   -- images that are answered alike are read alike
   pub images : ReadingsTold
   -- da728x_assemble: a number; da728x_assemble_strict: a number and a place
   pub assembled : (buffer calls : List ℕ) → Assembled buffer calls
   pub strict : (buffer calls : List ℕ) → Strict buffer calls
-  -- every function that hands out an item, an image or all lists of an image, whatever the buffer; and an item is all of it
+  -- every function that hands out an item, an image, all lists of an image or its page, whatever the buffer; and an item is all of it
   pub items : (calls : List ℕ) → WholeItems calls
   pub whole_or_nothing : (buffer : List ℕ) (item : Told (List ℕ)) → WholeOrNothing buffer item

@@ -18,6 +18,7 @@ ghost use Rattle.assemble.specs.Items.{snippet_item, frame_item, sequence_item, 
 ghost use Rattle.content.specs.ReadImage.{read_image};
 ghost use Rattle.readings.specs.Readings.{counts_answer, point_answer, frame_answer};
 ghost use Rattle.readings.specs.Lists.{lists_item, lists_answer};
+ghost use Rattle.page.specs.Lines.{page_item};
 ghost use Rattle.field.specs.Field.{code_of};
 ghost use Rattle.field.specs.Layout.{readings, replacements};
 ghost use Rattle.registers.specs.Table.{interrupts, actuator, control, trigger, read_only, addresses};
@@ -199,6 +200,16 @@ pub extern "C" fn da728x_read_lists(image: &[u8], lists: &mut [u8]) -> u32
     ensures lists { lists.new ≡ whole_out lists.old (lists_item (read_image image.now)) }
 {
     readings::lists(image, lists)
+}
+
+// Prints an image's page into the front of `out`; answers its length, or the refusal, and then `out` stays.
+#[unsafe(no_mangle)]
+#[tactic(auto, using(crate::proofs::Words::page_fits))]
+pub extern "C" fn da728x_page(image: &[u8], out: &mut [u8]) -> u32
+    ensures answer { result ≡ packed 16 (length_of (whole out.old (page_item (read_image image.now)))) }
+    ensures out { out.new ≡ whole_out out.old (page_item (read_image image.now)) }
+{
+    length_word(page::page(image, out))
 }
 
 #[unsafe(no_mangle)]
