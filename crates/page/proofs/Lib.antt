@@ -3,3 +3,7 @@ pub mod Found
 pub mod Wide
 pub mod Pages
 pub mod Long
+pub mod Shown
+pub mod Indexed
+pub mod Apart
+pub mod Printed

@@ -50,7 +50,7 @@ second_few : (b : Bool) (x : ℕ) (t : List ℕ) → length t ≤ 1 → length (
 second_few true x t h = omega arith
 second_few false x t h = omega arith
 
-few_bytes : (f : FrameBuilder) → length (bytes_of f) ≤ 3
+pub few_bytes : (f : FrameBuilder) → length (bytes_of f) ≤ 3
 few_bytes f = omega (arith, second_few (has_second f) (second_byte f) (on_given f.frequency [] (λ n. n % 256 ∷ [])) (third_few f.frequency))
 
 pub frame_wide : (i j : ℕ) (f : FrameBuilder) → length (frame_line i j (bytes_of f)) ≡ 37
