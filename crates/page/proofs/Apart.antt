@@ -55,11 +55,14 @@ digit_same m n h g e = sym (value_digit m h) ∙ ap value_of e ∙ value_digit n
 digit_least : (m : ℕ) → m < 16 → 48 ≤ digit m
 digit_least m h = omega (arith, same (λ k. 48 - digit k) (λ k. 0) 16 refl m h)
 
+-- two digits give their number back
+abbrev number_of : List ℕ → ℕ
+number_of l = 10 * value_of (get_or l 0 0) + value_of (get_or l 1 0)
+
 number_same : (i k : ℕ) (r t : List ℕ) → i < 100 → k < 100 → two_digits i ++ r ≡ two_digits k ++ t → i ≡ k
-number_same i k r t h g e =
-    let tens = digit_same (i / 10) (k / 10) (omega arith) (omega arith) (head_eq e) in
-    let ones = digit_same (i % 10) (k % 10) (omega arith) (omega arith) (head_eq (rest_eq e)) in
-    omega (arith, tens, ones)
+number_same i k r t h g e = sym (value i h) ∙ ap number_of e ∙ value k g where
+  value : (n : ℕ) → n < 100 → number_of (two_digits n) ≡ n
+  value = same (λ n. number_of (two_digits n)) (λ n. n) 100 refl
 
 -- ---- the hexadecimal of bytes, up to the blanks
 

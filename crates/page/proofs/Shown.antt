@@ -1,11 +1,11 @@
 -- Every line is 36 characters of the request's, and a newline.
 -- Assumes nothing.
-use Rattle.std.proofs.Common.{◌≡◌, ◌+◌, ◌*◌, ◌/◌, ◌%◌, ◌-◌, ◌≤◌, ◌<◌, ◌++◌, ℕ, zero, suc, Bool, true, false, List, [], ◌∷◌, map, length, replicate, refl, ap, arith}
+use Rattle.std.proofs.Common.{◌≡◌, ◌+◌, ◌*◌, ◌/◌, ◌%◌, ◌-◌, ◌≤◌, ◌<◌, ◌++◌, ℕ, zero, suc, Bool, true, false, List, [], ◌∷◌, map, length, get_or, replicate, refl, ap, arith}
 use lib.ListN.{length-append, length-map, length-replicate}
 use Rattle.laws.specs.Bytes.{All, Bytes}
 use Rattle.laws.specs.Lists.{joined}
 use Rattle.laws.proofs.Lists.{all_append}
-use Rattle.laws.proofs.Tests.{same}
+use Rattle.laws.proofs.Tests.{all, same}
 use Rattle.frame.specs.declared.FrameBuilder.{FrameBuilder}
 use Rattle.frame.specs.Frame.{bytes_of}
 use Rattle.frame.proofs.Frames.{frame_bytes_lem}
@@ -24,14 +24,18 @@ code_of false = 0
 abbrev Shown : ℕ → Type 0
 Shown b = among (characters " 0123456789ABCDEFS") b ≡ true
 
-shown_digit : (n : ℕ) → n < 16 → Shown (digit n)
-shown_digit n h = go (among (characters " 0123456789ABCDEFS") (digit n)) (same (λ k. code_of (among (characters " 0123456789ABCDEFS") (digit k))) (λ k. 1) 16 refl n h) where
-  go : (t : Bool) → code_of t ≡ 1 → t ≡ true
+-- what a function gives below a bound, by a test of each
+shown : (f : ℕ → ℕ) (n : ℕ) → all (λ k. eqb (code_of (among (characters " 0123456789ABCDEFS") (f k))) 1) n ≡ true → (k : ℕ) → k < n → Shown (f k)
+shown f n t k h = go (among (characters " 0123456789ABCDEFS") (f k)) (same (λ j. code_of (among (characters " 0123456789ABCDEFS") (f j))) (λ j. 1) n t k h) where
+  go : (u : Bool) → code_of u ≡ 1 → u ≡ true
   go true e = refl
   go false e = absurd (omega (arith, e))
 
+shown_digit : (n : ℕ) → n < 16 → Shown (digit n)
+shown_digit = shown digit 16 refl
+
 shown_number : (n : ℕ) → n < 100 → All Shown (two_digits n)
-shown_number n h = (shown_digit (n / 10) (omega arith), (shown_digit (n % 10) (omega arith), tt))
+shown_number n h = (shown (λ k. get_or (two_digits k) 0 0) 100 refl n h, (shown (λ k. get_or (two_digits k) 1 0) 100 refl n h, tt))
 
 shown_capitals : (bytes : List ℕ) → Bytes bytes → All Shown (in_capitals bytes)
 shown_capitals [] h = tt
