@@ -1,7 +1,7 @@
 -- Images that print alike are equal: lines of one width are cut alike, their first letter parts snippets from frames, and a line gives back its
 -- numbers and bytes.
 -- Assumes nothing.
-use Rattle.std.proofs.Common.{◌≡◌, ◌+◌, ◌/◌, ◌%◌, ◌-◌, ◌≤◌, ◌<◌, ◌++◌, ◌∙◌, ℕ, suc, zero, cond, ltb, List, [], ◌∷◌, map, length, replicate, get_or, refl, sym, ap, arith}
+use Rattle.std.proofs.Common.{◌*◌, ◌≡◌, ◌+◌, ◌/◌, ◌%◌, ◌-◌, ◌≤◌, ◌<◌, ◌++◌, ◌∙◌, ℕ, suc, zero, cond, ltb, List, [], ◌∷◌, map, length, replicate, get_or, refl, sym, ap, arith}
 use mathlib.Core.List.{append_assoc}
 use lib.ListN.{length-append}
 use Rattle.laws.specs.Bytes.{All, Bytes}

@@ -1,6 +1,6 @@
 -- Every line is 36 characters of the request's, and a newline.
 -- Assumes nothing.
-use Rattle.std.proofs.Common.{◌≡◌, ◌+◌, ◌*◌, ◌/◌, ◌%◌, ◌-◌, ◌≤◌, ◌<◌, ◌++◌, ℕ, zero, suc, Bool, true, false, List, [], ◌∷◌, map, length, get_or, replicate, refl, ap, arith}
+use Rattle.std.proofs.Common.{eqb, ◌≡◌, ◌+◌, ◌*◌, ◌/◌, ◌%◌, ◌-◌, ◌≤◌, ◌<◌, ◌++◌, ℕ, zero, suc, Bool, true, false, List, [], ◌∷◌, map, length, get_or, replicate, refl, ap, arith}
 use lib.ListN.{length-append, length-map, length-replicate}
 use Rattle.laws.specs.Bytes.{All, Bytes}
 use Rattle.laws.specs.Lists.{joined}
