@@ -33,6 +33,7 @@ pub record Telling : Type 0 where
   pub image_frames : (i j : ℕ) → Tells 56 (λ (x : (l : List ℕ) × Bytes l). frame_answer (read_image x.0) i j)
   -- da728x_page with any buffer on slices of bytes; images that print alike are equal
   pub pages : Tells 16 (λ (x : List ℕ × ((l : List ℕ) × Bytes l)). length_of (whole x.0 (page_item (read_image x.1.0))))
+  pub printed : Page
   -- images that are answered alike are read alike
   pub images : ReadingsTold
   -- da728x_assemble: a number; da728x_assemble_strict: a number and a place
