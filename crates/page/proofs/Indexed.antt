@@ -9,6 +9,7 @@ use Rattle.frame.specs.declared.FrameBuilder.{FrameBuilder}
 use Rattle.frame.specs.Frame.{bytes_of}
 use Rattle.content.specs.Content.{Content, point_bytes}
 use Rattle.content.proofs.Codec.{none_some, some_inj}
+use Rattle.page.proofs.Found.{found_map}
 use Rattle.page.specs.Lines.{snippet_line, frame_line, frame_lines, numbered, page_lines}
 
 -- what is found in a list is found in front of another, and what is found in the other behind it
@@ -21,11 +22,6 @@ found_right : {A : Type 0} (xs ys : List A) (i n : ℕ) → n ≡ length xs + i 
 found_right [] ys i n e = ap (get_elem? ys) (e ∙ omega arith)
 found_right (x ∷ xs) ys i zero e = absurd (omega arith)
 found_right (x ∷ xs) ys i (suc n) e = found_right xs ys i n (omega arith)
-
-found_map : {A B : Type 0} (g : A → B) (xs : List A) (i : ℕ) (x : A) → get_elem? xs i ≡ some x → get_elem? (map g xs) i ≡ some (g x)
-found_map g [] i x e = none_some (g x) (ap (λ o. o) (none_some x e))
-found_map g (y ∷ xs) zero x e = ap (λ z. some (g z)) (some_inj e)
-found_map g (y ∷ xs) (suc i) x e = found_map g xs i x e
 
 found_numbered : {A B : Type 0} (f : ℕ → A → B) (n m : ℕ) (xs : List A) (i : ℕ) (x : A) → m ≡ n + i → get_elem? xs i ≡ some x → get_elem? (numbered f n xs) i ≡ some (f m x)
 found_numbered f n m [] i x h e = none_some x e

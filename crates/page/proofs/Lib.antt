@@ -1,6 +1,7 @@
 pub mod Placed
 pub mod Found
 pub mod Wide
+pub mod Standing
 pub mod Pages
 pub mod Long
 pub mod Shown

@@ -1,3 +1,4 @@
 -- The definitions that the contracts of `page` cite, and the claim on them.
+pub mod InPlace
 pub mod Lines
 pub mod Page

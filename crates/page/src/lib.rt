@@ -3,7 +3,7 @@
 // equal, and the lines are the request's.
 #![tactic(auto)]
 
-ghost use Rattle.std.specs.Prelude.{◌≡◌, ◌+◌, ◌*◌, ◌≤◌, ◌++◌, length};
+ghost use Rattle.std.specs.Prelude.{◌≡◌, ◌+◌, ◌*◌, ◌≤◌, ◌++◌, map, length};
 ghost use Rattle.errors.specs.Number.{told};
 ghost use Rattle.laws.specs.Bytes.{All};
 ghost use Rattle.laws.specs.Copied.{placed};
@@ -11,12 +11,12 @@ ghost use Rattle.laws.specs.Lists.{joined};
 ghost use Rattle.laws.specs.Whole.{whole, whole_out, length_of};
 ghost use Rattle.frame.specs.Frame.{bytes_of};
 ghost use Rattle.content.specs.ReadImage.{read_image};
-ghost use Rattle.reader.specs.Reading.{runs_in};
+ghost use Rattle.page.specs.InPlace.{items_at, frames_in};
 ghost use Rattle.page.specs.Lines.{digit, two_digits, two_capitals, in_capitals, line, snippet_line, frame_line, frame_lines, numbered, page_item};
 
 use errors::Error;
 use frame::FrameBuilder;
-use reader::{Lists, Points};
+use reader::ReadFrames;
 
 // 36 characters and a newline.
 const LINE_SIZE: usize = 37;
@@ -26,53 +26,79 @@ pub fn page(image: &[u8], out: &mut [u8]) -> Result<usize, Error>
     ensures answer { told result ≡ length_of (whole out.old (page_item (read_image image.now))) }
     ensures buffer { out.new ≡ whole_out out.old (page_item (read_image image.now)) }
 {
-    let lists = reader::read(image)?;
-    let lines = usize::from(lists.snippets.count) + usize::from(lists.sequences.len);
-    let size = LINE_SIZE * lines;
+    let (s, q) = readings::header(image)?;
+    let size = LINE_SIZE * lines(image, s, q);
     if out.len() < size {
         return Err(Error::BufferTooShort);
     }
-    print_snippets(out, &lists.snippets);
-    print_sequences(out, &lists);
+    print_snippets(out, image, s);
+    print_sequences(out, image, s, q);
     Ok(size)
 }
 
-// ---- the lines of an image
+// ---- the lines of an image of s snippets and q sequences
+
+// How many there are.
+fn lines(image: &[u8], s: u8, q: u8) -> usize
+    ensures value { result ≡ s + length (joined (map frames_in (items_at image.now s q))) }
+    ensures upper_bound { result ≤ 8415 }
+{
+    let mut lines = usize::from(s);
+    for i in 0..usize::from(q) {
+        lines += frames(readings::item(image, usize::from(s) + i));
+    }
+    lines
+}
+
+// How many frames the bytes are, 32 at most.
+fn frames(bytes: &[u8]) -> usize
+    ensures { result ≡ length (frames_in bytes.now) }
+{
+    let mut frames = 0;
+    for frame in ReadFrames::new(bytes) {
+        if frame.is_ok() {
+            frames += 1;
+        }
+    }
+    frames
+}
 
 // The snippets' lines, at the front.
-fn print_snippets(out: &mut [u8], snippets: &Points)
-    requires { All (λ l. length l ≤ 16) (runs_in snippets.now) }
-    ensures { out.new ≡ placed out.old 0 (joined (numbered snippet_line 1 (runs_in snippets.now))) }
+fn print_snippets(out: &mut [u8], image: &[u8], s: u8)
+    requires { All (λ l. length l ≤ 16) (items_at image.now 0 s) }
+    ensures { out.new ≡ placed out.old 0 (joined (numbered snippet_line 1 (items_at image.now 0 s))) }
 {
-    for i in 0..usize::from(snippets.count) {
-        if let Some(points) = snippets.list(i) {
-            laws::copy_at(out, LINE_SIZE * i, &snippet_line(i + 1, points));
-        }
+    for i in 0..usize::from(s) {
+        let line = snippet_line(i + 1, readings::item(image, i));
+        laws::copy_at(out, LINE_SIZE * i, &line);
     }
 }
 
-// The frames' lines, behind as many as there are snippets.
-fn print_sequences(out: &mut [u8], lists: &Lists)
-    requires { 37 * (lists.now.snippets.count + length (joined (runs_in lists.now.sequences))) ≤ length out.old }
-    ensures { out.new ≡ placed out.old (37 * lists.now.snippets.count) (joined (joined (numbered frame_lines 0 (runs_in lists.now.sequences)))) }
+// The frames' lines, behind those of the snippets.
+fn print_sequences(out: &mut [u8], image: &[u8], s: u8, q: u8)
+    requires { 37 * (s + length (joined (map frames_in (items_at image.now s q)))) ≤ length out.old }
+    ensures { out.new ≡ placed out.old (37 * s) (joined (joined (numbered frame_lines 0 (map frames_in (items_at image.now s q))))) }
 {
-    let mut line = usize::from(lists.snippets.count);
-    for i in 0..usize::from(lists.sequences.count) {
-        if let Some(frames) = lists.sequences.list(i) {
-            print_frames(out, line, i, frames);
-            line += frames.len();
-        }
+    let mut line = usize::from(s);
+    for i in 0..usize::from(q) {
+        line += print_frames(out, line, i, readings::item(image, usize::from(s) + i));
     }
 }
 
-// A sequence's lines, behind so many.
-fn print_frames(out: &mut [u8], line: usize, i: usize, frames: &[FrameBuilder])
-    requires { 37 * (line + length frames.now) ≤ length out.old }
-    ensures { out.new ≡ placed out.old (37 * line) (joined (frame_lines i frames.now)) }
+// A sequence's lines, behind so many; answers how many those are.
+fn print_frames(out: &mut [u8], line: usize, i: usize, bytes: &[u8]) -> usize
+    requires { 37 * (line + length (frames_in bytes.now)) ≤ length out.old }
+    ensures value { result ≡ length (frames_in bytes.now) }
+    ensures out_after { out.new ≡ placed out.old (37 * line) (joined (frame_lines i (frames_in bytes.now))) }
 {
-    for (j, frame) in frames.iter().enumerate() {
-        laws::copy_at(out, LINE_SIZE * (line + j), &frame_line(i, j + 1, *frame));
+    let mut j = 0;
+    for frame in ReadFrames::new(bytes) {
+        if let Ok(frame) = frame {
+            laws::copy_at(out, LINE_SIZE * (line + j), &frame_line(i, j + 1, frame));
+            j += 1;
+        }
     }
+    j
 }
 
 // ---- a line

@@ -3,13 +3,15 @@
 use mathlib.Core.Path.{◌≡◌, refl, sym, ap, ◌∙◌}
 use mathlib.Core.List.{List, [], ◌∷◌}
 use mathlib.Core.Option.{none, some}
-use Prim.Native.Nat.{ℕ, zero, suc, ◌+◌, ◌≤◌, ◌<◌}
+use Prim.Native.Nat.{ℕ, zero, suc, ◌+◌, ◌-◌, ◌≤◌, ◌<◌, min}
+use native.Mathlib.Decide.{dec_le}
 use native.Mathlib.Omega.{arith}
-use lib.ListN.{length, take, drop, get_or, get_elem?}
+use lib.ListN.{length, take, drop, get_or, get_elem?, length-drop}
 use Rattle.std.proofs.Common.{Bor, Some, None}
 use Rattle.std.specs.declared.option.Option as rust
 use Rattle.std.specs.Option.{option_copied}
 use Rattle.std.specs.Slice.{IsItemAt}
+use Rattle.laws.proofs.Lists.{take_shown}
 use Rattle.reader.specs.Items.{at_told}
 
 module _ {A : Type 0} where
@@ -42,3 +44,16 @@ module _ {A : Type 0} where
   pub got : (l : List A) (i : ℕ) (r : rust.Option (Bor A)) → IsItemAt l i r → at_told (option_copied r) ≡ get_elem? l i
   got l i (Some x) h = ap some h.1 ∙ sym (elem_some l i x.now h.3.0)
   got l i None h = sym (elem_none l i h.3)
+
+-- a part shows no more than there is
+pub part_shown : {A : Type 0} (l : List A) (from to a b : ℕ) → b ≡ min to (length l) → a ≡ min from b → take (b - a) (drop a l) ≡ take (to - from) (drop from l)
+part_shown l from to a b eb ea = go (dec_le from b) where
+  go : Dec (from ≤ b) → take (b - a) (drop a l) ≡ take (to - from) (drop from l)
+  go (yes h) =
+      let k : a ≡ from = omega arith in
+      let m : b - from ≡ min (to - from) (length (drop from l)) = simp length-drop (omega arith) in
+      ap (λ (i : ℕ). take (b - i) (drop i l)) k ∙ take_shown (drop from l) (to - from) (b - from) m
+  go (no h) =
+      let k : b - a ≡ 0 = omega arith in
+      let m : 0 ≡ min (to - from) (length (drop from l)) = simp length-drop (omega arith) in
+      ap (λ (i : ℕ). take i (drop a l)) k ∙ take_shown (drop from l) (to - from) 0 m

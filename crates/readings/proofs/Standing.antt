@@ -18,7 +18,7 @@ use Rattle.reader.proofs.Cuts.{drop_on, was_cut}
 use Rattle.content.proofs.Items.{counts_sound}
 use Rattle.reader.specs.Places.{start_in}
 use Rattle.reader.proofs.Placed.{elem_take, elem_drop}
-use Rattle.readings.specs.InPlace.{before_item, item_at, Stands}
+use Rattle.readings.specs.InPlace.{before_item, item_at}
 
 -- ---- each of a list, read
 
@@ -52,8 +52,6 @@ record OneCut (p e : ℕ) (es image : List ℕ) (c : Cut) : Type 0 where
   more : Cut
   next : cut e es (drop (e + 1) image) ≡ some more
   items : item image p e ∷ more.items ≡ c.items
-  rises : p < e
-  within : e < length image
 
 one_cut : (p e : ℕ) (es image : List ℕ) (c : Cut) → cut p (e ∷ es) (drop (p + 1) image) ≡ some c → OneCut p e es image c
 one_cut p e es image c h =
@@ -67,32 +65,20 @@ one_cut p e es image c h =
       more = d;
       next = ap (cut e es) (sym (drop_on image p e u)) ∙ h₂;
       items = ap (λ (x : Cut). x.items) (some_inj h₃);
-      rises = u;
-      within = omega (arith, length-drop (p + 1) image);
     }
-
-record Placed (image : List ℕ) (p e : ℕ) (o : Option (List ℕ)) : Type 0 where
-  is : o ≡ some (item image p e)
-  rises : p < e
-  within : e < length image
 
 start_next : (p e : ℕ) (es : List ℕ) (k : ℕ) → start_in e es k ≡ start_in p (e ∷ es) (suc k)
 start_next p e es zero = refl
 start_next p e es (suc k) = refl
 
-cut_stands : (es : List ℕ) (p : ℕ) (image : List ℕ) (c : Cut) (k : ℕ) → cut p es (drop (p + 1) image) ≡ some c → k < length es
-    → Placed image (start_in p es k) (get_or es k 0) (get_elem? c.items k)
-cut_stands [] p image c k h g = absurd (omega arith)
-cut_stands (e ∷ es) p image c zero h g =
-    let o = one_cut p e es image c h in record { is = ap (λ (l : List (List ℕ)). get_elem? l 0) (sym o.items); rises = o.rises; within = o.within }
-cut_stands (e ∷ es) p image c (suc k) h g =
+cut_at : (es : List ℕ) (p : ℕ) (image : List ℕ) (c : Cut) (k : ℕ) → cut p es (drop (p + 1) image) ≡ some c → k < length es
+    → get_elem? c.items k ≡ some (item image (start_in p es k) (get_or es k 0))
+cut_at [] p image c k h g = absurd (omega arith)
+cut_at (e ∷ es) p image c zero h g = ap (λ (l : List (List ℕ)). get_elem? l 0) (sym (one_cut p e es image c h).items)
+cut_at (e ∷ es) p image c (suc k) h g =
     let o = one_cut p e es image c h in
-    let s = cut_stands es e image o.more k o.next (omega arith) in
-    record {
-      is = ap (λ (l : List (List ℕ)). get_elem? l (suc k)) (sym o.items) ∙ s.is ∙ ap (λ (b : ℕ). some (item image b (get_or es k 0))) (start_next p e es k);
-      rises = subst (λ (b : ℕ). b < get_or es k 0) (start_next p e es k) s.rises;
-      within = s.within;
-    }
+    ap (λ (l : List (List ℕ)). get_elem? l (suc k)) (sym o.items) ∙ cut_at es e image o.more k o.next (omega arith)
+    ∙ ap (λ (b : ℕ). some (item image b (get_or es k 0))) (start_next p e es k)
 
 -- ---- the items of an image
 
@@ -110,17 +96,13 @@ module _ (s q : ℕ) (l : List ℕ) (h : s + q ≤ length l) where
   before_at zero g = refl
   before_at (suc k) g = end_at k (omega arith)
 
-  item_stands : (c : Cut) → cut (1 + s + q) ends (drop (s + q) l) ≡ some c → (k : ℕ) → k < s + q
-      → (get_elem? c.items k ≡ some (item_at image k)) × Stands image k
+  item_cut : (c : Cut) → cut (1 + s + q) ends (drop (s + q) l) ≡ some c → (k : ℕ) → k < s + q → get_elem? c.items k ≡ some (item_at image k)
   unfolding item_at
-  item_stands c e k g =
+  item_cut c e k g =
       let n : 1 + s + q + 1 ≡ suc (suc (s + q)) = omega arith in
       let d : drop (1 + s + q + 1) image ≡ drop (s + q) l = ap (λ (m : ℕ). drop m image) n in
-      let t = cut_stands ends (1 + s + q) image c k (ap (cut (1 + s + q) ends) d ∙ e) (omega (arith, length-take (s + q) l)) in
-      let r : before_item image k < get_or image (2 + k) 0 = omega (arith, t.rises, before_at k g, end_at k g) in (
-        t.is ∙ (λ i. some (item image (before_at k g i) (end_at k g i))),
-        record { pointer = omega arith; rises = r; within = subst (λ (m : ℕ). m < length image) (end_at k g) t.within },
-      )
+      cut_at ends (1 + s + q) image c k (ap (cut (1 + s + q) ends) d ∙ e) (omega (arith, length-take (s + q) l))
+      ∙ (λ i. some (item image (before_at k g i) (end_at k g i)))
 
 -- what is known of an image's content
 pub record Known (image : List ℕ) (c : Content) : Type 0 where
@@ -128,7 +110,6 @@ pub record Known (image : List ℕ) (c : Content) : Type 0 where
   pub sequences : length c.sequences ≡ get_or image 1 0
   pub snippet : (i : ℕ) → i < get_or image 0 0 → get_elem? c.snippets i ≡ read_snippet (item_at image i)
   pub sequence : (i : ℕ) → i < get_or image 1 0 → get_elem? c.sequences i ≡ read_sequence (item_at image (get_or image 0 0 + i))
-  pub stands : (k : ℕ) → k < get_or image 0 0 + get_or image 1 0 → Stands image k
 
 module _ (s q : ℕ) (l : List ℕ) (h : s + q ≤ length l) (c : Cut) (e : cut (1 + s + q) (take (s + q) l) (drop (s + q) l) ≡ some c) where
   abbrev image' : List ℕ
@@ -151,11 +132,10 @@ module _ (s q : ℕ) (l : List ℕ) (h : s + q ≤ length l) (c : Cut) (e : cut 
         sequences = every_length read_sequence (drop s c.items) x.sequences b ∙ nq;
         snippet = λ i g.
             every_at read_snippet (take s c.items) x.snippets i a
-            ∙ ap (λ (o : Option (List ℕ)). and_then o read_snippet) (elem_take c.items s i g ∙ (item_stands s q l h c e i (omega arith)).0);
+            ∙ ap (λ (o : Option (List ℕ)). and_then o read_snippet) (elem_take c.items s i g ∙ item_cut s q l h c e i (omega arith));
         sequence = λ i g.
             every_at read_sequence (drop s c.items) x.sequences i b
-            ∙ ap (λ (o : Option (List ℕ)). and_then o read_sequence) (elem_drop c.items s i ∙ (item_stands s q l h c e (s + i) (omega arith)).0);
-        stands = λ k g. (item_stands s q l h c e k g).1;
+            ∙ ap (λ (o : Option (List ℕ)). and_then o read_sequence) (elem_drop c.items s i ∙ item_cut s q l h c e (s + i) (omega arith));
       }
 
 items_known : (s q : ℕ) (l : List ℕ) (r : Items) (x : Content) → read_items (s ∷ q ∷ l) ≡ some r → content_in r ≡ some x → Known (s ∷ q ∷ l) x

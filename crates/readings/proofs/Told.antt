@@ -20,7 +20,7 @@ use Rattle.content.specs.ReadImage.{and_then, read_snippet, read_frames, read_se
 use Rattle.content.proofs.Codec.{none_some, some_inj, cond_some}
 use Rattle.reader.specs.Items.{element, at_told}
 use Rattle.reader.proofs.Placed.{elem_some, elem_none}
-use Rattle.readings.specs.InPlace.{header_of, item_at, Stands, NthFrame}
+use Rattle.readings.specs.InPlace.{header_of, item_at, NthFrame}
 use Rattle.readings.specs.Readings.{point_answer, frame_answer}
 use Rattle.readings.proofs.Codes.{absent_point, point_code, absent_frame, frame_code}
 use Rattle.readings.proofs.Standing.{Known, known}
@@ -61,9 +61,6 @@ module _ (image : List ℕ) (s q : ℕ) (t : Ok (s, q) ≡ header_of (read_image
         f c (known image c e) (ap (λ (x : ℕ × ℕ). x.0) n) (ap (λ (x : ℕ × ℕ). x.1) n)
 
   -- an item of those that were counted
-  pub item_stands : (k : ℕ) → k < s + q → Stands image k
-  item_stands k h = of_content (λ (o : Option Content). Stands image k) (λ c w e f. w.stands k (omega (arith, w.snippets, w.sequences)))
-
   module _ (i j : ℕ) where
     pub point_past : s ≤ i → gives absent_point ≡ point_answer (read_image image) i j
     point_past h =

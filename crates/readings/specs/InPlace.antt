@@ -1,6 +1,6 @@
 -- An image read where it stands; only private contracts cite this. proofs/Fitting.antt: what is found to be an image is what `read_image`
 -- reads; proofs/Standing.antt: where its items stand.
-use Rattle.std.specs.Prelude.{ℕ, Result, Ok, Err, zero, suc, ◌+◌, ◌<◌, ◌≡◌, Bool, true, false, cond, ◌&&◌, List, leb, length, get_or}
+use Rattle.std.specs.Prelude.{ℕ, Result, Ok, Err, zero, suc, ◌+◌, ◌≡◌, Bool, true, false, cond, ◌&&◌, List, leb, length, get_or}
 use Rattle.std.specs.declared.option.Option as rust
 use Rattle.std.proofs.Math.Option.{Option, none, some}
 use Rattle.std.proofs.Math.ListN.{get_elem?}
@@ -40,12 +40,6 @@ before_item image (suc k) = get_or image (2 + k) 0
 
 unfoldable pub item_at : List ℕ → ℕ → List ℕ
 item_at image k = item image (before_item image k) (get_or image (2 + k) 0)
-
--- the k-th item is there: its pointer is one of the image's bytes, and it ends behind the item before and in the image
-pub record Stands (image : List ℕ) (k : ℕ) : Type 0 where
-  pub pointer : 2 + k < length image
-  pub rises : before_item image k < get_or image (2 + k) 0
-  pub within : get_or image (2 + k) 0 < length image
 
 -- the j-th frame, where the bytes are frames
 abbrev pub NthFrame : List ℕ → ℕ → rust.Option FrameBuilder → Type 0

@@ -13,7 +13,7 @@ ghost use Rattle.errors.specs.Packed.{packed};
 ghost use Rattle.content.specs.ReadImage.{read_image};
 ghost use Rattle.reader.specs.Reading.{padded};
 ghost use Rattle.reader.specs.Walk.{snippet_fits};
-ghost use Rattle.readings.specs.InPlace.{sequence_fits, kept, header_of, Stands, item_at, NthFrame};
+ghost use Rattle.readings.specs.InPlace.{sequence_fits, kept, header_of, item_at, NthFrame};
 ghost use Rattle.readings.specs.Readings.{counts_answer, point_answer, frame_answer};
 ghost use Rattle.readings.specs.Lists.{words_bytes, lists_item, lists_answer};
 ghost use Rattle.readings.specs.Laying.{laid_bytes};
@@ -160,7 +160,7 @@ fn low_bytes(w: u64) -> [u8; 6]
 // ---- whether bytes are an image
 
 // The numbers of snippets and of sequences, or NotAnImage. Nothing else is kept.
-fn header(image: &[u8]) -> Result<(u8, u8), Error>
+pub fn header(image: &[u8]) -> Result<(u8, u8), Error>
     ensures { result ≡ header_of (read_image image.now) }
 {
     reader::scan(image, &mut Snippets, &mut Sequences)
@@ -202,18 +202,18 @@ impl Gather for Sequences {
 
 // ---- an image's items, snippets and sequences counted together
 
-// The bytes of the k-th item.
-fn item(image: &[u8], k: usize) -> &[u8]
-    requires { Stands image.now k }
+// The bytes of the k-th item, where its bytes and pointers stand: of an image with so many. Of any other bytes, what those tell.
+pub fn item(image: &[u8], k: usize) -> &[u8]
     ensures { result.now ≡ item_at image.now k }
 {
+    let pointers = &image[k.min(image.len())..];
     let last = if k == 0 {
-        1 + usize::from(image[0]) + usize::from(image[1])
+        1 + usize::from(laws::byte_at(image, 0)) + usize::from(laws::byte_at(image, 1))
     } else {
-        usize::from(image[1 + k])
+        usize::from(laws::byte_at(pointers, 1))
     };
-    let end = usize::from(image[2 + k]);
-    &image[last + 1..end + 1]
+    let end = (usize::from(laws::byte_at(pointers, 2)) + 1).min(image.len());
+    &image[(last + 1).min(end)..end]
 }
 
 // The j-th of the frames that the bytes are.

@@ -1,12 +1,15 @@
 -- The lines that are left, behind those before, give all of them.
-use Rattle.std.proofs.Common.{◌≡◌, ◌+◌, ◌*◌, drop, map}
+use Rattle.std.proofs.Common.{◌≡◌, ◌+◌, ◌*◌, length, map}
 use Rattle.laws.specs.Copied.{placed}
 use Rattle.laws.specs.Lists.{joined}
 use Rattle.frame.specs.Frame.{bytes_of}
+use Rattle.reader.specs.Walk.{frames_left}
+use Rattle.page.specs.InPlace.{those, frames_in}
 use Rattle.page.specs.Lines.{frame_line, frame_lines, numbered}
 use Rattle.page.proofs.print_frames.Given as goal
 
-abbrev pub invariant-loop-j : goal.invariant-loop-j
-invariant-loop-j l =
-    placed l.out (37 * (l.line + l.j)) (joined (numbered (frame_line l.i) (l.j + 1) (drop l.j (map bytes_of l.frames))))
-    ≡ placed l.fn.out (37 * l.line) (joined (frame_lines l.i l.frames))
+abbrev pub invariant-loop-frame : goal.invariant-loop-frame
+invariant-loop-frame l =
+    (placed l.out (37 * (l.line + l.j)) (joined (numbered (frame_line l.i) (l.j + 1) (map bytes_of (those (frames_left l.frame-iterator)))))
+    ≡ placed l.fn.out (37 * l.line) (joined (frame_lines l.i (frames_in l.bytes))))
+    × (l.j + length (those (frames_left l.frame-iterator)) ≡ length (frames_in l.bytes))

@@ -1,17 +1,17 @@
--- A sequence's lines more, where there is one.
-use Rattle.std.proofs.Common.{◌≡◌, ◌+◌, ◌*◌, ◌∙◌, ap, sym, arith, refl, length, List, ℕ, [], ◌∷◌, drop}
-use lib.ListN.{length-append}
+-- A sequence's lines more.
+use Rattle.std.proofs.Common.{◌≡◌, ◌+◌, ◌*◌, ◌<◌, ◌∙◌, ap, sym, arith, length, map, drop, List, ℕ, [], ◌∷◌}
 use Rattle.laws.specs.Copied.{placed}
 use Rattle.laws.specs.Lists.{joined}
 use Rattle.laws.proofs.Lists.{joined_append}
 use Rattle.frame.specs.declared.FrameBuilder.{FrameBuilder}
-use Rattle.reader.specs.Reading.{runs_in}
+use Rattle.readings.specs.InPlace.{item_at}
+use Rattle.page.specs.InPlace.{items_at, frames_in}
 use Rattle.page.specs.Lines.{frame_lines, numbered}
 use Rattle.page.proofs.Placed.{lines_placed, placed_none}
-use Rattle.page.proofs.Found.{drop_found, drop_missing, drop_after, runs_end, numbered_next}
+use Rattle.page.proofs.Found.{numbered_next}
+use Rattle.page.proofs.Standing.{items_next, items_end, frames_next}
 use Rattle.page.proofs.Wide.{frames_wide}
 use Rattle.page.proofs.print_sequences.Goals as goal
-use Rattle.page.proofs.print_sequences.Goals.{in-Some, in_default}
 
 -- the lines of sequences from number i on, behind so many others
 left : ℕ → ℕ → List (List FrameBuilder) → List ℕ → List ℕ
@@ -21,56 +21,62 @@ none_left : (line i : ℕ) (sequences : List (List FrameBuilder)) (out : List �
 unfolding left
 none_left line i sequences out e = ap (λ l. placed out (37 * line) (joined (joined (numbered frame_lines i l)))) e ∙ placed_none out (37 * line)
 
-one_left : (line i : ℕ) (sequences : List (List FrameBuilder)) (fs : List FrameBuilder) (rest : List (List FrameBuilder)) (out : List ℕ) → sequences ≡ fs ∷ rest
-    → left (line + length fs) (i + 1) rest (placed out (37 * line) (joined (frame_lines i fs))) ≡ left line i sequences out
+one_left : (line i n : ℕ) (sequences : List (List FrameBuilder)) (fs : List FrameBuilder) (rest : List (List FrameBuilder)) (out : List ℕ) → sequences ≡ fs ∷ rest → n ≡ length fs
+    → left (line + n) (i + 1) rest (placed out (37 * line) (joined (frame_lines i fs))) ≡ left line i sequences out
 unfolding left
-one_left line i sequences fs rest out e =
+one_left line i n sequences fs rest out e h =
     let r = joined (numbered frame_lines (i + 1) rest) in
-    lines_placed out line (line + length fs) (length fs) (joined (frame_lines i fs)) (joined r) (frames_wide i 1 fs) refl
+    lines_placed out line (line + n) (length fs) (joined (frame_lines i fs)) (joined r) (frames_wide i 1 fs) (omega (arith, h))
     ∙ ap (placed out (37 * line)) (sym (joined_append (frame_lines i fs) r))
     ∙ ap (λ l. placed out (37 * line) (joined (joined l))) (sym (numbered_next frame_lines i sequences fs rest e))
 
--- the frames that are left
-fewer : (sequences : List (List FrameBuilder)) (fs : List FrameBuilder) (rest : List (List FrameBuilder)) → sequences ≡ fs ∷ rest
-    → length (joined sequences) ≡ length fs + length (joined rest)
-fewer sequences fs rest e = ap (λ l. length (joined l)) e ∙ length-append fs (joined rest)
+pub print_frames-line-requires : goal.print_frames-line-requires
+print_frames-line-requires c =
+    let image = c.args.image.now in
+    let i = c.loop-i.i in
+    let here = c.item.ensures ∙ ap (λ k. item_at image (k + i)) c.from.ensures in
+    omega (
+      arith,
+      c.loop-i.invariant.1,
+      c.loop-i.auto.out,
+      ap (λ l. length (frames_in l)) here,
+      frames_next image c.args.s c.args.q i (omega (arith, c.loop-i-test.true, c.from-i-end.ensures)),
+    )
 
-pub print_frames-requires : goal.print_frames-requires
-print_frames-requires c =
-    let xs = runs_in c.args.lists.now.sequences in
-    let found = drop_found xs c.loop-i.i c.in-Some.frames.now (sym c.in-Some.ensures) in
-    omega (arith, c.loop-i.invariant.1, c.loop-i.auto.out, fewer (drop c.loop-i.i xs) c.in-Some.frames.now (drop (c.loop-i.i + 1) xs) found)
+pub overflow_add-line : goal.overflow_add-line
+overflow_add-line c =
+    let image = c.args.image.now in
+    let i = c.loop-i.i in
+    let here = c.item.ensures ∙ ap (λ k. item_at image (k + i)) c.from.ensures in
+    omega (
+      arith,
+      c.loop-i.invariant.1,
+      c.loop-i.auto.out,
+      c.print_frames-line.ensures.value,
+      ap (λ l. length (frames_in l)) here,
+      frames_next image c.args.s c.args.q i (omega (arith, c.loop-i-test.true, c.from-i-end.ensures)),
+    )
 
 pub loop-i-preserved : goal.loop-i-preserved
 unfolding left
 loop-i-preserved c =
-    let xs = runs_in c.args.lists.now.sequences in
+    let image = c.args.image.now in
     let i = c.loop-i.i in
-    let rest = drop (i + 1) xs in
-    elim c.match-list.branch [
-      | in-Some w ↦
-          let fs = w.in-Some.frames.now in
-          let found = drop_found xs i fs (sym w.in-Some.ensures) in (
-            (λ k. left (w.line-is k) (i + 1) rest ((w.out-is ∙ w.print_frames.ensures) k))
-                ∙ one_left c.loop-i.line i (drop i xs) fs rest c.loop-i.out found
-                ∙ c.loop-i.invariant.0,
-            omega (arith, w.line-is, c.loop-i.invariant.1, fewer (drop i xs) fs rest found),
-          )
-      | in_default w ↦
-          let none = drop_missing xs i (sym w.in_default.ensures) in
-          let after = drop_after xs i none in (
-            (λ k. left (w.line-is k) (i + 1) rest (w.out-is k))
-                ∙ none_left c.loop-i.line (i + 1) rest c.loop-i.out after
-                ∙ sym (none_left c.loop-i.line i (drop i xs) c.loop-i.out none)
-                ∙ c.loop-i.invariant.0,
-            omega (arith, w.line-is, c.loop-i.invariant.1, ap (λ l. length (joined l)) none, ap (λ l. length (joined l)) after),
-          )
-    ]
+    let inside : i < c.args.q = omega (arith, c.loop-i-test.true, c.from-i-end.ensures) in
+    let here = c.item.ensures ∙ ap (λ k. item_at image (k + i)) c.from.ensures in
+    let fs = frames_in (item_at image (c.args.s + i)) in
+    let rest = map frames_in (drop (i + 1) (items_at image c.args.s c.args.q)) in
+    let many = c.print_frames-line.ensures.value ∙ ap (λ l. length (frames_in l)) here in
+    let printed = c.print_frames-line.ensures.out_after ∙ ap (λ l. placed c.loop-i.out (37 * c.loop-i.line) (joined (frame_lines i (frames_in l)))) here in (
+      ap (left (c.loop-i.line + c.print_frames-line.result) (i + 1) rest) printed
+          ∙ one_left c.loop-i.line i c.print_frames-line.result _ fs rest c.loop-i.out (ap (map frames_in) (items_next image c.args.s c.args.q i inside)) many
+          ∙ c.loop-i.invariant.0,
+      omega (arith, c.loop-i.invariant.1, many, frames_next image c.args.s c.args.q i inside),
+    )
 
 pub returns : goal.returns
 unfolding left
 returns c =
-    let xs = runs_in c.args.lists.now.sequences in
-    sym (none_left c.loop-i.line c.loop-i.i (drop c.loop-i.i xs) c.loop-i.out
-    (runs_end c.args.lists.now.sequences c.loop-i.i (omega (arith, c.loop-i-test.false, c.from-i-end.ensures))))
+    let i = c.loop-i.i in
+    sym (none_left c.loop-i.line i _ c.loop-i.out (ap (map frames_in) (items_end c.args.image.now c.args.s c.args.q i (omega (arith, c.loop-i-test.false, c.from-i-end.ensures)))))
     ∙ c.loop-i.invariant.0

@@ -2,11 +2,11 @@
 use Rattle.std.proofs.Common.{◌≡◌, ◌+◌, ◌*◌, drop}
 use Rattle.laws.specs.Copied.{placed}
 use Rattle.laws.specs.Lists.{joined}
-use Rattle.reader.specs.Reading.{runs_in}
+use Rattle.page.specs.InPlace.{items_at}
 use Rattle.page.specs.Lines.{snippet_line, numbered}
 use Rattle.page.proofs.print_snippets.Given as goal
 
 abbrev pub invariant-loop-i : goal.invariant-loop-i
 invariant-loop-i l =
-    placed l.out (37 * l.i) (joined (numbered snippet_line (l.i + 1) (drop l.i (runs_in l.snippets))))
-    ≡ placed l.fn.out 0 (joined (numbered snippet_line 1 (runs_in l.snippets)))
+    placed l.out (37 * l.i) (joined (numbered snippet_line (l.i + 1) (drop l.i (items_at l.image 0 l.s))))
+    ≡ placed l.fn.out 0 (joined (numbered snippet_line 1 (items_at l.image 0 l.s)))

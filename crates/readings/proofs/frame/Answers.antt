@@ -1,13 +1,8 @@
 -- By what is known of an image's content.
-use Rattle.std.proofs.Common.{◌≡◌, ◌+◌, ◌∙◌, ℕ, Some, None, arith, subst}
-use Rattle.readings.specs.InPlace.{item_at, Stands, NthFrame}
-use Rattle.readings.proofs.Told.{item_stands, frame_past, frame_there}
+use Rattle.std.proofs.Common.{◌≡◌, ◌+◌, ◌∙◌, Some, None, arith, subst}
+use Rattle.readings.specs.InPlace.{item_at, NthFrame}
+use Rattle.readings.proofs.Told.{frame_past, frame_there}
 use Rattle.readings.proofs.frame.Goals as goal
-
-pub item-requires : goal.item-requires
-item-requires c =
-    let k : c.in-Ok.s + c.args.i ≡ c.from-in-Ok.result + c.args.i = omega (arith, c.from-in-Ok.ensures) in
-    subst (λ (n : ℕ). Stands c.args.image.now n) k (item_stands c.args.image.now _ _ c.in-Ok.ensures (c.in-Ok.s + c.args.i) (omega arith))
 
 pub returns-in-Some : goal.returns-in-Some
 returns-in-Some c =

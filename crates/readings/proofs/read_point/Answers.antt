@@ -3,14 +3,11 @@ use Rattle.std.proofs.Common.{◌∙◌, Some, None, ap, arith, rules, sym}
 use Rattle.std.proofs.Math.ListN.{get_elem?}
 use Rattle.errors.specs.Told.{gives}
 use Rattle.reader.proofs.Placed.{got}
-use Rattle.readings.proofs.Told.{item_stands, point_past, point_there, point_absent}
+use Rattle.readings.proofs.Told.{point_past, point_there, point_absent}
 use Rattle.readings.proofs.read_point.Goals as goal
 
 pub returns-then-from-i : goal.returns-then-from-i
 returns-then-from-i c = point_past c.args.image.now _ _ c.in_ok-s.ensures c.args.i c.args.j (omega arith)
-
-pub item-requires : goal.item-requires
-item-requires c = item_stands c.args.image.now _ _ c.in_ok-s.ensures c.args.i (omega arith)
 
 pub returns-in-Some : goal.returns-in-Some
 returns-in-Some c =

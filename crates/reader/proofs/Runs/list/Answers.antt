@@ -1,14 +1,13 @@
 -- The part of the elements between two ends.
 use Rattle.std.proofs.Common.{◌≡◌, ◌≤◌, ◌<◌, ◌-◌, ◌∙◌, List, ℕ, [], ◌∷◌, zero, suc, None, ap, arith, refl, sym, length, get_or, min, take, drop, rules}
-use native.Mathlib.Decide.{dec_le}
-use lib.ListN.{length-drop}
 use Rattle.std.specs.Option.{option_map}
 use Rattle.std.proofs.Math.Option.{none, some}
 use Rattle.std.proofs.Math.ListN.{get_elem?}
-use Rattle.laws.proofs.Lists.{length_of_map, take_shown}
+use Rattle.laws.proofs.Lists.{length_of_map}
 use Rattle.reader.specs.Items.{at_told}
 use Rattle.reader.specs.Places.{start_in}
 use Rattle.reader.specs.Reading.{parts}
+use Rattle.reader.proofs.Placed.{part_shown}
 use Rattle.reader.proofs.Runs.list.Goals as goal
 
 -- the i-th of the parts, which are as many as the ends
@@ -23,19 +22,6 @@ part_none : {A : Type 0} (es : List ℕ) (from i : ℕ) (l : List A) → length 
 part_none [] from i l h = refl
 part_none (e ∷ es) from zero l h = absurd (omega arith)
 part_none (e ∷ es) from (suc i) l h = part_none es e i l (omega arith)
-
--- a part shows no more than there is
-part_shown : {A : Type 0} (l : List A) (from to a b : ℕ) → b ≡ min to (length l) → a ≡ min from b → take (b - a) (drop a l) ≡ take (to - from) (drop from l)
-part_shown l from to a b eb ea = go (dec_le from b) where
-  go : Dec (from ≤ b) → take (b - a) (drop a l) ≡ take (to - from) (drop from l)
-  go (yes h) =
-      let k : a ≡ from = omega arith in
-      let m : b - from ≡ min (to - from) (length (drop from l)) = simp length-drop (omega arith) in
-      ap (λ (i : ℕ). take (b - i) (drop i l)) k ∙ take_shown (drop from l) (to - from) (b - from) m
-  go (no h) =
-      let k : b - a ≡ 0 = omega arith in
-      let m : 0 ≡ min (to - from) (length (drop from l)) = simp length-drop (omega arith) in
-      ap (λ (i : ℕ). take i (drop a l)) k ∙ take_shown (drop from l) (to - from) 0 m
 
 pub returns-in_err-get : goal.returns-in_err-get
 returns-in_err-get g c =
