@@ -538,7 +538,7 @@ fn sixteen_sequences() {
 
 #[test]
 fn thirty_two_frames() {
-    let frames = [vec![0x61, 0x80].repeat(31), vec![0x05]].concat();
+    let frames = [[0x61, 0x80].repeat(31), vec![0x05]].concat();
     let mut wanted = padded(&["S01 00"]);
     for number in NUMBERS.split(' ').take(31) {
         wanted += &padded(&[&["F00", number, "6180"].join(" ")]);
