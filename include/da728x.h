@@ -7,7 +7,8 @@
  *
  * The archives need memcpy and memset only. They allocate nothing and keep no data, so calls
  * that lend different bytes may run at the same time. Stack, as measured: 6 KB in
- * da728x_read_lists, 2 KB in the functions that run builder calls, 1 KB in the others.
+ * da728x_read_lists, 5 KB in da728x_page, 2 KB in the functions that run builder calls, 1 KB in
+ * the others.
  *
  * Words of the chip, by which everything below is named:
  *   point      one byte: a ramp or a step, 1 to 8 timebases long, to an amplitude of 0 to 15
@@ -53,8 +54,8 @@
  *   23 InvalidDriveFrequency
  *                           the frequency of the settings, or the one given to
  *                           da728x_set_frequency, is out of range
- *   24 BufferTooShort       the lent buffer is shorter than the item, the image or the lists that
- *                           go into it; no byte of it is written
+ *   24 BufferTooShort       the lent buffer is shorter than the item, the image, the lists or the
+ *                           page that goes into it; no byte of it is written
  *   28 MissingSequence      no sequence of this number is loaded: the record says how many are
  * 20 and 25 to 27 are not used.
  */
@@ -219,6 +220,44 @@ uint64_t da728x_read_frame(const uint8_t *image, size_t image_len,
 #define DA728X_LISTS 703
 uint32_t da728x_read_lists(const uint8_t *image, size_t image_len,
                            uint8_t *lists, size_t lists_len);
+
+/* Prints an image as the page that a station keeps on paper with the pattern: lines of exactly 36
+ * characters and a newline, the byte 10. For 01 01 05 06 AA 00 01 (hexadecimal) and 93 zeros it is
+ * these two, each with blanks up to 36:
+ *     S01 AA00
+ *     F00 01 01
+ * A snippet is S, its number in two digits from 01 (by which frames name it), a blank, and its
+ * points. A frame is F, its sequence in two digits from 00 (by which da728x_play_sequence has it),
+ * a blank, the frame's number in that sequence in two digits from 01, a blank, and its 1 to 3
+ * bytes as they stand in the image. Each point and each byte is two hexadecimal capitals. The
+ * snippets come first, all in the image's order. Two pages are alike only if their images are
+ * equal, byte for byte.
+ * Returns the page's length: 37 bytes for each of 2 to 94 lines, so 74 to DA728X_PAGE. The page is
+ * in the front of out, and the other bytes of out stay: no terminator is written, and the length
+ * counts none. If it is refused, all of out stays: with 65536 * 18 for what is no image, else with
+ * 65536 * 24 if out is shorter than the page (DA728X_PAGE bytes never are). Test for 65536 or more
+ * before you use it as a length.
+ *
+ *     uint8_t page[DA728X_PAGE];
+ *     uint32_t told = da728x_page(image, DA728X_IMAGE, page, sizeof page);
+ *     if (told < 65536) fwrite(page, 1, told, paper);
+ *
+ * What a wrong use gives:
+ *   a refusal, ignored            NO sign but the number that is returned: out still has what was
+ *                                 there, which may be the page of another image
+ *   out is shorter than the page  24, and no line: a page is never cut. How many bytes it needs is
+ *                                 not told
+ *   the page taken for a string   it has no end: what is in out behind it is printed too. Print as
+ *                                 many bytes as are returned, or put a 0 there yourself, for which
+ *                                 out needs a byte more than is lent
+ *   a page over a longer one      NO sign but the length: behind it out still has the last lines
+ *                                 of the other
+ *   another image than the one    NO sign: the page says what is in the bytes that are lent, not
+ *   that is uploaded              what the chip has
+ *   an image with a frame that    NO refusal: the frame is printed as any other, and no line S has
+ *   names an absent snippet       that number */
+#define DA728X_PAGE 3478
+uint32_t da728x_page(const uint8_t *image, size_t image_len, uint8_t *out, size_t out_len);
 
 /* ---- registers -------------------------------------------------------- */
 

@@ -10,6 +10,7 @@ pub mod generate;
 pub mod images;
 pub mod lists;
 pub mod oracle;
+pub mod pages;
 pub mod patterns;
 pub mod random;
 pub mod ranges;

@@ -3,7 +3,7 @@
 use ffi::*;
 use harness::records::COUNT;
 use harness::settings::Settings;
-use harness::{GAINS, TIMEBASES, compared, oracle, raw, text};
+use harness::{GAINS, TIMEBASES, compared, oracle, pages, raw, text};
 use std::ptr::{null, null_mut};
 use yambelugo::{Call, DrivingMode, OperationMode, PwlPoint};
 
@@ -70,6 +70,7 @@ fn empty_slices() {
         assert_eq!(da728x_read_point(list, 0, 0, 0), 18 * 65536);
         assert_eq!(da728x_read_frame(list, 0, 0, 0), 18 << 56);
         assert_eq!(da728x_read_lists(list, 0, none, 0), 18 * 65536);
+        assert_eq!(da728x_page(list, 0, none, 0), 18 * 65536);
         assert_eq!(da728x_register_addresses(none, 0), 0);
         for read in
             [da728x_read_interrupts, da728x_read_actuator, da728x_read_control, da728x_read_trigger]
@@ -160,6 +161,7 @@ fn sizes_and_kinds() {
     let used = [
         ("IMAGE", yambelugo::IMAGE),
         ("LISTS", raw::LISTS),
+        ("PAGE", pages::LONGEST),
         ("SESSION", raw::SESSION),
         ("RECORD", yambelugo::RECORD),
         ("SEQUENCES", COUNT),
@@ -170,7 +172,8 @@ fn sizes_and_kinds() {
     ];
     assert_eq!(defined, used);
     assert_eq!(size_of::<yambelugo::DA728x>(), yambelugo::RECORD);
-    compared("sizes and kinds", defined.len(), 9);
+    assert_eq!(yambelugo::PAGE, pages::LONGEST);
+    compared("sizes and kinds", defined.len(), 10);
 }
 
 /// A function's name, the types of its arguments and the type of its answer, in Rust's words.
@@ -246,7 +249,7 @@ fn nothing_is_required() {
             contracts += 1;
         }
     }
-    compared("contracts of exports", contracts, 48);
+    compared("contracts of exports", contracts, 49);
 }
 
 /// The functions that the wrapper calls.
@@ -277,5 +280,5 @@ fn prototypes_are_those_of_the_exports() {
     let exported = sorted(exported());
     assert_eq!(sorted(declared()), exported);
     assert_eq!(sorted(wrapped()), exported);
-    compared("prototypes", exported.len(), 24 + 24);
+    compared("prototypes", exported.len(), 25 + 24);
 }

@@ -62,7 +62,7 @@ pub enum Error {
     /// 23: the frequency of the settings, or of `set_frequency`, is outside 50 to 300 Hz (tracking)
     /// or 25 to 1024 Hz (other modes). For a frame's see [`InvalidFrequency`](Error::InvalidFrequency).
     InvalidDriveFrequency,
-    /// 24: the buffer is shorter than the item; no byte of it was written.
+    /// 24: the buffer is shorter than the item or the page; no byte of it was written.
     BufferTooShort,
     /// 28: no sequence of this number is loaded: the last image that was uploaded has fewer, its
     /// upload was not completed, or there was none.
@@ -174,7 +174,7 @@ impl fmt::Display for Error {
             Error::InvalidDriveFrequency => {
                 "a frequency is outside 50 to 300 Hz (tracking) or 25 to 1024 Hz (other modes)"
             }
-            Error::BufferTooShort => "the buffer is shorter than the item",
+            Error::BufferTooShort => "the buffer is shorter than the item or the page",
             Error::MissingSequence => "no sequence of this number is loaded",
         })
     }

@@ -62,6 +62,7 @@ unsafe extern "C" {
         lists: *mut u8,
         lists_len: usize,
     ) -> u32;
+    pub fn da728x_page(image: *const u8, image_len: usize, out: *mut u8, out_len: usize) -> u32;
 
     pub fn da728x_register_addresses(out: *mut u8, out_len: usize) -> usize;
     pub fn da728x_read_interrupts(byte: u8, out: *mut u8, out_len: usize) -> usize;

@@ -344,3 +344,50 @@ impl fmt::Debug for Lists {
             .finish()
     }
 }
+
+/// How many bytes the longest page has, 94 lines: the room for any [`page`].
+pub const PAGE: usize = 3478;
+
+/// Prints an image as the page that a station keeps on paper, into the front of `out`; its text.
+/// The other bytes of `out` stay.
+///
+/// Each line has 36 characters, blanks at its end, and a newline. A snippet is S, its number from
+/// 01, a blank and its points; a frame is F, its sequence from 00, a blank, its own number in that
+/// sequence from 01, a blank and its bytes: numbers in two digits, a point or byte in two
+/// hexadecimal capitals. Snippets come first, all in the image's order. Two images have the same
+/// page only if they are equal.
+///
+/// ```
+/// # use yambelugo::{Error, PAGE};
+/// let (mut image, mut out) = ([0; yambelugo::IMAGE], [0; PAGE]);
+/// image[..7].copy_from_slice(&[1, 1, 5, 6, 0xAA, 0x00, 0x01]);
+/// let page = yambelugo::page(&image, &mut out)?;
+/// assert_eq!(
+///     page,
+///     concat!(
+///         "S01 AA00                            \n",
+///         "F00 01 01                           \n",
+///     )
+/// );
+///
+/// // A page goes in whole or not at all, and there is none of what is no image.
+/// let mut out = [b'x'; PAGE];
+/// assert_eq!(yambelugo::page(&image, &mut out[..73]), Err(Error::BufferTooShort));
+/// image[99] = 1;
+/// assert_eq!(yambelugo::page(&image, &mut out), Err(Error::NotAnImage));
+/// assert_eq!(out, [b'x'; PAGE]);
+/// # Ok::<(), Error>(())
+/// ```
+///
+/// # Errors
+/// `NotAnImage` unless the bytes are a hundred that the builders can make, else `BufferTooShort` if
+/// `out` is shorter than the page, which [`PAGE`] bytes never are; `out` stays then.
+pub fn page<'a>(image: &[u8], out: &'a mut [u8]) -> Result<&'a str, Error> {
+    let (at, len) = (image.as_ptr(), image.len());
+    // SAFETY: each pointer and length is a borrowed slice; the mutable one overlaps no other.
+    let answer = unsafe { ffi::da728x_page(at, len, out.as_mut_ptr(), out.len()) };
+    let length = told(answer, 65536)? as usize;
+    let text = out.get(..length).and_then(|text| str::from_utf8(text).ok());
+    debug_assert!(text.is_some(), "no text of {length} bytes");
+    Ok(text.unwrap_or_default())
+}
