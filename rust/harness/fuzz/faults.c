@@ -12,6 +12,7 @@ REAL(da728x_answers);
 REAL(da728x_assemble_strict);
 REAL(da728x_assemble);
 REAL(da728x_read_lists);
+REAL(da728x_page);
 REAL(da728x_enable);
 REAL(da728x_configure);
 REAL(da728x_upload_waveform_memory);
@@ -92,6 +93,20 @@ uint32_t da728x_read_lists(const uint8_t *image, size_t image_len, uint8_t *list
     if (fault(19) && told < 15 * 256 && lists_len > 110) lists[110] = lists[96];
     if (fault(20) && told >= 65536 && lists_len > 0) lists[0] = 0;
     return told;
+}
+
+/* 27: a terminator is written behind the page. 28: as much of a page is written as has room. 29: a buffer without room for a line is
+ * told before bytes that are no image. */
+uint32_t da728x_page(const uint8_t *image, size_t image_len, uint8_t *out, size_t out_len)
+{
+    uint8_t whole[DA728X_PAGE];
+    uint32_t told = real_da728x_page(image, image_len, out, out_len);
+    if (fault(27) && told < out_len) out[told] = 0;
+    if (fault(28) && told == 65536 * 24 && out_len > 0) {
+        real_da728x_page(image, image_len, whole, sizeof whole);
+        memcpy(out, whole, out_len);
+    }
+    return fault(29) && told == 65536 * 18 && out_len < 37 ? 65536 * 24 : told;
 }
 
 /* 9: the record, which is const, is changed. */

@@ -4,6 +4,7 @@ pub mod boundary;
 pub mod bus;
 pub mod cases;
 pub mod chip;
+pub mod damage;
 pub mod drive_points;
 pub mod driver;
 pub mod generate;

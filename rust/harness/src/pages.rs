@@ -1,6 +1,7 @@
 //! The printed page of an image, as document 02 (CR 1) says it.
 
 use crate::images::plain;
+use std::fmt::Write;
 
 /// How many characters a line has, its newline apart.
 pub const LINE: usize = 36;
@@ -12,18 +13,33 @@ pub const SHORTEST: usize = 2 * (LINE + 1);
 /// The page of these bytes, if document 01 reads an image in them.
 pub fn page(image: &[u8]) -> Option<String> {
     let lists = plain(image)?;
-    let mut lines = Vec::new();
-    for (at, points) in lists.snippets.iter().enumerate() {
-        lines.push(format!("S{:02} {}", at + 1, hexadecimal(points)));
+    let mut page = String::new();
+    for (number, points) in (1..).zip(&lists.snippets) {
+        print(&format!("S{number:02}"), points, &mut page);
     }
-    for (at, bytes) in sequences(image).into_iter().enumerate() {
+    for (sequence, bytes) in sequences(image).into_iter().enumerate() {
         let frames = cut(bytes);
-        assert_eq!(frames.len(), lists.sequences[at].len(), "{image:02X?}");
+        assert_eq!(frames.len(), lists.sequences[sequence].len(), "{image:02X?}");
         for (number, frame) in (1..).zip(frames) {
-            lines.push(format!("F{at:02} {number:02} {}", hexadecimal(frame)));
+            print(&format!("F{sequence:02} {number:02}"), frame, &mut page);
         }
     }
-    Some(lines.iter().map(|line| format!("{line:<LINE$}\n")).collect())
+    Some(page)
+}
+
+/// A line: its head, a blank, two hexadecimal capitals for each byte, and blanks to its end.
+fn print(head: &str, bytes: &[u8], page: &mut String) {
+    let end = page.len() + LINE;
+    page.push_str(head);
+    page.push(' ');
+    for byte in bytes {
+        write!(page, "{byte:02X}").unwrap();
+    }
+    assert!(page.len() <= end, "{page}");
+    while page.len() < end {
+        page.push(' ');
+    }
+    page.push('\n');
 }
 
 /// The bytes of each sequence of an image.
@@ -46,9 +62,4 @@ fn cut(mut bytes: &[u8]) -> Vec<&[u8]> {
         bytes = rest;
     }
     frames
-}
-
-/// Two hexadecimal capitals for each.
-fn hexadecimal(bytes: &[u8]) -> String {
-    bytes.iter().map(|byte| format!("{byte:02X}")).collect()
 }

@@ -4,6 +4,7 @@
 use harness::generate::{list, with_noise};
 use harness::images::{frame_word, hundred, plain};
 use harness::oracle::{Builders, NOT_BEGUN, number};
+use harness::pages::{self, LONGEST};
 use harness::patterns::{KINDS, mended};
 use harness::random::Random;
 use harness::raw::{LISTS, ffi};
@@ -96,6 +97,8 @@ fn read(image: &[u8], numbers: &mut Numbers) {
     let counts =
         lists.as_ref().map(|it| 256 * it.snippets.len() as u64 + it.sequences.len() as u64);
     let counts = counts.ok_or(18 << 16);
+    let mut page = [0; LONGEST];
+    let printed = pages::page(image).map(|it| it.len() as u64).ok_or(18 << 16);
     // SAFETY: each pointer and length is a slice; they do not overlap.
     unsafe {
         numbers.told("read_counts", ffi::da728x_read_counts(at, len), counts);
@@ -103,6 +106,11 @@ fn read(image: &[u8], numbers: &mut Numbers) {
         numbers.told("read_lists", told, counts);
         let told = ffi::da728x_read_lists(at, len, out.as_mut_ptr(), LISTS - 1);
         numbers.told("read_lists", told, counts.and(Err(u64::from(TOO_SHORT) << 16)));
+        let mut print = |room| ffi::da728x_page(at, len, page.as_mut_ptr(), room);
+        let told = print(LONGEST);
+        numbers.told("page", told, printed);
+        let told = print(printed.map_or(0, |it| it as usize - 1));
+        numbers.told("page", told, printed.and(Err(u64::from(TOO_SHORT) << 16)));
     }
     for (i, j) in [(0, 0), (0, 1), (0, 20), (1, 0), (2, 1), (15, 0)] {
         // That there is no such item is told apart from the items too.
@@ -157,6 +165,7 @@ fn values_and_refusals_are_told_apart() {
         ("assemble", 1, 4),
         ("read_counts", 100, 1),
         ("read_lists", 100, 2),
+        ("page", 60, 2),
         ("read_point", 256, 2),
         ("read_frame", 1_000, 2),
     ]);

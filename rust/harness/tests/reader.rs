@@ -1,10 +1,9 @@
 //! What the library reads in images and in other bytes, against document 01 and the published Rust.
 
 use harness::compared;
-use harness::generate::{list, with_noise};
-use harness::images::{Lists, added, plain, read, read_at_once};
+use harness::damage::{built, damaged};
+use harness::images::{Lists, plain, read, read_at_once};
 use harness::lists::MARKER;
-use harness::patterns::KINDS;
 use harness::random::Random;
 use harness::raw::{LISTS, ffi};
 use harness::whole::TOO_SHORT;
@@ -124,21 +123,6 @@ fn place<T>(items: &[Vec<T>], random: &mut Random) -> (usize, usize) {
     (at, random.within(0, items.get(at).map_or(0, Vec::len)))
 }
 
-/// An image that the library builds, and what was added to it.
-fn built(random: &mut Random) -> ([u8; IMAGE], Lists) {
-    loop {
-        let generate = random.pick(&[KINDS[0], KINDS[0], KINDS[1], KINDS[2], KINDS[3]]).1;
-        let calls = with_noise(generate(random), random);
-        let list = list(&calls, random);
-        let mut image = [0; IMAGE];
-        if yambelugo::assemble(&list, &mut image).is_ok() {
-            let mut answers = vec![0; calls.len()];
-            yambelugo::answers(&list, &mut answers);
-            return (image, added(&calls, &answers));
-        }
-    }
-}
-
 #[test]
 fn built_images() {
     let mut random = Random::new(70);
@@ -152,29 +136,6 @@ fn built_images() {
     assert!(met.accepted == BUILT && met.whole > 2_000);
 }
 
-/// A value for a byte that holds another.
-fn damaged(byte: u8, random: &mut Random) -> u8 {
-    let value = match random.below(5) {
-        0 => byte.wrapping_add(1),
-        1 => byte.wrapping_sub(1),
-        2 => byte ^ 1 << random.below(8),
-        3 => random.byte(),
-        _ => random.pick(&[0, 1, 15, 16, 17, 99, 100, 128, 130, 255]),
-    };
-    if value == byte { !byte } else { value }
-}
-
-/// A byte of an image: often in the header, else mostly in the data.
-fn byte_of(image: &[u8; IMAGE], random: &mut Random) -> usize {
-    let header = 2 + usize::from(image[0]) + usize::from(image[1]);
-    let last = usize::from(image[header - 1]);
-    match random.below(20) {
-        0..8 => random.below(header),
-        8..17 => random.within(header, (last + 1).min(99)),
-        _ => random.below(IMAGE),
-    }
-}
-
 fn damage(what: &str, bytes: usize, cases: usize, seed: u64) {
     let mut random = Random::new(seed);
     let mut met = Met::default();
@@ -183,12 +144,7 @@ fn damage(what: &str, bytes: usize, cases: usize, seed: u64) {
         if case % 10 == 0 {
             image = built(&mut random).0;
         }
-        let mut other = image;
-        for _ in 0..bytes {
-            let at = byte_of(&image, &mut random);
-            other[at] = damaged(other[at], &mut random);
-        }
-        met.compare(&other, &mut random);
+        met.compare(&damaged(&image, bytes, &mut random), &mut random);
     }
     let met = met.compared(what, cases);
     assert!(met.accepted > cases / 10 && met.accepted < cases * 9 / 10);

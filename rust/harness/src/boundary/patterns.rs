@@ -7,6 +7,7 @@ use super::hands::{Hands, lent, shown};
 use crate::encoded;
 use crate::generate::{add_frames, any_call, good_point, list, with_noise};
 use crate::images::plain;
+use crate::pages::{self, LONGEST};
 use crate::patterns::{KINDS, mended};
 use crate::random::Random;
 use crate::raw::{LISTS, ffi};
@@ -51,6 +52,7 @@ impl Patterns {
             da728x_read_point => self.read_point(choices, hands),
             da728x_read_frame => self.read_frame(choices, hands),
             da728x_read_lists => self.read_lists(choices, hands),
+            da728x_page => self.page(choices, hands),
             _ => register(function, choices, hands),
         }
     }
@@ -283,6 +285,35 @@ impl Patterns {
         assert!(wanted == after, "not the lists of {image:02X?}");
         found(&image, told >> 16, choices, hands);
         hands.tally.count(da728x_read_lists, told >> 16);
+    }
+
+    /// What is written is the page that document 02 says.
+    fn page(&mut self, choices: &mut Choices, hands: &mut Hands) {
+        let image = self.image(choices);
+        let page = pages::page(&image);
+        // About as much room as it takes, or as any may.
+        let usual = page.as_ref().filter(|_| choices.chance(80)).map_or(LONGEST, String::len);
+        let room = out(choices, usual);
+        let slices = [shown(&image), lent(&room)];
+        let told = hands.call(da728x_page, choices, slices, |[image, (out, len)]| {
+            // SAFETY: each pointer and length is a slice; the mutable one overlaps no other.
+            unsafe { ffi::da728x_page(image.0, image.1, out, len).into() }
+        });
+        let (before, after) = hands.slice(1);
+        let (mut wanted, mut word) = (before.to_vec(), 18 * 65536);
+        if let Some(page) = page {
+            match wanted.get_mut(..page.len()) {
+                Some(front) => {
+                    front.copy_from_slice(page.as_bytes());
+                    word = page.len();
+                }
+                None => word = 24 * 65536,
+            }
+        }
+        assert_eq!(told, word as u64, "{image:02X?}");
+        assert!(wanted == after, "not the page of {image:02X?}");
+        found(&image, told >> 16, choices, hands);
+        hands.tally.count(da728x_page, told >> 16);
     }
 }
 

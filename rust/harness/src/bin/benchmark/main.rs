@@ -10,7 +10,7 @@ use std::env;
 use std::hint::black_box;
 use std::process::Command;
 use std::time::Instant;
-use works::{Done, Goal, Inputs, Side, WORKS, Work};
+use works::{Done, Goal, Inputs, READING_THE_EXAMPLE, Side, WORKS, Work};
 
 /// The C functions, without the wrapper's checks.
 use harness::raw::ffi;
@@ -54,7 +54,7 @@ fn compare() {
     let small = Inputs::new(COUNTED);
     println!("{:33} {:^26} {:^26}", "", "instructions", "nanoseconds");
     println!("{:33} {HEADS} {HEADS}  goal", "what one (unit) costs");
-    let mut building = None;
+    let mut before = Before::default();
     for (number, work) in WORKS.iter().enumerate() {
         let ours = work_of(number, "ours", &inputs, &small);
         let theirs = work.theirs.map(|_| work_of(number, "theirs", &inputs, &small));
@@ -66,8 +66,11 @@ fn compare() {
             |pick: fn(&Cost) -> Option<f64>| columns(theirs.as_ref().and_then(pick), pick(&ours));
         let costs = [pair(|it| it.instructions), pair(|it| Some(it.nanoseconds))].join(" ");
         let theirs = theirs.as_ref().and_then(|it| it.instructions);
-        building = building.or(ours.instructions);
-        let judged = judged(work.goal, ours.instructions, theirs, building);
+        before.building = before.building.or(ours.instructions);
+        if work.name == READING_THE_EXAMPLE {
+            before.counts = ours.instructions;
+        }
+        let judged = judged(work.goal, ours.instructions, theirs, &before);
         println!("{name:33} {costs}  {judged}");
     }
     println!("\n{:33} {:>9} {:>9}", "bytes of stack", "Rust", "this");
@@ -77,11 +80,23 @@ fn compare() {
     }
 }
 
+/// The instructions of rows that others are held against: building an image, and the counts of the example.
+#[derive(Default)]
+struct Before {
+    building: Option<f64>,
+    counts: Option<f64>,
+}
+
 /// The goal in words, and whether it is met.
-fn judged(goal: Goal, ours: Option<f64>, theirs: Option<f64>, building: Option<f64>) -> String {
+fn judged(goal: Goal, ours: Option<f64>, theirs: Option<f64>, before: &Before) -> String {
     let (words, bound) = match goal {
         Goal::OfTheRust(times) => (format!("{times} of the Rust"), theirs.map(|it| it * times)),
-        Goal::OfBuilding(times) => (format!("{times} of building"), building.map(|it| it * times)),
+        Goal::OfBuilding(times) => {
+            (format!("{times} of building"), before.building.map(|it| it * times))
+        }
+        Goal::OfCounts(times) => {
+            (format!("{times} of its counts"), before.counts.map(|it| it * times))
+        }
         Goal::AtMost(bound) => (format!("{bound} instructions"), Some(bound)),
         Goal::Free => return String::new(),
     };

@@ -8,6 +8,7 @@ use harness::bus::{MOST, at_once};
 use harness::driver::{record_bytes, revision};
 use harness::encoded;
 use harness::oracle::{Builders, matches, number};
+use harness::pages::LONGEST;
 use harness::patterns::{KINDS, mended};
 use harness::random::Random;
 use harness::raw::{BYTE, DONE, LISTS, SESSION};
@@ -36,6 +37,9 @@ pub struct Inputs {
     /// The same, without the calls that are refused.
     mended: Patterns,
     images: Vec<[u8; IMAGE]>,
+    /// Document 01's example image and those of the longest pages, so many of each.
+    examples: Vec<[u8; IMAGE]>,
+    longest: Vec<[u8; IMAGE]>,
     accepted: Vec<Case>,
     refused: Vec<Case>,
     /// Period words that come from some frequency, with the mode.
@@ -90,8 +94,24 @@ impl Inputs {
             (period(random.within(low, high) as u64), (i % 3) as u8)
         });
         let words = words.collect();
-        Self { patterns, mended, images, accepted, refused, words }
+        let examples = vec![EXAMPLE; cases];
+        let longest = (0..cases).map(|_| longest_page(&mut random)).collect();
+        Self { patterns, mended, images, examples, longest, accepted, refused, words }
     }
+}
+
+const EXAMPLE: [u8; IMAGE] = {
+    let mut image = [0; IMAGE];
+    *image.first_chunk_mut().unwrap() = [0x01, 0x01, 0x05, 0x06, 0xAA, 0x00, 0x01];
+    image
+};
+
+/// The image of a page with 94 lines: a point, and 93 frames of one byte in three sequences.
+fn longest_page(random: &mut Random) -> [u8; IMAGE] {
+    let mut image = [0; IMAGE];
+    image[6..].fill_with(|| random.below(128) as u8);
+    image[..6].copy_from_slice(&[1, 3, 6, 38, 70, 99]);
+    image
 }
 
 /// What a side did: a sum over all that it answered, which both sides have to have alike, and how
@@ -117,6 +137,8 @@ pub enum Goal {
     OfTheRust(f64),
     /// So many times building an image.
     OfBuilding(f64),
+    /// So many times reading the counts of the example image.
+    OfCounts(f64),
     AtMost(f64),
     Free,
 }
@@ -130,7 +152,10 @@ pub struct Work {
     pub goal: Goal,
 }
 
-pub const WORKS: [Work; 16] = [
+/// The row that pages are held against.
+pub const READING_THE_EXAMPLE: &str = "reading the example";
+
+pub const WORKS: [Work; 19] = [
     Work {
         name: "images",
         unit: "image",
@@ -173,6 +198,27 @@ pub const WORKS: [Work; 16] = [
         theirs: None,
         ours: our_items,
         goal: Goal::Free,
+    },
+    Work {
+        name: READING_THE_EXAMPLE,
+        unit: "image",
+        theirs: None,
+        ours: our_examples,
+        goal: Goal::Free,
+    },
+    Work {
+        name: "page of the example",
+        unit: "page",
+        theirs: None,
+        ours: our_short_pages,
+        goal: Goal::OfCounts(4.0),
+    },
+    Work {
+        name: "page of 94 lines",
+        unit: "byte",
+        theirs: None,
+        ours: our_long_pages,
+        goal: Goal::AtMost(20.0),
     },
     Work {
         name: "refused settings",
@@ -373,10 +419,41 @@ fn our_lists(inputs: &Inputs) -> Done {
 }
 
 fn our_readings(inputs: &Inputs) -> Done {
+    read_counts(&inputs.images)
+}
+
+fn our_examples(inputs: &Inputs) -> Done {
+    read_counts(&inputs.examples)
+}
+
+fn read_counts(images: &[[u8; IMAGE]]) -> Done {
     let mut done = Done::default();
-    for image in &inputs.images {
+    for image in images {
         done.add(&counts(black_box(image)).to_le_bytes());
         done.count += 1;
+    }
+    done
+}
+
+fn our_short_pages(inputs: &Inputs) -> Done {
+    Done { count: inputs.examples.len() as u64, ..pages(&inputs.examples) }
+}
+
+fn our_long_pages(inputs: &Inputs) -> Done {
+    pages(&inputs.longest)
+}
+
+/// Prints the pages, each over the one before; the count is of their bytes.
+fn pages(images: &[[u8; IMAGE]]) -> Done {
+    let (mut done, mut page) = (Done::default(), [0; LONGEST]);
+    for image in images {
+        let (at, to) = (black_box(image).as_ptr(), page.as_mut_ptr());
+        // SAFETY: each pointer and length is an array, and they do not overlap.
+        let told = unsafe { ffi::da728x_page(at, IMAGE, to, LONGEST) };
+        assert!(told < 65536, "no page");
+        black_box(&page);
+        done.add(&told.to_le_bytes());
+        done.count += u64::from(told);
     }
     done
 }
