@@ -5,7 +5,8 @@
 //! Rust's, and the settings of a register's value are those for which its `configure` writes it
 //! (`harness::ranges`); the numbers of refusals, the low two bits of TRIM4, a trigger's mode bit, the layout of records, the count of
 //! sequences in them and what lies outside the comparison are document 01's and 02's; what an image holds is told by the plain reader,
-//! and the Rust has to make the same image of that; its page is the plain printer's (`harness::pages`); what a chip holds is that of `harness::chip`, to which the published Rust uploads.
+//! and the Rust has to make the same image of that; its page is the plain printer's (`harness::pages`); what a chip holds is that of
+//! `harness::chip`, to which the published Rust uploads.
 
 use da728x::waveform::PwlPoint;
 use harness::bus::{Script, Wire, kind};
