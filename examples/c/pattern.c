@@ -1,5 +1,5 @@
-/* Builds a pattern, reads it back, and plays it on a simulated DA7280; then sets up a custom
- * waveform.
+/* Builds a pattern, reads it back, prints its page, and plays it on a simulated DA7280; then sets
+ * up a custom waveform.
  *
  * C99, no heap: everything lives in arrays of known size. Whatever is not as expected is
  * told, and main then returns 1. On a unit, transfer() is your I2C driver; the rest stays. */
@@ -230,6 +230,31 @@ static void read_back(const uint8_t image[DA728X_IMAGE])
     expect("a damaged image", da728x_read_counts(damaged, DA728X_IMAGE), 65536u * 18);
 }
 
+/* The pattern on paper: lines of 36 characters and a newline. */
+static const char wanted_page[] = "S01 AA00                            \n"
+                                  "S02 1F90                            \n"
+                                  "F00 01 01                           \n"
+                                  "F01 01 32962C                       \n"
+                                  "F01 02 00                           \n";
+
+static void print_page(const uint8_t image[DA728X_IMAGE])
+{
+    static uint8_t page[DA728X_PAGE], untouched[DA728X_PAGE];
+    const size_t len = sizeof wanted_page - 1;
+    uint32_t told;
+    memset(page, 0x55, sizeof page);
+    memset(untouched, 0x55, sizeof untouched);
+    expect("a page with no room", da728x_page(image, DA728X_IMAGE, page, len - 1), 65536u * 24);
+    expect("the page of no image", da728x_page(image, DA728X_IMAGE - 1, page, 0), 65536u * 18);
+    expect_bytes("the buffer without a page", page, untouched, sizeof page);
+    told = da728x_page(image, DA728X_IMAGE, page, sizeof page);
+    expect("the page's length", told, len);
+    expect_bytes("the page", page, (const uint8_t *)wanted_page, len);
+    expect_bytes("what is behind the page", page + len, untouched, sizeof page - len);
+    printf("printed, for the binder:\n");
+    if (told < 65536) fwrite(page, 1, told, stdout);
+}
+
 /* ---- the chip ----------------------------------------------------------- */
 
 static void put16(uint8_t *at, unsigned value)
@@ -406,6 +431,7 @@ int main(void)
     build(image);
     refuse();
     read_back(image);
+    print_page(image);
     find(&chip);
     configure(&chip);
     upload(&chip, image);

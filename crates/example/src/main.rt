@@ -1,5 +1,5 @@
-// The main job, printed: two patterns made by the builders, their images, the lists that the reader gives back, and the driver on a
-// simulated chip. rust/harness/tests/example.rs holds what `stdout` says against the published Rust.
+// The main job, printed: two patterns made by the builders, their images, the lists that the reader gives back, their pages for the binder,
+// and the driver on a simulated chip. rust/harness/tests/example.rs holds what `stdout` says against the published Rust.
 // Proved: every function returns.
 #![tactic(auto)]
 
@@ -20,12 +20,10 @@ fn main(rt: HostRuntime) -> io::Result<()> {
     image(&rt, "shallow ahead", &ahead)?;
     image(&rt, "turn now", &turn)?;
     example_calls::ahead(&rt)?;
-    println!(rt; "\n3. The same images, read back")?;
-    println!(rt; "\nshallow ahead")?;
-    example_lists::read(&rt, ahead.bytes())?;
-    println!(rt; "\nturn now")?;
-    example_lists::read(&rt, turn.bytes())?;
-    damaged(&rt, &turn)?;
+    println!(rt; "\n3. The same images, read back, and their pages for the binder")?;
+    read(&rt, "shallow ahead", ahead.bytes())?;
+    read(&rt, "turn now", turn.bytes())?;
+    read(&rt, "turn now with byte 02 changed to FF", &damaged(&turn))?;
     example_drive::drive(&rt, &ahead, &turn)
 }
 
@@ -36,10 +34,17 @@ fn image(rt: &impl Print, title: &str, memory: &WaveformMemory) -> io::Result<()
     print!(rt; "{}", Image(bytes))
 }
 
+// The lists of an image, and its page.
+fn read(rt: &impl Print, title: &str, image: &[u8]) -> io::Result<()> {
+    println!(rt; "\n{title}")?;
+    example_lists::read(rt, image)?;
+    println!(rt; "\nthe page of {title}")?;
+    example_lists::page(rt, image)
+}
+
 // The same image with one byte changed, which is then no image.
-fn damaged(rt: &impl Print, memory: &WaveformMemory) -> io::Result<()> {
+fn damaged(memory: &WaveformMemory) -> [u8; 100] {
     let mut bytes = *memory.bytes();
     bytes[2] = 0xFF;
-    println!(rt; "\nturn now with byte 02 changed to FF")?;
-    example_lists::read(rt, &bytes)
+    bytes
 }

@@ -1,4 +1,4 @@
-// Where the parts of an image stand, and the lists that the reader gives back, printed. Proved: every function returns.
+// Where the parts of an image stand, the lists that the reader gives back, and the page for the binder, printed. Proved: every function returns.
 #![tactic(auto)]
 
 mod text;
@@ -33,6 +33,18 @@ pub fn read(rt: &impl Print, image: &[u8]) -> io::Result<()> {
             }
             Ok(())
         }
+        Err(e) => println!(rt; "  refused with {}", Refusal(e)),
+    }
+}
+
+// The longest page: 94 lines of 36 characters and a newline.
+const PAGE: usize = 3478;
+
+/// The page of the image as it is, or the refusal.
+pub fn page(rt: &impl Print, image: &[u8]) -> io::Result<()> {
+    let mut out = [0u8; PAGE];
+    match page::page(image, &mut out) {
+        Ok(length) => rt.write_all(out.get(..length).unwrap_or(&[])),
         Err(e) => println!(rt; "  refused with {}", Refusal(e)),
     }
 }

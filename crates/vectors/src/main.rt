@@ -15,7 +15,7 @@ use tally::Tally;
 const TOLD: u64 = 10;
 
 // The longest line that is read: a longer one holds no heading and no case.
-const LINE: usize = 4096;
+const LINE: usize = 8192;
 
 // Where the reading stands: the number of the line, the kind that has begun, and all kinds.
 #[derive(Clone, Copy)]

@@ -29,6 +29,7 @@ pub enum Kind {
     VoltageSettings,
     CurrentSettings,
     FrequencySettings,
+    Page,
 }
 
 impl TryFrom<u8> for Kind {
@@ -61,6 +62,7 @@ impl TryFrom<u8> for Kind {
             23 => Ok(Kind::VoltageSettings),
             24 => Ok(Kind::CurrentSettings),
             25 => Ok(Kind::FrequencySettings),
+            26 => Ok(Kind::Page),
             _ => Err(UnknownKind(number)),
         }
     }

@@ -51,7 +51,7 @@ impl Case<'_> {
     fn leaves<F: FnOnce(&mut [u8]) -> u64>(&self, call: F) -> bool
         requires { F.IsAlwaysCallable call }
     {
-        let mut lent = [MARKER; 1024];
+        let mut lent = [MARKER; 4096];
         let Some(out) = lent.get_mut(..self.out.len()) else {
             return false;
         };
@@ -78,6 +78,7 @@ impl Case<'_> {
             Kind::AssembleStrict => capi::da728x_assemble_strict(calls, out) as u64,
             Kind::Reads => 0,
             Kind::ReadLists => capi::da728x_read_lists(calls, out) as u64,
+            Kind::Page => capi::da728x_page(calls, out) as u64,
             Kind::RegisterAddresses => capi::da728x_register_addresses(out) as u64,
             Kind::ReadInterrupts => capi::da728x_read_interrupts(a, out) as u64,
             Kind::ReadActuator => capi::da728x_read_actuator(a, out) as u64,

@@ -1,17 +1,22 @@
 //! What the program `example` says (crates/example/stdout) against the published Rust: its builder calls give its images, so do the
-//! lists that it read back, and its exchanges are the published driver's on the same chip, whose memory and lock are the harness's own.
+//! lists that it read back, its pages are the plain printer's, and its exchanges are the published driver's on the same chip, whose memory
+//! and lock are the harness's own.
 
 use harness::bus::Script;
 use harness::chip;
 use harness::driver::{Operation, Outcome, Pair, compare_new};
 use harness::images::plain;
 use harness::oracle::Builders;
+use harness::pages;
 use harness::registers::ADDRESSES;
 use harness::settings::Settings;
 use harness::{GAINS, TIMEBASES, compared, text};
 use yambelugo::{Call, DrivingMode, Error, OperationMode, Variant};
 
 const PATTERNS: [&str; 2] = ["shallow ahead", "turn now"];
+
+/// The last image of part 3.
+const DAMAGED: &str = "turn now with byte 02 changed to FF";
 
 /// The bus's code for its failure, in parts 5 and 6.
 const CODE: u8 = 3;
@@ -258,13 +263,34 @@ fn lists_give_the_images() {
     }
     compared("read items of the example, as calls", items, 91);
 
-    let (start, below) = paragraphs(3).pop().unwrap();
-    assert_eq!(start, "turn now with byte 02 changed to FF");
-    assert_eq!(below, [format!("  refused with {}", refusal(18))]);
-    let mut damaged = printed_image("turn now");
-    assert!(plain(&damaged).is_some());
-    damaged[2] = 0xFF;
-    assert!(plain(&damaged).is_none());
+    assert_eq!(of_pattern(3, DAMAGED), [format!("  refused with {}", refusal(18))]);
+    assert!(plain(&printed_image("turn now")).is_some());
+    assert!(plain(&damaged()).is_none());
+}
+
+/// The image that DAMAGED names.
+fn damaged() -> Vec<u8> {
+    let mut image = printed_image("turn now");
+    image[2] = 0xFF;
+    image
+}
+
+/// Below its title the page of each image of part 2 is the plain printer's, byte for byte; the damaged image has none.
+#[test]
+fn pages_are_those_of_the_images() {
+    let said = text("crates/example/stdout");
+    let mut lines = 0;
+    for name in PATTERNS {
+        let page = pages::page(&printed_image(name)).unwrap();
+        let below = said.split_once(&format!("\nthe page of {name}\n")).unwrap().1;
+        assert!(below.starts_with(&format!("{page}\n")), "the page of {name}:\n{below}");
+        lines += page.lines().count();
+    }
+    assert_eq!(pages::page(&damaged()), None);
+    let told = of_pattern(3, &format!("the page of {DAMAGED}"));
+    assert_eq!(told, [format!("  refused with {}", refusal(18))]);
+    assert_eq!(said.matches("\nthe page of ").count(), 3, "pages");
+    compared("lines of the example's pages", lines, 16);
 }
 
 /// The simulated chip, on which the published driver is run.

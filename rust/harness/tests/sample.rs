@@ -2,6 +2,8 @@
 //! what `sample` makes of the published Rust, and hold every kind of case that their head lists.
 
 use harness::chip::Chip;
+use harness::lists::MARKER;
+use harness::pages;
 use harness::uploads::{Bare, Upload};
 use harness::{compared, text};
 use std::process::Command;
@@ -81,8 +83,8 @@ fn every_kind_is_there() {
     let (shared, of_kinds): (Vec<&str>, Vec<&str>) =
         exported.iter().map(String::as_str).partition(|name| SHARED.contains(name));
     assert_eq!((&shared[..], of_kinds), (&SHARED[..], named));
-    compared("kinds of the stored sample", kinds.len(), 44);
-    compared("cases of the stored sample", cases, 5246);
+    compared("kinds of the stored sample", kinds.len(), 45);
+    compared("cases of the stored sample", cases, 5306);
 }
 
 fn bytes(field: &str) -> Vec<u8> {
@@ -160,11 +162,62 @@ fn short_buffers_are_there() {
         let cases = sample.lines().map(|line| line.split(' ').collect::<Vec<_>>());
         cases.filter(|case| case[0] == kind && case.get(3) == Some(&word)).count()
     };
-    let kinds = ["05", "06", "07", "09", "15", "16"];
-    let words = ["180000", "180000", "180000", "18", "18", "180000"];
+    let kinds = ["05", "06", "07", "09", "15", "16", "1A"];
+    let words = ["180000", "180000", "180000", "18", "18", "180000", "180000"];
     let met: Vec<_> = kinds.iter().zip(words).map(|(kind, word)| short(kind, word)).collect();
     println!("short buffers in the sample: {met:?}");
     assert!(met.iter().all(|cases| *cases > 10), "{met:?}");
+}
+
+/// The longest and the shortest page, one of 15 snippets and 16 sequences, lines without a blank behind them, and 32 frames in a sequence,
+/// each also refused for a byte of room that is missing; pages into more room and into none; and what is no image, told into any room.
+#[test]
+fn pages_are_there() {
+    let sample = text("crates/vectors/stdin");
+    let (mut printed, mut short, mut none) = (Vec::new(), Vec::new(), Vec::new());
+    for case in sample.lines().filter_map(|line| line.strip_prefix("1A - ")) {
+        let fields: Vec<&str> = case.split(' ').collect();
+        let (page, word, out) = (pages::page(&bytes(fields[0])), fields[1], bytes(fields[2]));
+        let (room, page) = (out.len(), page.unwrap_or_default());
+        let copied = match word {
+            "120000" => {
+                assert!(page.is_empty());
+                none.push(room);
+                0
+            }
+            "180000" => {
+                assert!(room < page.len());
+                short.push((page.clone(), room));
+                0
+            }
+            _ => {
+                assert!(!page.is_empty());
+                assert_eq!(usize::from_str_radix(word, 16), Ok(page.len()));
+                printed.push((page.clone(), room));
+                page.len()
+            }
+        };
+        let (front, rest) = out.split_at(copied);
+        assert_eq!(front, &page.as_bytes()[..copied]);
+        assert!(rest.iter().all(|byte| *byte == MARKER));
+    }
+    println!("{} pages, {} too long, {} of no image", printed.len(), short.len(), none.len());
+    assert_eq!(printed.len() + short.len() + none.len(), 60);
+    let full = |line: &str| line.len() == pages::LINE && !line.ends_with(' ');
+    let shapes: [&dyn Fn(&str) -> bool; 5] = [
+        &|page| page.len() == pages::LONGEST,
+        &|page| page.len() == pages::SHORTEST,
+        &|page| page.contains("S15 ") && page.contains("F15 01 "),
+        &|page| page.lines().any(full),
+        &|page| page.contains("F00 32 ") && page.contains("F01 01 "),
+    ];
+    for shape in shapes {
+        assert!(printed.iter().any(|(page, _)| shape(page)));
+        assert!(short.iter().any(|(page, room)| shape(page) && room + 1 == page.len()));
+    }
+    assert!(printed.iter().filter(|(page, room)| page.len() < *room).count() > 3);
+    assert!(short.iter().filter(|(_, room)| *room == 0).count() > 2);
+    assert!([0, pages::SHORTEST].iter().all(|room| none.contains(room)) && none.len() > 10);
 }
 
 /// Values of registers that come from many settings, from two, from one and from none: voltages at both ends, every IMAX up to 40, and

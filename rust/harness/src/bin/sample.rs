@@ -5,7 +5,8 @@
 //! Rust's, and the settings of a register's value are those for which its `configure` writes it
 //! (`harness::ranges`); the numbers of refusals, the low two bits of TRIM4, a trigger's mode bit, the layout of records, the count of
 //! sequences in them and what lies outside the comparison are document 01's and 02's; what an image holds is told by the plain reader,
-//! and the Rust has to make the same image of that; what a chip holds is that of `harness::chip`, to which the published Rust uploads.
+//! and the Rust has to make the same image of that; its page is the plain printer's (`harness::pages`); what a chip holds is that of
+//! `harness::chip`, to which the published Rust uploads.
 
 use da728x::waveform::PwlPoint;
 use harness::bus::{Script, Wire, kind};
@@ -16,6 +17,7 @@ use harness::generate::{list, with_noise};
 use harness::images::{Lists, added, frame_word, hundred, plain};
 use harness::lists::MARKER;
 use harness::oracle::{Builders, NOT_BEGUN, number, point};
+use harness::pages::{self, page};
 use harness::patterns;
 use harness::random::Random;
 use harness::ranges::{PLACES, Sources};
@@ -30,7 +32,7 @@ use yambelugo::{Call, DrivingMode, OperationMode, Reply, Variant};
 
 /// Each kind of case: its number, the name of its C function without `da728x_`, or of what it is in
 /// two words, and how many there are. A kind's cases depend on nothing but its number and how many they are.
-const KINDS: [(u8, &str, usize); 44] = [
+const KINDS: [(u8, &str, usize); 45] = [
     (0x01, "point", 300),
     (0x02, "point_is_ramp", 256),
     (0x03, "point_timebases", 256),
@@ -44,6 +46,7 @@ const KINDS: [(u8, &str, usize); 44] = [
     (0x09, "assemble", 80),
     (0x0A, "read_counts, read_point, read_frame", 160),
     (0x16, "read_lists", 80),
+    (0x1A, "page", 60),
     (0x0B, "register_addresses", ADDRESS_ROOMS.len()),
     (0x0C, "read_interrupts", 40),
     (0x0D, "read_actuator", 40),
@@ -77,6 +80,16 @@ const KINDS: [(u8, &str, usize); 44] = [
     (0x32, "cut uploads", 120),
 ];
 
+/// The images whose pages are printed first: how many points each snippet has, and of each sequence how many frames of how many bytes.
+/// The longest page, the shortest, most snippets and sequences, lines without a blank behind them, and a hundred bytes of long frames.
+const SHAPES: [(&[usize], &[(usize, usize)]); 5] = [
+    (&[1], &[(32, 1), (32, 1), (29, 1)]),
+    (&[1], &[(1, 1)]),
+    (&[1; 15], &[(1, 1); 16]),
+    (&[16; 5], &[(4, 3)]),
+    (&[1], &[(32, 2), (10, 3)]),
+];
+
 /// The lengths of buffer that the addresses are copied into.
 const ADDRESS_ROOMS: [usize; 8] = [0, 1, 2, 21, 41, 42, 43, 50];
 
@@ -95,15 +108,16 @@ const WORDS: [u16; 21] = [
 const LENGTHS: [usize; 16] = [0, 1, 31, 32, 33, 63, 64, 65, 96, 97, 98, 99, 100, 100, 100, 100];
 
 /// The longest line that the program takes.
-const LONGEST: usize = 4096;
+const LONGEST: usize = 8192;
 
 const HEAD: &str = "\
 Answers of the published Rust to random calls near the limits, refused ones among them; 24 where a
-buffer is too short for its item, its image or its lists; its InvalidValue as 21, 22 or 23 where
-document 02 tells it apart, the low two bits of TRIM4 as document 01 has them, bit 2 of a GPI
+buffer is too short for its item, its image, its lists or its page; its InvalidValue as 21, 22 or 23
+where document 02 tells it apart, the low two bits of TRIM4 as document 01 has them, bit 2 of a GPI
 register as its trigger's mode, custom drive points written, where the Rust has no body for it, and
 28 for the number of a sequence that is not loaded. The settings of a register's value are those for
 which the Rust's configure, run for every setting, writes it, less those that document 01 refuses.
+The page of an image, which the Rust does not print, is the harness's, after document 02 (CR 1).
 Written by `scripts/remake-vectors` (rust/harness/src/bin/sample.rs), never by hand; read by the
 program `vectors`. The Rust is da728x-rs, revision REVISION, in rust/oracle, with these sums:
 SUMS
@@ -113,7 +127,7 @@ first field is the number of the kind. Every lent byte is A5 before, and the byt
 as the field has that shows them after. Numbers have the most significant byte first. Functions,
 layouts and words are those of include/da728x.h.
 
-Kinds 01 to 09 and 0B to 19: the numbers among the arguments, the calls or the image, the word
+Kinds 01 to 09 and 0B to 1A: the numbers among the arguments, the calls or the image, the word
 answered, the bytes lent.
 Kind 0A: the image, the word of read_counts, then three bytes of read_point for each point of snippet
 0, of 1 and so on up to the first snippet that there is not, each with the answer past its last
@@ -195,6 +209,7 @@ fn fields(kind: u8, at: usize, random: &mut Random) -> Vec<Vec<u8>> {
         0x09 => assembled(random),
         0x0A => read(at, random),
         0x16 => listed(at, random),
+        0x1A => printed(at, random),
         0x0B => copied(&[], ADDRESSES.iter().map(|it| it.1).collect(), ADDRESS_ROOMS[at]),
         0x0C..=0x13 => register_fields(kind, random),
         0x17..=0x19 => settings_of(kind, at, random),
@@ -484,6 +499,53 @@ fn listed(at: usize, random: &mut Random) -> Vec<Vec<u8>> {
         Err(number) => bytes_of(u64::from(number) << 16),
     };
     vec![vec![], image, word, out]
+}
+
+/// The page of an image: of each shape where it has room and where a byte is missing, then of images and of bytes that are nearly one.
+fn printed(at: usize, random: &mut Random) -> Vec<Vec<u8>> {
+    let image = match SHAPES.get(at / 2) {
+        Some((snippets, sequences)) => shaped(snippets, sequences, random),
+        None => nearly(at, random),
+    };
+    let text = held(&image).and_then(|_| page(&image));
+    let Some(text) = text.as_ref().map(String::as_bytes) else {
+        let room = random.pick(&[pages::LINE + 1, pages::SHORTEST, 4, 0]);
+        return vec![vec![], image, bytes_of(18 << 16), lent(room)];
+    };
+    let all = text.len();
+    let room = match at / 2 < SHAPES.len() {
+        true => all - at % 2,
+        false => random.pick(&[all, all, all, all + 1, all + 40, all - 1, pages::LINE + 1, 0]),
+    };
+    let mut out = lent(room);
+    let word = match Judged::default().wanted_bytes(Ok(text), &mut out) {
+        Ok(length) => length,
+        Err(number) => usize::from(number) << 16,
+    };
+    vec![vec![], image, bytes_of(word as u64), out]
+}
+
+/// An image of this shape, with random points and frames.
+fn shaped(snippets: &[usize], sequences: &[(usize, usize)], random: &mut Random) -> Vec<u8> {
+    let mut image = vec![snippets.len() as u8, sequences.len() as u8];
+    let (mut data, mut end) = (Vec::new(), 1 + snippets.len() + sequences.len());
+    for points in snippets {
+        data.extend((0..*points).map(|_| random.byte()));
+        end += points;
+        image.push(end as u8);
+    }
+    for (frames, bytes) in sequences {
+        for _ in 0..*frames {
+            let second =
+                if *bytes == 3 { 0x84 | random.byte() } else { 0x80 | random.byte() & 0x79 };
+            data.extend(&[random.byte() & 0x7F, second, random.byte()][..*bytes]);
+        }
+        end += frames * bytes;
+        image.push(end as u8);
+    }
+    image.extend(data);
+    image.resize(100, 0);
+    image
 }
 
 /// The word of every item in so many bytes, with that of no item behind each list and behind all.
