@@ -7,8 +7,7 @@
  *
  * The archives need memcpy and memset only. They allocate nothing and keep no data, so calls
  * that lend different bytes may run at the same time. Stack, as measured: 6 KB in
- * da728x_read_lists, 5 KB in da728x_page, 2 KB in the functions that run builder calls, 1 KB in
- * the others.
+ * da728x_read_lists, 2 KB in the functions that run builder calls, 1 KB in the others.
  *
  * Words of the chip, by which everything below is named:
  *   point      one byte: a ramp or a step, 1 to 8 timebases long, to an amplitude of 0 to 15

@@ -51,8 +51,8 @@ mod tests {
     use super::*;
     use harness::pages::LONGEST;
 
-    /// 6 KB for all lists of an image, 5 KB for a page and the caller's room for it, 4 KB for building
-    /// and other reading, 1 KB for what drives the chip, each with the caller's buffers.
+    /// 6 KB for all lists of an image, 4 KB for building and other reading, 1 KB for what drives the chip, each
+    /// with the caller's buffers; 1 KB for a page beside the caller's room for it.
     #[test]
     fn stack_stays_within_its_bounds() {
         let depths = depths(&Inputs::new(400));
@@ -61,7 +61,7 @@ mod tests {
             let patterns = ["images", "answers", "one item", "reading"];
             let bound = match name {
                 "reading all lists" => 6144,
-                _ if name.starts_with("page") => 5120 + LONGEST,
+                _ if name.starts_with("page") => 1024 + LONGEST,
                 _ if patterns.iter().any(|it| name.starts_with(it)) => 4096,
                 _ => 1024,
             };

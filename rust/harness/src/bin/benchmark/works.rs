@@ -155,7 +155,7 @@ pub struct Work {
 /// The row that pages are held against.
 pub const READING_THE_EXAMPLE: &str = "reading the example";
 
-pub const WORKS: [Work; 19] = [
+pub const WORKS: [Work; 20] = [
     Work {
         name: "images",
         unit: "image",
@@ -212,6 +212,13 @@ pub const WORKS: [Work; 19] = [
         theirs: None,
         ours: our_short_pages,
         goal: Goal::OfCounts(4.0),
+    },
+    Work {
+        name: "page of the example, by bytes",
+        unit: "byte",
+        theirs: None,
+        ours: our_short_page_bytes,
+        goal: Goal::AtMost(20.0),
     },
     Work {
         name: "page of 94 lines",
@@ -437,6 +444,10 @@ fn read_counts(images: &[[u8; IMAGE]]) -> Done {
 
 fn our_short_pages(inputs: &Inputs) -> Done {
     Done { count: inputs.examples.len() as u64, ..pages(&inputs.examples) }
+}
+
+fn our_short_page_bytes(inputs: &Inputs) -> Done {
+    pages(&inputs.examples)
 }
 
 fn our_long_pages(inputs: &Inputs) -> Done {
