@@ -1,5 +1,5 @@
--- An image read where it stands; only private contracts cite this. proofs/Fitting.antt: what is found to be an image is what `read_image`
--- reads; proofs/Standing.antt: where its items stand.
+-- An image read where it stands: `header` and `item`, and what private contracts cite. proofs/Fitting.antt: what is found to be an image is
+-- what `read_image` reads; proofs/Standing.antt: where its items stand.
 use Rattle.std.specs.Prelude.{ℕ, Result, Ok, Err, zero, suc, ◌+◌, ◌≡◌, Bool, true, false, cond, ◌&&◌, List, leb, length, get_or}
 use Rattle.std.specs.declared.option.Option as rust
 use Rattle.std.proofs.Math.Option.{Option, none, some}
@@ -38,6 +38,7 @@ abbrev pub before_item : List ℕ → ℕ → ℕ
 before_item image zero = 1 + get_or image 0 0 + get_or image 1 0
 before_item image (suc k) = get_or image (2 + k) 0
 
+-- the bytes behind that one, up to the k-th pointer
 unfoldable pub item_at : List ℕ → ℕ → List ℕ
 item_at image k = item image (before_item image k) (get_or image (2 + k) 0)
 

@@ -1,8 +1,9 @@
 // What an image is read back to, as numbers and bytes for C (added; no Rust file; document 01, 'The hundred bytes'): the counts, and the
-// points and frames one by one, read where they stand in the lent bytes; or all lists at once, as the reader makes them.
+// points and frames one by one, read where they stand in the lent bytes; or all lists at once, as the reader makes them. And the bytes of each
+// item, for what is made of them elsewhere.
 // Proved: each is that of the content that the reader's contract speaks of, for any bytes and any indexes; how it is one number is
-// specs/Readings.antt, how all are bytes specs/Lists.antt, and that no two are confused specs/Telling.antt. The private functions answer
-// specs/InPlace.antt and specs/Laying.antt.
+// specs/Readings.antt, how all are bytes specs/Lists.antt, and that no two are confused specs/Telling.antt. `header`, `item` and the private
+// functions answer specs/InPlace.antt and specs/Laying.antt.
 #![tactic(auto)]
 
 ghost use Rattle.std.specs.Prelude.{◌≡◌, ◌+◌, ◌*◌, ◌≤◌, length};
@@ -202,7 +203,7 @@ impl Gather for Sequences {
 
 // ---- an image's items, snippets and sequences counted together
 
-// The bytes of the k-th item, where its bytes and pointers stand: of an image with so many. Of any other bytes, what those tell.
+// The bytes of the k-th item of an image, where they stand (proofs/Standing.antt). Of other bytes, what the pointers say of them.
 pub fn item(image: &[u8], k: usize) -> &[u8]
     ensures { result.now ≡ item_at image.now k }
 {
