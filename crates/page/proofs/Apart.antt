@@ -13,6 +13,7 @@ use Rattle.frame.proofs.Frames.{frame_bytes_lem}
 use Rattle.memory.specs.Image.{image_bytes}
 use Rattle.content.specs.Content.{Point, Content, point_bytes, frames_bytes, Admitted, image_of}
 use Rattle.content.proofs.Admits.{SnippetAdmitted, SequenceAdmitted}
+use Rattle.content.proofs.Codec.{cons_eq}
 use Rattle.content.proofs.Points.{snippet_codec}
 use Rattle.page.specs.Lines.{blank, newline, digit, two_digits, in_capitals, snippet_line, frame_line, frame_lines, numbered, page_lines, page_of}
 use Rattle.page.specs.Page.{Line}
@@ -36,9 +37,6 @@ first_line (x ∷ xs) = x
 
 no_cons : {A X : Type 0} {x : A} {xs : List A} → [] ≡ x ∷ xs → X
 no_cons e = absurd (omega (arith, ap length e))
-
-cons_eq : {A : Type 0} {x y : A} {xs ys : List A} → x ≡ y → xs ≡ ys → x ∷ xs ≡ y ∷ ys
-cons_eq e f = λ i. e i ∷ f i
 
 -- ---- digits
 
