@@ -9,7 +9,7 @@ use Rattle.frame.specs.declared.FrameBuilder.{FrameBuilder}
 use Rattle.frame.specs.Frame.{bytes_of}
 use Rattle.content.specs.Content.{Content, point_bytes}
 use Rattle.content.proofs.Codec.{none_some, some_inj}
-use Rattle.page.proofs.Found.{found_map}
+use Rattle.page.proofs.Standing.{found_map}
 use Rattle.page.specs.Lines.{snippet_line, frame_line, frame_lines, numbered, page_lines}
 
 -- what is found in a list is found in front of another, and what is found in the other behind it

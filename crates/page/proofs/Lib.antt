@@ -1,5 +1,5 @@
 pub mod Placed
-pub mod Found
+pub mod Numbered
 pub mod Wide
 pub mod Standing
 pub mod Pages

@@ -23,7 +23,6 @@ use Rattle.reader.proofs.Running.{ok, every_ok}
 use Rattle.readings.specs.InPlace.{item_at, before_item}
 use Rattle.readings.proofs.Standing.{known}
 use Rattle.page.specs.InPlace.{items_at, those, frames_in}
-use Rattle.page.proofs.Found.{found_map}
 
 -- ---- one item more
 
@@ -89,6 +88,11 @@ frames_most image k (suc n) =
     omega (arith, length-append (frames_in (item_at image k)) (joined (map frames_in (items_at image (suc k) n))), frames_few (item_at image k), frames_most image (suc k) n)
 
 -- ---- the items that were read
+
+pub found_map : {A B : Type 0} (g : A → B) (xs : List A) (i : ℕ) (x : A) → get_elem? xs i ≡ some x → get_elem? (map g xs) i ≡ some (g x)
+found_map g [] i x e = none_some x e
+found_map g (y ∷ xs) zero x e = ap (λ z. some (g z)) (some_inj e)
+found_map g (y ∷ xs) (suc i) x e = found_map g xs i x e
 
 -- what a function gives of n items, by what is found at each place
 items_are : {A : Type 0} (g : List ℕ → A) (image : List ℕ) (k n : ℕ) (xs : List A) → length xs ≡ n → ((i : ℕ) → i < n → get_elem? xs i ≡ some (g (item_at image (k + i)))) → map g (items_at image k n) ≡ xs

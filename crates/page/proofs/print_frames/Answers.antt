@@ -6,7 +6,7 @@ use Rattle.frame.specs.Frame.{bytes_of}
 use Rattle.reader.specs.Walk.{frames_left}
 use Rattle.page.specs.InPlace.{those}
 use Rattle.page.specs.Lines.{frame_line, numbered}
-use Rattle.page.proofs.Found.{line_more}
+use Rattle.page.proofs.Numbered.{line_more}
 use Rattle.page.proofs.Wide.{frame_wide}
 use Rattle.page.proofs.print_frames.Goals as goal
 

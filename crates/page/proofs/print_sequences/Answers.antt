@@ -8,7 +8,7 @@ use Rattle.readings.specs.InPlace.{item_at}
 use Rattle.page.specs.InPlace.{items_at, frames_in}
 use Rattle.page.specs.Lines.{frame_lines, numbered}
 use Rattle.page.proofs.Placed.{lines_placed, placed_none}
-use Rattle.page.proofs.Found.{numbered_next}
+use Rattle.page.proofs.Numbered.{numbered_next}
 use Rattle.page.proofs.Standing.{items_next, items_end, frames_next}
 use Rattle.page.proofs.Wide.{frames_wide}
 use Rattle.page.proofs.print_sequences.Goals as goal
