@@ -1,9 +1,10 @@
 -- Images that print alike are equal: lines of one width are cut alike, their first letter parts snippets from frames, and a line gives back its
 -- numbers and bytes.
 -- Assumes nothing.
-use Rattle.std.proofs.Common.{◌*◌, ◌≡◌, ◌+◌, ◌/◌, ◌%◌, ◌-◌, ◌≤◌, ◌<◌, ◌++◌, ◌∙◌, ℕ, suc, zero, cond, ltb, List, [], ◌∷◌, map, length, replicate, get_or, refl, sym, ap, arith}
+use Rattle.std.proofs.Common.{◌≡◌, ◌+◌, ◌/◌, ◌%◌, ◌-◌, ◌≤◌, ◌<◌, ◌++◌, ◌∙◌, ℕ, suc, zero, cond, ltb, List, [], ◌∷◌, map, length, take, drop, replicate, get_or, refl, sym, ap, arith}
 use mathlib.Core.List.{append_assoc}
 use lib.ListN.{length-append}
+use lib.Seq.{take_at, drop_at}
 use Rattle.laws.specs.Bytes.{All, Bytes}
 use Rattle.laws.specs.Lists.{joined}
 use Rattle.laws.proofs.Tests.{same}
@@ -12,11 +13,13 @@ use Rattle.frame.specs.Frame.{bytes_of}
 use Rattle.frame.proofs.Frames.{frame_bytes_lem}
 use Rattle.memory.specs.Image.{image_bytes}
 use Rattle.content.specs.Content.{Point, Content, point_bytes, frames_bytes, Admitted, image_of}
-use Rattle.content.proofs.Admits.{SnippetAdmitted, SequenceAdmitted}
+use Rattle.content.proofs.Admits.{SnippetAdmitted}
 use Rattle.content.proofs.Codec.{cons_eq}
 use Rattle.content.proofs.Points.{snippet_codec}
 use Rattle.page.specs.Lines.{blank, newline, digit, two_digits, in_capitals, snippet_line, frame_line, frame_lines, numbered, page_lines, page_of}
-use Rattle.page.specs.Page.{Line}
+use Rattle.page.specs.Page.{decimal, Line}
+use Rattle.page.proofs.Long.{Begun, begun}
+use Rattle.page.proofs.Said.{decimal_said}
 use Rattle.page.proofs.Shown.{lines_shown}
 
 -- ---- lists
@@ -53,14 +56,10 @@ digit_same m n h g e = sym (value_digit m h) ∙ ap value_of e ∙ value_digit n
 digit_least : (m : ℕ) → m < 16 → 48 ≤ digit m
 digit_least m h = omega (arith, same (λ k. 48 - digit k) (λ k. 0) 16 refl m h)
 
--- two digits give their number back
-abbrev number_of : List ℕ → ℕ
-number_of l = 10 * value_of (get_or l 0 0) + value_of (get_or l 1 0)
-
 number_same : (i k : ℕ) (r t : List ℕ) → i < 100 → k < 100 → two_digits i ++ r ≡ two_digits k ++ t → i ≡ k
-number_same i k r t h g e = sym (value i h) ∙ ap number_of e ∙ value k g where
-  value : (n : ℕ) → n < 100 → number_of (two_digits n) ≡ n
-  value = same (λ n. number_of (two_digits n)) (λ n. n) 100 refl
+number_same i k r t h g e =
+    let d : decimal i ++ r ≡ decimal k ++ t = (λ n. sym (decimal_said i h) n ++ r) ∙ e ∙ (λ n. decimal_said k g n ++ t) in
+    omega (arith, head_eq d, head_eq (rest_eq d))
 
 -- ---- the hexadecimal of bytes, up to the blanks
 
@@ -99,9 +98,6 @@ sequence_same : (i k j l : ℕ) (bs cs : List ℕ) → i < 100 → k < 100 → f
 sequence_same i k j l bs cs h g e = number_same i k _ _ h g (rest_eq e)
 
 -- ---- the lines of a page
-
-abbrev Begun : List (List FrameBuilder) → Type 0
-Begun qs = All (λ (fs : List FrameBuilder). 1 ≤ length fs) qs
 
 -- the lines of sequences from number k on
 abbrev from : ℕ → List (List FrameBuilder) → List (List ℕ)
@@ -152,11 +148,10 @@ snippets_same i (x ∷ ss) (y ∷ ts) qs rs a b h g e =
 -- ---- lines of 37 bytes
 
 front_same : (x y r t : List ℕ) → length x ≡ length y → x ++ r ≡ y ++ t → (x ≡ y) × (r ≡ t)
-front_same [] [] r t h e = (refl, e)
-front_same [] (b ∷ y) r t h e = absurd (omega (arith, h))
-front_same (a ∷ x) [] r t h e = absurd (omega (arith, h))
-front_same (a ∷ x) (b ∷ y) r t h e =
-    let s = front_same x y r t (omega (arith, h)) (rest_eq e) in (cons_eq (head_eq e) s.0, s.1)
+front_same x y r t h e = (
+  sym (take_at x r (length x) refl) ∙ ap (take (length x)) e ∙ take_at y t (length x) (sym h),
+  sym (drop_at x r (length x) refl) ∙ ap (drop (length x)) e ∙ drop_at y t (length x) (sym h),
+)
 
 wide : (l : List ℕ) → Line l → length l ≡ 37
 wide l h = omega (arith, ap length h.ends, length-append h.body (newline ∷ []), h.wide)
@@ -169,10 +164,6 @@ lines_same (x ∷ xs) (y ∷ ys) h g e =
     let s = front_same x y (joined xs) (joined ys) (wide x h.0 ∙ sym (wide y g.0)) e in cons_eq s.0 (lines_same xs ys h.1 g.1 s.1)
 
 -- ---- the image
-
-begun : (qs : List (List FrameBuilder)) → All SequenceAdmitted qs → Begun qs
-begun [] h = tt
-begun (x ∷ xs) h = (h.0.nonempty, begun xs h.1)
 
 pub same_page : (c d : Content) → Admitted c → Admitted d → page_of c ≡ page_of d → image_of c ≡ image_of d
 unfolding page_of image_of

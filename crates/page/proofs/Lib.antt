@@ -4,6 +4,7 @@ pub mod Wide
 pub mod Standing
 pub mod Pages
 pub mod Long
+pub mod Said
 pub mod Shown
 pub mod Indexed
 pub mod Apart

@@ -39,19 +39,21 @@ frames_fit (q ∷ qs) h = omega (arith, h.0.few, frames_fit qs h.1, length-appen
 snippet_some : (ss : List (List Point)) → All SnippetAdmitted ss → All (λ x. 1 ≤ length x) (map point_bytes ss)
 snippet_some ss h = all_map (λ x. 1 ≤ length x) point_bytes (λ ps g. omega (arith, g.nonempty, length-map ps byte_of)) ss h
 
-sequence_some : (qs : List (List FrameBuilder)) → All SequenceAdmitted qs → length qs ≤ length (joined qs)
-sequence_some qs h = items_most qs (all_each qs h) where
-  all_each : (xs : List (List FrameBuilder)) → All SequenceAdmitted xs → All (λ x. 1 ≤ length x) xs
-  all_each [] g = tt
-  all_each (x ∷ xs) g = (g.0.nonempty, all_each xs g.1)
+-- each sequence has a frame
+abbrev pub Begun : List (List FrameBuilder) → Type 0
+Begun qs = All (λ (fs : List FrameBuilder). 1 ≤ length fs) qs
+
+pub begun : (qs : List (List FrameBuilder)) → All SequenceAdmitted qs → Begun qs
+begun [] h = tt
+begun (x ∷ xs) h = (h.0.nonempty, begun xs h.1)
 
 -- 2 to 94 lines
-pub few_lines : (c : Content) → Admitted c → (2 ≤ length c.snippets + length (joined c.sequences)) × (length c.snippets + length (joined c.sequences) ≤ 94)
+few_lines : (c : Content) → Admitted c → (2 ≤ length c.snippets + length (joined c.sequences)) × (length c.snippets + length (joined c.sequences) ≤ 94)
 few_lines c a =
     let s = map point_bytes c.snippets in
     let q = map frames_bytes c.sequences in
     let bytes = ap length (joined_append s q) ∙ length-append (joined s) (joined q) in (
-      omega (arith, a.snippets.nonempty, a.sequences.nonempty, sequence_some c.sequences a.sequences.each),
+      omega (arith, a.snippets.nonempty, a.sequences.nonempty, items_most c.sequences (begun c.sequences a.sequences.each)),
       omega (
         arith,
         a.fits,

@@ -11,13 +11,14 @@ use Rattle.laws.proofs.Copies.{copied_fits}
 use Rattle.content.specs.Content.{Content, byte_of, point_bytes, Admitted}
 use Rattle.content.specs.ReadImage.{read_image}
 use Rattle.content.proofs.Images.{image_codec}
-use Rattle.frame.specs.declared.FrameBuilder.{FrameBuilder}
 use Rattle.readings.specs.InPlace.{header_of}
 use Rattle.page.specs.InPlace.{items_at, frames_in}
-use Rattle.page.specs.Lines.{snippet_line, frame_lines, numbered, page_of}
+use Rattle.page.specs.Lines.{snippet_line, frame_lines, numbered, page_lines, page_of}
 use Rattle.page.proofs.Placed.{placed_more}
 use Rattle.page.proofs.Standing.{snippets_stand, sequences_stand}
-use Rattle.page.proofs.Wide.{snippet_wide, frames_wide}
+use Rattle.page.proofs.Indexed.{lines_count}
+use Rattle.page.proofs.Shown.{lines_shown, joined_lines}
+use Rattle.page.proofs.Wide.{snippet_wide}
 
 pub snippets_few : (c : Content) → Admitted c → All (λ l. length l ≤ 16) (map point_bytes c.snippets)
 snippets_few c a = all_map (λ l. length l ≤ 16) point_bytes (λ ps h. omega (arith, h.few, length-map ps byte_of)) c.snippets a.snippets.each
@@ -27,22 +28,9 @@ snippets_wide n [] h = refl
 snippets_wide n (l ∷ ls) h =
     omega (arith, length-append (snippet_line n l) (joined (numbered snippet_line (suc n) ls)), snippet_wide n l h.0, snippets_wide (suc n) ls h.1)
 
-sequences_wide : (n : ℕ) (qs : List (List FrameBuilder)) → length (joined (joined (numbered frame_lines n qs))) ≡ 37 * length (joined qs)
-sequences_wide n [] = refl
-sequences_wide n (q ∷ qs) =
-    let rest = joined (numbered frame_lines (suc n) qs) in
-    ap length (joined_append (frame_lines n q) rest)
-    ∙ omega (arith, length-append (joined (frame_lines n q)) (joined rest), length-append q (joined qs), frames_wide n 1 q, sequences_wide (suc n) qs)
-
 pub length_page : (c : Content) → Admitted c → length (page_of c) ≡ 37 * (length c.snippets + length (joined c.sequences))
 unfolding page_of
-length_page c a =
-    let s = numbered snippet_line 1 (map point_bytes c.snippets) in
-    let q = joined (numbered frame_lines 0 c.sequences) in
-    ap length (joined_append s q)
-    ∙ omega (arith, length-append (joined s) (joined q), snippets_wide 1 (map point_bytes c.snippets) (snippets_few c a), sequences_wide 0 c.sequences, length-map c.snippets point_bytes)
-
--- ---- what is placed
+length_page c a = joined_lines (page_lines c) (lines_shown c a) ∙ ap (λ n. 37 * n) (lines_count c)
 
 -- ---- what is counted
 

@@ -1,7 +1,7 @@
 -- Bytes placed one part behind the other are placed end to end.
 -- Assumes nothing.
 use Rattle.std.proofs.Common.{◌≡◌, ◌+◌, ◌*◌, ◌++◌, ◌∙◌, ℕ, zero, suc, List, [], ◌∷◌, length, set, sym, ap, refl, arith}
-use lib.ListN.{length-append, length-take, length-drop, drop_of_length-le}
+use lib.ListN.{drop_of_length-le}
 use Rattle.laws.specs.Copied.{placed}
 
 pub placed_none : (l : List ℕ) (at : ℕ) → placed l at [] ≡ l
@@ -32,9 +32,6 @@ placed_two l at x y r =
 
       two : suc (suc at) ≡ at + 2
       two = omega arith
-
-pub length_placed : (l : List ℕ) (at : ℕ) (b : List ℕ) → length (placed l at b) ≡ length l
-length_placed l at b = simp (length-append, length-take, length-drop) (omega arith)
 
 -- k lines more
 pub lines_placed : (out : List ℕ) (n m k : ℕ) (x r : List ℕ) → length x ≡ 37 * k → m ≡ n + k → placed (placed out (37 * n) x) (37 * m) r ≡ placed out (37 * n) (x ++ r)

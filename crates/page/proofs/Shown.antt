@@ -13,7 +13,7 @@ use Rattle.content.specs.Content.{Point, Content, byte_of, point_bytes, Admitted
 use Rattle.content.proofs.Admits.{SnippetAdmitted, SequenceAdmitted}
 use Rattle.content.proofs.Points.{snippet_codec}
 use Rattle.page.specs.Lines.{characters, blank, newline, digit, two_digits, in_capitals, line, snippet_line, frame_line, frame_lines, numbered, page_lines}
-use Rattle.page.specs.Page.{among, Line}
+use Rattle.page.specs.Page.{prints, Line}
 use Rattle.page.proofs.Wide.{length_capitals, few_bytes}
 
 abbrev code_of : Bool → ℕ
@@ -22,11 +22,11 @@ code_of false = 0
 
 -- one of the request's characters
 abbrev Shown : ℕ → Type 0
-Shown b = among (characters " 0123456789ABCDEFS") b ≡ true
+Shown b = prints b ≡ true
 
 -- what a function gives below a bound, by a test of each
-shown : (f : ℕ → ℕ) (n : ℕ) → all (λ k. eqb (code_of (among (characters " 0123456789ABCDEFS") (f k))) 1) n ≡ true → (k : ℕ) → k < n → Shown (f k)
-shown f n t k h = go (among (characters " 0123456789ABCDEFS") (f k)) (same (λ j. code_of (among (characters " 0123456789ABCDEFS") (f j))) (λ j. 1) n t k h) where
+shown : (f : ℕ → ℕ) (n : ℕ) → all (λ k. eqb (code_of (prints (f k))) 1) n ≡ true → (k : ℕ) → k < n → Shown (f k)
+shown f n t k h = go (prints (f k)) (same (λ j. code_of (prints (f j))) (λ j. 1) n t k h) where
   go : (u : Bool) → code_of u ≡ 1 → u ≡ true
   go true e = refl
   go false e = absurd (omega (arith, e))
@@ -51,7 +51,7 @@ a_line l h p =
       body = l ++ replicate (36 - length l) blank;
       ends = refl;
       wide = omega (arith, length-append l (replicate (36 - length l) blank), length-replicate (36 - length l) blank);
-      prints = all_append Shown l (replicate (36 - length l) blank) p (shown_blanks (36 - length l));
+      shown = all_append Shown l (replicate (36 - length l) blank) p (shown_blanks (36 - length l));
     }
 
 snippet_shown : (i : ℕ) (bytes : List ℕ) → i < 100 → length bytes ≤ 16 → Bytes bytes → Line (snippet_line i bytes)

@@ -82,12 +82,23 @@ frames_next image k n i h =
 pub frames_end : (image : List ℕ) (k n i : ℕ) → n ≤ i → left_in image k n i ≡ 0
 frames_end image k n i h = ap (λ l. length (joined (map frames_in l))) (items_end image k n i h)
 
-pub frames_most : (image : List ℕ) (k n : ℕ) → length (joined (map frames_in (items_at image k n))) ≤ 32 * n
-frames_most image k zero = omega arith
-frames_most image k (suc n) =
-    omega (arith, length-append (frames_in (item_at image k)) (joined (map frames_in (items_at image (suc k) n))), frames_few (item_at image k), frames_most image (suc k) n)
+pub frames_bound : (image : List ℕ) (k n : ℕ) → length (joined (map frames_in (items_at image k n))) ≤ 32 * n
+frames_bound image k zero = omega arith
+frames_bound image k (suc n) =
+    omega (arith, length-append (frames_in (item_at image k)) (joined (map frames_in (items_at image (suc k) n))), frames_few (item_at image k), frames_bound image (suc k) n)
 
 -- ---- the items that were read
+
+-- by what is found at a place
+pub found_inside : {A : Type 0} (xs : List A) (i : ℕ) (x : A) → get_elem? xs i ≡ some x → i < length xs
+found_inside [] i x e = none_some x e
+found_inside (y ∷ xs) zero x e = omega arith
+found_inside (y ∷ xs) (suc i) x e = omega (arith, found_inside xs i x e)
+
+pub all_found : {A : Type 0} (P : A → Type 0) (xs : List A) (i : ℕ) (x : A) → All P xs → get_elem? xs i ≡ some x → P x
+all_found P [] i x h e = none_some x e
+all_found P (y ∷ xs) zero x h e = subst P (some_inj e) h.0
+all_found P (y ∷ xs) (suc i) x h e = all_found P xs i x h.1 e
 
 pub found_map : {A B : Type 0} (g : A → B) (xs : List A) (i : ℕ) (x : A) → get_elem? xs i ≡ some x → get_elem? (map g xs) i ≡ some (g x)
 found_map g [] i x e = none_some x e

@@ -1,7 +1,7 @@
 -- Lines are 37 bytes: what is placed in an empty one.
 -- Assumes nothing.
-use Rattle.std.proofs.Common.{◌≡◌, ◌+◌, ◌*◌, ◌-◌, ◌%◌, ◌≤◌, ◌<◌, ◌++◌, ◌∙◌, ℕ, zero, suc, Bool, true, false, cond, Option, Some, None, List, [], ◌∷◌, map, length, drop, get_or, set, replicate, refl, sym, ap, subst, arith}
-use Rattle.std.proofs.lemmas.List.{drop_more}
+use Rattle.std.proofs.Common.{◌≡◌, ◌+◌, ◌*◌, ◌-◌, ◌%◌, ◌≤◌, ◌<◌, ◌++◌, ◌∙◌, ℕ, suc, Bool, true, false, cond, Option, Some, None, List, [], ◌∷◌, map, length, drop, get_or, set, replicate, refl, sym, ap, subst, arith}
+use Rattle.std.proofs.lemmas.List.{drop_more, drop-append-le, drop-replicate}
 use mathlib.Core.List.{append_assoc}
 use lib.ListN.{length-append, length-replicate, drop_of_length-le}
 use Rattle.laws.specs.Copied.{copied, placed}
@@ -14,9 +14,8 @@ use Rattle.page.proofs.Placed.{placed_more, placed_none, placed_two}
 
 -- what is left of an empty line behind a text
 blanks_left : (n m : ℕ) → n ≤ m → drop {A = ℕ} n (replicate m blank ++ newline ∷ []) ≡ replicate (m - n) blank ++ newline ∷ []
-blanks_left zero m h = ap (λ k. replicate k blank ++ newline ∷ []) (omega arith)
-blanks_left (suc n) zero h = absurd (omega arith)
-blanks_left (suc n) (suc m) h = blanks_left n m (omega arith) ∙ ap (λ k. replicate k blank ++ newline ∷ []) (omega arith)
+blanks_left n m h =
+    drop-append-le n (replicate m blank) (newline ∷ []) (omega (arith, h, length-replicate m blank)) ∙ ap (λ l. l ++ newline ∷ []) (drop-replicate n m blank)
 
 -- a text and behind it another in an empty line
 pub text_placed : (empty head text : List ℕ) → empty ≡ replicate 36 blank ++ newline ∷ [] → length head + length text ≤ 36

@@ -21,6 +21,9 @@ use reader::ReadFrames;
 // 36 characters and a newline.
 const LINE_SIZE: usize = 37;
 
+// Room for any page: a hundred bytes have 94 lines at most.
+pub const PAGE_SIZE: usize = 3478;
+
 // Prints the page into the front of `out` and answers its length; or NotAnImage, or last BufferTooShort, and `out` stays.
 pub fn page(image: &[u8], out: &mut [u8]) -> Result<usize, Error>
     ensures answer { told result ≡ length_of (whole out.old (page_item (read_image image.now))) }
@@ -38,7 +41,7 @@ pub fn page(image: &[u8], out: &mut [u8]) -> Result<usize, Error>
 
 // ---- the lines of an image of s snippets and q sequences
 
-// How many there are.
+// How many there are: 255 and 255 times 32 at most.
 fn lines(image: &[u8], s: u8, q: u8) -> usize
     ensures value { result ≡ s + length (joined (map frames_in (items_at image.now s q))) }
     ensures upper_bound { result ≤ 8415 }
@@ -79,22 +82,26 @@ fn print_sequences(out: &mut [u8], image: &[u8], s: u8, q: u8)
     requires { 37 * (s + length (joined (map frames_in (items_at image.now s q)))) ≤ length out.old }
     ensures { out.new ≡ placed out.old (37 * s) (joined (joined (numbered frame_lines 0 (map frames_in (items_at image.now s q))))) }
 {
-    let mut line = usize::from(s);
+    let mut above = usize::from(s);
     for i in 0..usize::from(q) {
-        line += print_frames(out, line, i, readings::item(image, usize::from(s) + i));
+        above += print_frames(out, above, i, readings::item(image, usize::from(s) + i));
     }
 }
 
-// A sequence's lines, behind so many; answers how many those are.
-fn print_frames(out: &mut [u8], line: usize, i: usize, bytes: &[u8]) -> usize
-    requires { 37 * (line + length (frames_in bytes.now)) ≤ length out.old }
+// The lines of the sequence with this number, behind those above; answers how many they are.
+fn print_frames(out: &mut [u8], above: usize, sequence: usize, bytes: &[u8]) -> usize
+    requires { 37 * (above + length (frames_in bytes.now)) ≤ length out.old }
     ensures value { result ≡ length (frames_in bytes.now) }
-    ensures out_after { out.new ≡ placed out.old (37 * line) (joined (frame_lines i (frames_in bytes.now))) }
+    ensures out_after { out.new ≡ placed out.old (37 * above) (joined (frame_lines sequence (frames_in bytes.now))) }
 {
     let mut j = 0;
     for frame in ReadFrames::new(bytes) {
         if let Ok(frame) = frame {
-            laws::copy_at(out, LINE_SIZE * (line + j), &frame_line(i, j + 1, frame));
+            laws::copy_at(
+                out,
+                LINE_SIZE * (above + j),
+                &frame_line(sequence, j + 1, frame),
+            );
             j += 1;
         }
     }
@@ -103,19 +110,19 @@ fn print_frames(out: &mut [u8], line: usize, i: usize, bytes: &[u8]) -> usize
 
 // ---- a line
 
-fn snippet_line(i: usize, points: &[u8]) -> [u8; LINE_SIZE]
+fn snippet_line(number: usize, points: &[u8]) -> [u8; LINE_SIZE]
     requires { length points.now ≤ 16 }
-    ensures { result ≡ snippet_line i points.now }
+    ensures { result ≡ snippet_line number points.now }
 {
-    let [tens, ones] = two_digits(i);
+    let [tens, ones] = two_digits(number);
     line(&[b'S', tens, ones, b' '], points)
 }
 
-fn frame_line(i: usize, j: usize, frame: FrameBuilder) -> [u8; LINE_SIZE]
-    ensures { result ≡ frame_line i j (bytes_of frame) }
+fn frame_line(sequence: usize, number: usize, frame: FrameBuilder) -> [u8; LINE_SIZE]
+    ensures { result ≡ frame_line sequence number (bytes_of frame) }
 {
-    let [tens, ones] = two_digits(i);
-    let [frame_tens, frame_ones] = two_digits(j);
+    let [tens, ones] = two_digits(sequence);
+    let [frame_tens, frame_ones] = two_digits(number);
     let head = [b'F', tens, ones, b' ', frame_tens, frame_ones, b' '];
     line(&head, frame.build().as_bytes())
 }

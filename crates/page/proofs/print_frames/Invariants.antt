@@ -10,6 +10,6 @@ use Rattle.page.proofs.print_frames.Given as goal
 
 abbrev pub invariant-loop-frame : goal.invariant-loop-frame
 invariant-loop-frame l =
-    (placed l.out (37 * (l.line + l.j)) (joined (numbered (frame_line l.i) (l.j + 1) (map bytes_of (those (frames_left l.frame-iterator)))))
-    ≡ placed l.fn.out (37 * l.line) (joined (frame_lines l.i (frames_in l.bytes))))
+    (placed l.out (37 * (l.above + l.j)) (joined (numbered (frame_line l.sequence) (l.j + 1) (map bytes_of (those (frames_left l.frame-iterator)))))
+    ≡ placed l.fn.out (37 * l.above) (joined (frame_lines l.sequence (frames_in l.bytes))))
     × (l.j + length (those (frames_left l.frame-iterator)) ≡ length (frames_in l.bytes))
