@@ -1,5 +1,6 @@
 // The main job, printed: two patterns made by the builders, their images, the lists that the reader gives back, their pages for the binder,
-// and the driver on a simulated chip. rust/harness/tests/example.rs holds what `stdout` says against the published Rust.
+// and the driver on a simulated chip. rust/harness/tests/example.rs holds what `stdout` says against the published Rust,
+// and the pages against a plain printer.
 // Proved: every function returns.
 #![tactic(auto)]
 

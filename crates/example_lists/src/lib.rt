@@ -37,12 +37,9 @@ pub fn read(rt: &impl Print, image: &[u8]) -> io::Result<()> {
     }
 }
 
-// The longest page: 94 lines of 36 characters and a newline.
-const PAGE: usize = 3478;
-
 /// The page of the image as it is, or the refusal.
 pub fn page(rt: &impl Print, image: &[u8]) -> io::Result<()> {
-    let mut out = [0u8; PAGE];
+    let mut out = [0u8; page::PAGE_SIZE];
     match page::page(image, &mut out) {
         Ok(length) => rt.write_all(out.get(..length).unwrap_or(&[])),
         Err(e) => println!(rt; "  refused with {}", Refusal(e)),

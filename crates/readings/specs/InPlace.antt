@@ -38,7 +38,7 @@ abbrev pub before_item : List ℕ → ℕ → ℕ
 before_item image zero = 1 + get_or image 0 0 + get_or image 1 0
 before_item image (suc k) = get_or image (2 + k) 0
 
--- the bytes behind that one, up to the k-th pointer
+-- the bytes behind that index, up to the k-th pointer
 unfoldable pub item_at : List ℕ → ℕ → List ℕ
 item_at image k = item image (before_item image k) (get_or image (2 + k) 0)
 

@@ -1,6 +1,6 @@
 // What an image is read back to, as numbers and bytes for C (added; no Rust file; document 01, 'The hundred bytes'): the counts, and the
 // points and frames one by one, read where they stand in the lent bytes; or all lists at once, as the reader makes them. And the bytes of each
-// item, for what is made of them elsewhere.
+// item, from which `page` prints.
 // Proved: each is that of the content that the reader's contract speaks of, for any bytes and any indexes; how it is one number is
 // specs/Readings.antt, how all are bytes specs/Lists.antt, and that no two are confused specs/Telling.antt. `header`, `item` and the private
 // functions answer specs/InPlace.antt and specs/Laying.antt.
@@ -207,6 +207,7 @@ impl Gather for Sequences {
 pub fn item(image: &[u8], k: usize) -> &[u8]
     ensures { result.now ≡ item_at image.now k }
 {
+    // by parts and not by index: 2 + k would not fit for every k
     let pointers = &image[k.min(image.len())..];
     let last = if k == 0 {
         1 + usize::from(laws::byte_at(image, 0)) + usize::from(laws::byte_at(image, 1))
