@@ -186,9 +186,9 @@ uint8_t da728x_assemble(const uint8_t *calls, size_t calls_len,
                         uint8_t *image, size_t image_len);
 
 /* The rest reads an image: a hundred bytes that the builders can make. Snippets, points,
- * sequences and frames count from 0, so a frame's snippet number 1 is the snippet at 0 here. A
- * frame may name a snippet that the image does not have. Bytes that are no image, or of another
- * length, are refused with 18.
+ * sequences and frames count from 0, so a frame's snippet number 1 is the snippet at 0 here (a
+ * page numbers snippets and frames from 01). A frame may name a snippet that the image does not
+ * have. Bytes that are no image, or of another length, are refused with 18.
  *
  * 256 times how many snippets plus how many sequences, at least one of each; or 65536 * 18. */
 uint32_t da728x_read_counts(const uint8_t *image, size_t image_len);
@@ -251,6 +251,8 @@ uint32_t da728x_read_lists(const uint8_t *image, size_t image_len,
  *                                 out needs a byte more than is lent
  *   a page over a longer one      NO sign but the length: behind it out still has the last lines
  *                                 of the other
+ *   out lies over image           NO sign: the lines are written over the bytes that they are read
+ *                                 from
  *   another image than the one    NO sign: the page says what is in the bytes that are lent, not
  *   that is uploaded              what the chip has
  *   an image with a frame that    NO refusal: the frame is printed as any other, and no line S has

@@ -351,7 +351,7 @@ pub const PAGE: usize = 3478;
 /// Prints an image as the page that a station keeps on paper, into the front of `out`; its text.
 /// The other bytes of `out` stay.
 ///
-/// Each line has 36 characters, blanks at its end, and a newline. A snippet is S, its number from
+/// Each line is filled with blanks to 36 characters, and ends in a newline. A snippet is S, its number from
 /// 01, a blank and its points; a frame is F, its sequence from 00, a blank, its own number in that
 /// sequence from 01, a blank and its bytes: numbers in two digits, a point or byte in two
 /// hexadecimal capitals. Snippets come first, all in the image's order. Two images have the same
