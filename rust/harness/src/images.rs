@@ -8,6 +8,13 @@ use da728x::waveform::{WaveformMemory, WaveformMemoryBuilder};
 use std::mem;
 use yambelugo::{Call, Frame, IMAGE, PwlPoint};
 
+/// Document 01's example: snippet AA 00 with sequence 01.
+pub const EXAMPLE: [u8; IMAGE] = {
+    let mut image = [0; IMAGE];
+    *image.first_chunk_mut().unwrap() = [0x01, 0x01, 0x05, 0x06, 0xAA, 0x00, 0x01];
+    image
+};
+
 /// The bytes of each snippet's points and the frames of each sequence.
 #[derive(Debug, Clone, Default, PartialEq)]
 pub struct Lists {

@@ -3,7 +3,7 @@
 
 use harness::compared;
 use harness::damage::{built, damaged};
-use harness::images::plain;
+use harness::images::{EXAMPLE, plain};
 use harness::lists::MARKER;
 use harness::pages::{LINE, LONGEST, SHORTEST, page};
 use harness::random::Random;
@@ -405,13 +405,6 @@ fn neighbours() {
     compared("different pages of neighbours", kept, printed);
     judged.assert_met("neighbours", 10 * (1 + 255 * IMAGE), 0);
 }
-
-/// Document 01's example image.
-const EXAMPLE: [u8; IMAGE] = {
-    let mut image = [0; IMAGE];
-    *image.first_chunk_mut().unwrap() = [0x01, 0x01, 0x05, 0x06, 0xAA, 0x00, 0x01];
-    image
-};
 
 /// The image with most lines: a point, and 93 frames of one byte in three sequences.
 fn longest() -> [u8; IMAGE] {

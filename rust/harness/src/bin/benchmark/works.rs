@@ -7,6 +7,7 @@ use embedded_hal_async::i2c::{ErrorKind, ErrorType, I2c};
 use harness::bus::{MOST, at_once};
 use harness::driver::{record_bytes, revision};
 use harness::encoded;
+use harness::images::EXAMPLE;
 use harness::oracle::{Builders, matches, number};
 use harness::pages::LONGEST;
 use harness::patterns::{KINDS, mended};
@@ -99,12 +100,6 @@ impl Inputs {
         Self { patterns, mended, images, examples, longest, accepted, refused, words }
     }
 }
-
-const EXAMPLE: [u8; IMAGE] = {
-    let mut image = [0; IMAGE];
-    *image.first_chunk_mut().unwrap() = [0x01, 0x01, 0x05, 0x06, 0xAA, 0x00, 0x01];
-    image
-};
 
 /// The image of a page with 94 lines: a point, and 93 frames of one byte in three sequences.
 fn longest_page(random: &mut Random) -> [u8; IMAGE] {
