@@ -15,10 +15,11 @@ use Rattle.page.specs.Lines.{characters, page_lines, page_of, page_item}
 
 -- ---- lines in numbers, said once more; characters are those of ASCII
 
--- "exactly 36 characters and a newline": a blank, 0 to 9, A to F or S
+-- a blank, 0 to 9, A to F or S
 abbrev pub prints : ℕ → Bool
 prints b = eqb b 0x20 || leb 0x30 b && leb b 0x39 || leb 0x41 b && leb b 0x46 || eqb b 0x53
 
+-- "exactly 36 characters and a newline"
 pub record Line (l : List ℕ) : Type 0 where
   pub body : List ℕ
   pub ends : l ≡ body ++ 0x0A ∷ []
@@ -48,7 +49,7 @@ pub record Printed (image : List ℕ) (c : Content) : Type 0 where
   pub given : page_item (read_image image) ≡ gives (joined (page_lines c))
   pub text : page_of c ≡ joined (page_lines c)
   pub lines : All Line (page_lines c)
-  -- one for each snippet, then one for each frame; i and j count from 0, "S" is 53 and "F" is 46
+  -- one for each snippet, then one for each frame; i and j count from 0, 0x53 is S and 0x46 is F
   pub count : length (page_lines c) ≡ length c.snippets + length (joined c.sequences)
   pub snippet : (i : ℕ) (points : List Point) → get_elem? c.snippets i ≡ some points → get_elem? (page_lines c) i ≡ some (filled (0x53 ∷ decimal (i + 1) ++ 0x20 ∷ hexadecimal (point_bytes points)))
   pub frame : (i j : ℕ) (frames : List FrameBuilder) (f : FrameBuilder) → get_elem? c.sequences i ≡ some frames → get_elem? frames j ≡ some f
