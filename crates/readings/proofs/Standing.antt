@@ -6,7 +6,7 @@ use mathlib.Core.List.{List, [], ◌∷◌}
 use mathlib.Core.Option.{Option, some}
 use Prim.Native.Nat.{ℕ, zero, suc, ◌+◌, ◌-◌, ◌≤◌, ◌<◌}
 use native.Mathlib.Omega.{arith}
-use borrow.Author.Tests.{ltb-true, leb-true, eqb-true}
+use borrow.Author.Tests.{ltb-true, eqb-true}
 use lib.Dec.{ltb, leb, eqb}
 use lib.ListN.{length, take, drop, get_or, get_elem?, length-take, length-drop}
 use lib.Seq.{get_or-take, length-take-le}
@@ -57,9 +57,7 @@ one_cut : (p e : ℕ) (es image : List ℕ) (c : Cut) → cut p (e ∷ es) (drop
 one_cut p e es image c h =
     let l : List ℕ = drop (p + 1) image in
     let (t, h₁) = cond_some (ltb p e && leb (e - p) (length l)) _ h in
-    let (t₁, t₂) = (and-eq-true_iff (ltb p e) (leb (e - p) (length l))).0 t in
-    let u : p < e = ltb-true p e t₁ in
-    let v : e - p ≤ length l = leb-true (e - p) (length l) t₂ in
+    let u : p < e = ltb-true p e ((and-eq-true_iff (ltb p e) (leb (e - p) (length l))).0 t).0 in
     let (d, h₂, h₃) = then_some (cut e es (drop (e - p) l)) _ h₁ in
     record {
       more = d;
