@@ -9,19 +9,8 @@ use Rattle.frame.specs.declared.FrameBuilder.{FrameBuilder}
 use Rattle.frame.specs.Frame.{bytes_of}
 use Rattle.content.specs.Content.{Content, point_bytes}
 use Rattle.content.proofs.Codec.{none_some, some_inj}
-use Rattle.page.proofs.Standing.{found_map}
+use Rattle.readings.proofs.Items.{found_left, found_right, found_map}
 use Rattle.page.specs.Lines.{snippet_line, frame_line, frame_lines, numbered, page_lines}
-
--- what is found in a list is found in front of another, and what is found in the other behind it
-found_left : {A : Type 0} (xs ys : List A) (i : ℕ) (x : A) → get_elem? xs i ≡ some x → get_elem? (xs ++ ys) i ≡ some x
-found_left [] ys i x e = none_some x e
-found_left (z ∷ xs) ys zero x e = e
-found_left (z ∷ xs) ys (suc i) x e = found_left xs ys i x e
-
-found_right : {A : Type 0} (xs ys : List A) (i n : ℕ) → n ≡ length xs + i → get_elem? (xs ++ ys) n ≡ get_elem? ys i
-found_right [] ys i n e = ap (get_elem? ys) (e ∙ omega arith)
-found_right (x ∷ xs) ys i zero e = absurd (omega arith)
-found_right (x ∷ xs) ys i (suc n) e = found_right xs ys i n (omega arith)
 
 found_numbered : {A B : Type 0} (f : ℕ → A → B) (n m : ℕ) (xs : List A) (i : ℕ) (x : A) → m ≡ n + i → get_elem? xs i ≡ some x → get_elem? (numbered f n xs) i ≡ some (f m x)
 found_numbered f n m [] i x h e = none_some x e

@@ -1,27 +1,26 @@
 -- What stands in an image is what was read.
 -- Assumes nothing.
-use Rattle.std.proofs.Common.{◌≡◌, ◌+◌, ◌*◌, ◌-◌, ◌≤◌, ◌<◌, ◌∙◌, ℕ, zero, suc, Result, Ok, Err, List, [], ◌∷◌, map, length, take, drop, get_or, refl, sym, ap, subst, arith}
+use Rattle.std.proofs.Common.{◌≡◌, ◌+◌, ◌*◌, ◌≤◌, ◌<◌, ◌∙◌, ℕ, zero, suc, Result, Ok, Err, List, [], ◌∷◌, map, length, drop, get_or, refl, sym, ap, subst, arith}
 use Rattle.std.proofs.Math.Option.{Option, none, some}
 use Rattle.std.proofs.Math.ListN.{get_elem?}
-use lib.ListN.{length-append, length-map, drop_of_length-le, take-append-drop}
+use lib.ListN.{length-append, length-map, drop_of_length-le}
 use lib.Dec.{leb}
 use Rattle.std.proofs.lemmas.List.{map-id}
 use Rattle.errors.specs.declared.Error.{Error}
 use Rattle.errors.specs.declared.Error.TheVariants.{NotAnImage}
 use Rattle.laws.specs.Bytes.{All, Bytes}
 use Rattle.laws.specs.Lists.{joined}
-use Rattle.laws.proofs.Lists.{all_left, all_right}
 use Rattle.frame.specs.declared.FrameBuilder.{FrameBuilder}
 use Rattle.frame.specs.Read.{Parsed, read_frame}
-use Rattle.content.specs.Content.{Point, Content, point_bytes}
-use Rattle.content.specs.ReadImage.{on_option, every, and_then, read_frames, read_snippet, read_sequence, read_image}
+use Rattle.content.specs.Content.{Content, point_bytes}
+use Rattle.content.specs.ReadImage.{on_option, every, and_then, read_frames, read_sequence, read_image}
 use Rattle.content.proofs.Codec.{none_some, some_inj, cond_some}
-use Rattle.content.proofs.Points.{snippet_codec}
 use Rattle.reader.specs.Walk.{frames_from}
 use Rattle.reader.proofs.Placed.{elem_some}
 use Rattle.reader.proofs.Running.{ok, every_ok}
-use Rattle.readings.specs.InPlace.{item_at, before_item}
+use Rattle.readings.specs.InPlace.{item_at}
 use Rattle.readings.proofs.Standing.{known}
+use Rattle.readings.proofs.Items.{snippet_there}
 use Rattle.page.specs.InPlace.{items_at, those, frames_in}
 
 -- ---- one item more
@@ -100,11 +99,6 @@ all_found P [] i x h e = none_some x e
 all_found P (y ∷ xs) zero x h e = subst P (some_inj e) h.0
 all_found P (y ∷ xs) (suc i) x h e = all_found P xs i x h.1 e
 
-pub found_map : {A B : Type 0} (g : A → B) (xs : List A) (i : ℕ) (x : A) → get_elem? xs i ≡ some x → get_elem? (map g xs) i ≡ some (g x)
-found_map g [] i x e = none_some x e
-found_map g (y ∷ xs) zero x e = ap (λ z. some (g z)) (some_inj e)
-found_map g (y ∷ xs) (suc i) x e = found_map g xs i x e
-
 -- what a function gives of n items, by what is found at each place
 items_are : {A : Type 0} (g : List ℕ → A) (image : List ℕ) (k n : ℕ) (xs : List A) → length xs ≡ n → ((i : ℕ) → i < n → get_elem? xs i ≡ some (g (item_at image (k + i)))) → map g (items_at image k n) ≡ xs
 items_are g image k zero [] h e = refl
@@ -136,26 +130,7 @@ frames_read : (bytes : List ℕ) (fs : List FrameBuilder) → read_sequence byte
 unfolding read_sequence
 frames_read bytes fs e = frames_those (frames_from 32 bytes) fs (every_ok 32 bytes ∙ (cond_some (leb 1 (length bytes)) (read_frames 32 bytes) e).1)
 
--- the items are bytes
-item_bytes : (image : List ℕ) (k : ℕ) → Bytes image → Bytes (item_at image k)
-unfolding item_at
-item_bytes image k h =
-    let p = before_item image k in
-    let n = get_or image (2 + k) 0 - p in
-    let d : List ℕ = drop (p + 1) image in
-    all_left (λ b. b < 256) (take n d) (drop n d) (subst Bytes (sym (take-append-drop n d))
-    (all_right (λ b. b < 256) (take (p + 1) image) d (subst Bytes (sym (take-append-drop (p + 1) image)) h)))
-
 module _ (image : List ℕ) (b : Bytes image) (c : Content) (e : read_image image ≡ some c) where
-  snippet_there : (i : ℕ) → i < length c.snippets → get_elem? (map point_bytes c.snippets) i ≡ some (item_at image (0 + i))
-  snippet_there i h =
-      let k = known image c e in
-      let ps : List Point = get_or c.snippets i [] in
-      let found : get_elem? c.snippets i ≡ some ps = elem_some c.snippets i [] h in
-      let at : i ≡ 0 + i = omega arith in
-      let read : read_snippet (item_at image i) ≡ some ps = sym (k.snippet i (omega (arith, k.snippets))) ∙ found in
-      found_map point_bytes c.snippets i ps found ∙ ap some ((snippet_codec.sound (item_at image i) ps (item_bytes image i b) read).1) ∙ ap (λ j. some (item_at image j)) at
-
   sequence_there : (i : ℕ) → i < length c.sequences → get_elem? c.sequences i ≡ some (frames_in (item_at image (length c.snippets + i)))
   sequence_there i h =
       let k = known image c e in
@@ -169,7 +144,8 @@ module _ (image : List ℕ) (b : Bytes image) (c : Content) (e : read_image imag
   pub snippets_stand : items_at image 0 (length c.snippets) ≡ map point_bytes c.snippets
   snippets_stand =
       sym (map-id (items_at image 0 (length c.snippets)))
-      ∙ items_are (λ l. l) image 0 (length c.snippets) (map point_bytes c.snippets) (length-map c.snippets point_bytes) snippet_there
+      ∙ items_are (λ l. l) image 0 (length c.snippets) (map point_bytes c.snippets) (length-map c.snippets point_bytes)
+      (λ i h. snippet_there image b c e i (0 + i) h (omega arith))
 
   pub sequences_stand : map frames_in (items_at image (length c.snippets) (length c.sequences)) ≡ c.sequences
   sequences_stand = items_are frames_in image (length c.snippets) (length c.sequences) c.sequences refl sequence_there

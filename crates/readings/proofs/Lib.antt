@@ -4,3 +4,4 @@ pub mod Standing
 pub mod Told
 pub mod Words
 pub mod Telling
+pub mod Items

@@ -34,6 +34,7 @@ use Rattle.reader.specs.Reading.{parts, padded, laid}
 use Rattle.reader.specs.Items.{element}
 use Rattle.reader.proofs.Cuts.{last_of}
 use Rattle.reader.proofs.Flats.{shows}
+use Rattle.readings.proofs.Items.{item_there}
 use Rattle.readings.specs.Readings.{counts_answer, point_answer, frame_answer}
 use Rattle.readings.proofs.Codes.{point_code, byte_code, frame_code}
 use Rattle.readings.specs.Lists.{words_bytes, lists_of, lists_item, lists_answer}
@@ -341,4 +342,5 @@ readings_told =
       short = λ l h out c e. short l out c (held l c h e);
       unread = λ out. (refl, refl);
       refused = (refl, λ i j. (refl, refl));
+      items = item_there;
     }

@@ -1,13 +1,15 @@
 -- No two answers of this crate are confused: an answer that is a value is not that of a refusal, and images that are answered alike are
 -- read alike. Demand 3, "it returns lists that the builders admit and whose image those bytes are": they reach the caller.
-use Rattle.std.specs.Prelude.{◌≡◌, List, ◌++◌, ℕ, ◌<◌, ◌≤◌, length, drop}
+use Rattle.std.specs.Prelude.{◌≡◌, ◌+◌, List, ◌++◌, map, ℕ, ◌<◌, ◌≤◌, length, drop}
 use Rattle.std.proofs.Math.Option.{Option, none, some}
+use Rattle.std.proofs.Math.ListN.{get_elem?}
 use Rattle.laws.specs.Bytes.{Bytes}
 use Rattle.laws.specs.Whole.{whole_out}
 use Rattle.errors.specs.Packed.{packed, Room}
 use Rattle.errors.specs.Told.{Told, refuses}
-use Rattle.content.specs.Content.{Content}
+use Rattle.content.specs.Content.{Content, point_bytes, frames_bytes}
 use Rattle.content.specs.ReadImage.{read_image}
+use Rattle.readings.specs.InPlace.{item_at}
 use Rattle.readings.specs.Readings.{counts_answer, point_answer, frame_answer}
 use Rattle.readings.specs.Lists.{lists_of, lists_item, lists_answer}
 
@@ -35,3 +37,6 @@ pub record ReadingsTold : Type 0 where
   pub unread : (out : List ℕ) → (lists_answer out none ≡ refuses 18) × (whole_out out (lists_item none) ≡ out)
   -- nor is anything else told of it
   pub refused : (counts_answer none ≡ refuses 18) × ((i j : ℕ) → (point_answer none i j ≡ refuses 18) × (frame_answer none i j ≡ refuses 18))
+  -- the bytes of the k-th item are those of the k-th snippet, or of a sequence behind the snippets
+  pub items : (l : List ℕ) → Bytes l → (c : Content) → read_image l ≡ some c → (k : ℕ) → k < length c.snippets + length c.sequences
+      → get_elem? (map point_bytes c.snippets ++ map frames_bytes c.sequences) k ≡ some (item_at l k)
