@@ -28,4 +28,5 @@ has_number Error.InvalidVoltage = omega arith
 has_number Error.InvalidCurrentOrImpedance = omega arith
 has_number Error.InvalidDriveFrequency = omega arith
 has_number Error.BufferTooShort = omega arith
+has_number Error.MissingSnippet = omega arith
 has_number Error.MissingSequence = omega arith

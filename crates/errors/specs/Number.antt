@@ -30,8 +30,9 @@ number_and_code Error.NotConfigured = (15, 0)
 -- the board
 number_and_code Error.VariantMismatch = (16, 0)
 number_and_code (Error.I2c code) = (17, code)
--- whoever hands in an image to read
+-- whoever hands in an image to read; document 02: "naming a snippet its own image lacks is refused with 25"
 number_and_code Error.NotAnImage = (18, 0)
+number_and_code Error.MissingSnippet = (25, 0)
 -- the calling program; document 02: "A buffer shorter than the item is refused with 24", "a number not below it is refused with 28"
 number_and_code Error.OutOfTurn = (19, 0)
 number_and_code Error.BufferTooShort = (24, 0)

@@ -33,6 +33,7 @@ pub enum Error {
     InvalidCurrentOrImpedance,
     InvalidDriveFrequency,
     BufferTooShort,
+    MissingSnippet,
     MissingSequence,
 }
 
@@ -75,6 +76,7 @@ impl Error {
             Error::InvalidCurrentOrImpedance => 22,
             Error::InvalidDriveFrequency => 23,
             Error::BufferTooShort => 24,
+            Error::MissingSnippet => 25,
             Error::MissingSequence => 28,
         }
     }
