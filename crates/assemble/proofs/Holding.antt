@@ -19,10 +19,10 @@ use Rattle.sequence.specs.Sequence.{sequence_bytes}
 use Rattle.memory.specs.Image.{image_bytes}
 use Rattle.memory.specs.Memory.{new_memory, snippet_items, sequence_items, no_memory, memory_of, image_number, built_memory}
 use Rattle.memory.specs.declared.WaveformMemoryBuilder.{WaveformMemoryBuilder}
-use Rattle.assemble.specs.declared.pool.Pool.{Pool}
-use Rattle.assemble.specs.declared.pool.Kept.{Kept}
-use Rattle.assemble.specs.Kept.{kept, nothing_kept, Pushed, ImageLaid}
-use Rattle.assemble.proofs.Keeping.{count}
+use Rattle.pool.specs.declared.Pool.{Pool}
+use Rattle.pool.specs.declared.Kept.{Kept}
+use Rattle.pool.specs.Kept.{kept, nothing_kept, Pushed, ImageLaid}
+use Rattle.pool.proofs.Keeping.{count}
 use Rattle.assemble.specs.Holding.{Keeps, KeepsMemory}
 
 -- ---- an array whose first n items are kept

@@ -3,8 +3,6 @@ pub mod Example
 pub mod Flat
 pub mod Holding
 pub mod Items
-pub mod Keeping
-pub mod Lists
 pub mod Numbers
 pub mod Running
 pub mod Steps

@@ -27,8 +27,8 @@ use Rattle.std.specs.Option.{option_or, option_map}
 use Rattle.std.specs.Result.{result_err}
 use Rattle.assemble.specs.Flat.{State, state, flat_called}
 use Rattle.assemble.proofs.Flat.{nothing_yet, flat_after, flat_answers}
-use Rattle.assemble.specs.declared.pool.Kept.{Kept}
-use Rattle.assemble.specs.Kept.{nothing_kept}
+use Rattle.pool.specs.declared.Kept.{Kept}
+use Rattle.pool.specs.Kept.{nothing_kept}
 use Rattle.assemble.specs.Holding.{KeepsMemory, StepsMemory}
 use Rattle.assemble.proofs.Holding.{keeps_none}
 

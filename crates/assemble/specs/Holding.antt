@@ -6,10 +6,10 @@ use Rattle.sequence.specs.Sequence.{sequence_bytes}
 use Rattle.calls.specs.Said.{Call}
 use Rattle.calls.specs.declared.Builders.{Builders}
 use Rattle.memory.specs.declared.WaveformMemoryBuilder.{WaveformMemoryBuilder}
-use Rattle.assemble.specs.declared.pool.Pool.{Pool}
-use Rattle.assemble.specs.declared.pool.Kept.{Kept}
+use Rattle.pool.specs.declared.Pool.{Pool}
+use Rattle.pool.specs.declared.Kept.{Kept}
 use Rattle.assemble.specs.Flat.{State, state, flat_called}
-use Rattle.assemble.specs.Kept.{kept}
+use Rattle.pool.specs.Kept.{kept}
 
 -- the pool p keeps the first n items of an array
 pub record Keeps {A : Type 0} (most : ℕ) (bytes : A → List ℕ) (array : List A) (n : ℕ) (p : Pool most) : Type 0 where

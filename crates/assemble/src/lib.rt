@@ -2,12 +2,10 @@
 // Document 01, 'The hundred bytes': each call gets what the last handed back; a refused call adds nothing.
 // Proved: every function answers what specs/Lists.antt and Items.antt say of the calls, told apart by the builders that they go to, for any
 // bytes and any buffers; these are the lists of calls that demand 3 speaks of. specs/Items.antt: an item is all of it; specs/Strict.antt: what
-// the two forms that make an image answer; specs/UsedUp.antt: what a call finds. The memory's items are kept in bytes (src/pool.rt;
-// specs/Kept.antt) and not in its builder, which is large: specs/Flat.antt is a run with that builder, Holding.antt what the bytes keep of it.
+// the two forms that make an image answer; specs/UsedUp.antt: what a call finds. The memory's items are kept in bytes (crate
+// `pool`) and not in its builder, which is large: specs/Flat.antt is a run with that builder, Holding.antt what the bytes keep of it.
 // Left out: the acceleration flag, which changes nothing.
 #![tactic(auto)]
-
-mod pool;
 
 ghost use Rattle.std.specs.Prelude.{◌≡◌, false, length};
 ghost use Rattle.laws.specs.Copied.{copied};

@@ -13,7 +13,7 @@ use Rattle.laws.specs.Lists.{joined}
 use Rattle.memory.specs.Image.{end_pointers}
 use Rattle.std.specs.Prelude.{sum}
 use Rattle.std.proofs.lemmas.List.Sums.{sum_by-cons}
-use Rattle.assemble.specs.Kept.{ends}
+use Rattle.pool.specs.Kept.{ends}
 
 -- ---- of items
 

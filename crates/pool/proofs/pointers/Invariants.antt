@@ -1,8 +1,8 @@
 use Rattle.std.proofs.Common.{drop, ◌≡◌, ◌+◌}
 use Rattle.std.proofs.Math.Seq.{sets}
 use Rattle.std.specs.Prelude.{sum}
-use Rattle.assemble.specs.Kept.{ends}
-use Rattle.assemble.proofs.pool.pointers.Given as goal
+use Rattle.pool.specs.Kept.{ends}
+use Rattle.pool.proofs.pointers.Given as goal
 
 -- the ends that are left, stored, give what the whole gives
 abbrev pub invariant-loop-i : goal.invariant-loop-i

@@ -1,9 +1,10 @@
 -- Items kept, one item more, and the image that is laid out of them.
 -- Assumes nothing.
-use mathlib.Core.Path.{◌≡◌, sym, ap, ap₂, ◌∙◌}
+use mathlib.Core.Path.{◌≡◌, refl, sym, ap, ap₂, ◌∙◌}
 use mathlib.Core.Bool.{Bool, cond}
 use mathlib.Core.List.{List, [], ◌∷◌, ◌++◌, map, map-append, append_assoc, append-nil}
 use Prim.Native.Nat.{ℕ, suc, ◌+◌, ◌-◌, ◌≤◌, ◌<◌, min}
+use native.Mathlib.Decide.{dec_le}
 use native.Mathlib.Omega.{arith}
 use lib.ListN.{length, take, drop, set, replicate, length-append, length-map, length-replicate, length-take, length-drop, drop_of_length-le, replicate-append-replicate}
 use lib.Seq.{set-append_seam, take_at, drop_at, take_all}
@@ -12,6 +13,7 @@ use borrow.Author.Tests.{lt-ltb, le-ltb}
 use borrow.Rule.Slice.PartMut.{mid_of, post_of, put_mid}
 use Rattle.std.specs.Prelude.{sum}
 use Rattle.std.proofs.lemmas.List.{take_min, drop_min}
+use Rattle.std.proofs.lemmas.List.Sums.{sum_by-cons}
 use Rattle.errors.specs.Told.{Told, gives, told_by, told_number}
 use Rattle.laws.specs.Copied.{copied, over}
 use Rattle.laws.specs.Whole.{whole, whole_out, length_of}
@@ -20,11 +22,11 @@ use Rattle.laws.specs.Lists.{joined}
 use Rattle.memory.specs.Image.{end_pointers, image_size, image_bytes}
 use Rattle.memory.specs.Memory.{image_number}
 use Rattle.memory.proofs.Images.{joined_length}
-use Rattle.assemble.specs.declared.pool.Pool.{Pool}
-use Rattle.assemble.specs.declared.pool.Kept.{Kept}
-use Rattle.assemble.specs.Kept.{kept, ends, Pushed, image_from, ImageLaid}
+use Rattle.pool.specs.declared.Pool.{Pool}
+use Rattle.pool.specs.declared.Kept.{Kept}
+use Rattle.pool.specs.Kept.{kept_length, kept, ends, Pushed, image_from, ImageLaid}
 use Rattle.laws.proofs.Lists.{joined_append}
-use Rattle.assemble.proofs.Lists.{sum_of_lengths, ends_pointers, ends_append, ends_length, copied_more, over_more}
+use Rattle.pool.proofs.Lists.{sum_of_lengths, ends_pointers, ends_append, ends_length, copied_more, over_more}
 
 abbrev zeros : ℕ → List ℕ
 zeros n = replicate n 0
@@ -35,9 +37,9 @@ module _ (most : ℕ) (items : List (List ℕ)) (p : Pool most) (e : p ≡ kept 
   count = ap (λ (x : Pool most). x.count) e
 
   -- the lengths
-  pub lens : take p.count p.lens ≡ map length items
+  pub lens : take p.count p.lens ≡ map kept_length items
   unfolding kept
-  lens = ap (λ (x : Pool most). take x.count x.lens) e ∙ take_at (map length items) (zeros (most - length items)) (length items) (length-map items length)
+  lens = ap (λ (x : Pool most). take x.count x.lens) e ∙ take_at (map kept_length items) (zeros (most - length items)) (length items) (length-map items kept_length)
 
   -- the bytes, where they fit
   pub bytes : (a : ℕ) → a ≡ length (joined items) → a ≤ 100 → take a p.bytes ≡ joined items
@@ -48,33 +50,57 @@ module _ (most : ℕ) (items : List (List ℕ)) (p : Pool most) (e : p ≡ kept 
       ∙ ap (λ (m : List ℕ). take a (m ++ drop (length j) (zeros 100))) (take_all (length (zeros 100)) j (simp length-replicate (omega arith)))
       ∙ take_at j (drop (length j) (zeros 100)) a (sym f)
 
+-- ---- the lengths, as they are kept
+
+kept_most : (items : List (List ℕ)) → sum (map kept_length items) ≤ length (joined items)
+kept_most [] = omega arith
+kept_most (x ∷ xs) = omega (arith, sum_by-cons (λ k. k) (kept_length x) (map kept_length xs), kept_most xs, length-append x (joined xs))
+
+-- where all are exact
+kept_exact : (items : List (List ℕ)) → sum (map kept_length items) < 255 → map kept_length items ≡ map length items
+kept_exact [] h = refl
+kept_exact (x ∷ xs) h =
+    let s = sum_by-cons (λ k. k) (kept_length x) (map kept_length xs) in
+    let one : kept_length x ≡ length x = omega arith in
+    let rest = kept_exact xs (omega arith) in
+    λ i. one i ∷ rest i
+
+kept_sum : (items : List (List ℕ)) → sum (map kept_length items) < 255 → sum (map kept_length items) ≡ length (joined items)
+kept_sum items h = ap sum (kept_exact items h) ∙ sum_of_lengths items
+
+kept_total : (items : List (List ℕ)) → min (min (sum (map kept_length items)) 101) 100 ≡ min (length (joined items)) 100
+kept_total items = go (dec_le 255 (sum (map kept_length items))) where
+  go : Dec (255 ≤ sum (map kept_length items)) → min (min (sum (map kept_length items)) 101) 100 ≡ min (length (joined items)) 100
+  go (yes h) = omega (arith, kept_most items)
+  go (no h) = omega (arith, kept_sum items (omega arith))
+
 -- ---- one item more
 
 module _ (most : ℕ) (x : List ℕ) where
   -- the pool after it, as the code leaves it
   abbrev next : Pool most → Pool most
   next p =
-      let at = min (sum (take p.count p.lens)) 100 in
-      record { count = p.count + 1; lens = set p.lens p.count (length x); bytes = take at p.bytes ++ copied (drop at p.bytes) x }
+      let at = min (min (sum (take p.count p.lens)) 101) 100 in
+      record { count = p.count + 1; lens = set p.lens p.count (kept_length x); bytes = take at p.bytes ++ copied (drop at p.bytes) x }
 
   module _ (items : List (List ℕ)) (h : length items < most) where
     abbrev m : ℕ
     m = length items
 
     abbrev lengths : List ℕ
-    lengths = map length items
+    lengths = map kept_length items
 
     abbrev more : List (List ℕ)
     more = items ++ (x ∷ [])
 
-    lens_more : set (lengths ++ zeros (most - m)) m (length x) ≡ map length more ++ zeros (most - length more)
+    lens_more : set (lengths ++ zeros (most - m)) m (kept_length x) ≡ map kept_length more ++ zeros (most - length more)
     lens_more =
         let n : length more ≡ suc m = length-append items (x ∷ []) ∙ (let q : m + 1 ≡ suc m = omega arith in q) in
-        ap (λ (j : ℕ). set (lengths ++ zeros j) m (length x)) (let q : most - m ≡ suc (most - suc m) = omega arith in q)
-        ∙ ap (λ (j : ℕ). set (lengths ++ (0 ∷ zeros (most - suc m))) j (length x)) (sym (length-map items length))
-        ∙ set-append_seam lengths 0 (zeros (most - suc m)) (length x)
-        ∙ sym (append_assoc lengths (length x ∷ []) (zeros (most - suc m)))
-        ∙ ap₂ (λ (l : List ℕ) (j : ℕ). l ++ zeros (most - j)) (sym (map-append length items (x ∷ []))) (sym n)
+        ap (λ (j : ℕ). set (lengths ++ zeros j) m (kept_length x)) (let q : most - m ≡ suc (most - suc m) = omega arith in q)
+        ∙ ap (λ (j : ℕ). set (lengths ++ (0 ∷ zeros (most - suc m))) j (kept_length x)) (sym (length-map items kept_length))
+        ∙ set-append_seam lengths 0 (zeros (most - suc m)) (kept_length x)
+        ∙ sym (append_assoc lengths (kept_length x ∷ []) (zeros (most - suc m)))
+        ∙ ap₂ (λ (l : List ℕ) (j : ℕ). l ++ zeros (most - j)) (sym (map-append kept_length items (x ∷ []))) (sym n)
 
     bytes_more : (at : ℕ) → at ≡ min (length (joined items)) 100 → let b = copied (zeros 100) (joined items) in
         take at b ++ copied (drop at b) x ≡ copied (zeros 100) (joined more)
@@ -89,8 +115,8 @@ module _ (most : ℕ) (x : List ℕ) where
     next_kept : next (kept most items) ≡ kept most more
     unfolding kept
     next_kept =
-        let sums : min (sum (take m (lengths ++ zeros (most - m)))) 100 ≡ min (length (joined items)) 100 =
-        ap (λ (l : List ℕ). min (sum l) 100) (take_at lengths (zeros (most - m)) m (length-map items length)) ∙ ap (λ (n : ℕ). min n 100) (sum_of_lengths items) in
+        let sums : min (min (sum (take m (lengths ++ zeros (most - m)))) 101) 100 ≡ min (length (joined items)) 100 =
+        ap (λ (l : List ℕ). min (min (sum l) 101) 100) (take_at lengths (zeros (most - m)) m (length-map items kept_length)) ∙ kept_total items in
         let n : m + 1 ≡ length more = sym (length-append items (x ∷ [])) in
         λ i. record { count = n i; lens = lens_more i; bytes = bytes_more _ sums i }
 
@@ -102,20 +128,20 @@ module _ (most : ℕ) (x : List ℕ) where
         e ∙ ap (λ (t : Bool). kept most (cond t (items ++ (x ∷ [])) items)) (sym (le-ltb (length items) most (omega arith)))
 
     -- what the code leaves, where the bytes from an index on were lent to the copying
-    pub room : p.count < most → length p.bytes ≡ 100 → (n at : ℕ) (last : List ℕ) → n ≡ p.count → at ≡ min (sum (take n p.lens)) 100
+    pub room : p.count < most → length p.bytes ≡ 100 → (n at len : ℕ) (last : List ℕ) → n ≡ p.count → len ≡ kept_length x → at ≡ min (min (sum (take n p.lens)) 101) 100
         → last ≡ copied (mid_of at (100 - at) p.bytes) x
-        → Pushed most x p (record { count = p.count + 1; lens = set p.lens n (length x); bytes = put_mid at (100 - at) p.bytes last })
-    room h long n at last f j l items g e =
+        → Pushed most x p (record { count = p.count + 1; lens = set p.lens n len; bytes = put_mid at (100 - at) p.bytes last })
+    room h long n at len last f w j l items g e =
         let c = count most items p e in
         let d : length items < most = omega arith in
-        let i : at ≡ min (sum (take p.count p.lens)) 100 = j ∙ ap (λ (k : ℕ). min (sum (take k p.lens)) 100) f in
+        let i : at ≡ min (min (sum (take p.count p.lens)) 101) 100 = j ∙ ap (λ (k : ℕ). min (min (sum (take k p.lens)) 101) 100) f in
         let t : mid_of at (100 - at) p.bytes ≡ drop at p.bytes = ap (λ (k : ℕ). mid_of at (k - at) p.bytes) (sym long) ∙ part_to_end p.bytes at in
         let none : post_of at (100 - at) p.bytes ≡ [] = drop_of_length-le (drop at p.bytes) {i = 100 - at} (simp length-drop (omega arith)) in
         let b : put_mid at (100 - at) p.bytes last ≡ take at p.bytes ++ copied (drop at p.bytes) x =
         ap₂ (λ (u v : List ℕ). take at p.bytes ++ (u ++ v)) (l ∙ ap (λ (u : List ℕ). copied u x) t) none
         ∙ ap (λ (u : List ℕ). take at p.bytes ++ u) (append-nil (copied (drop at p.bytes) x)) in
-        (λ k. record { count = p.count + 1; lens = set p.lens (f k) (length x); bytes = b k })
-        ∙ ap (λ (k : ℕ). record { count = p.count + 1; lens = set p.lens p.count (length x); bytes = take k p.bytes ++ copied (drop k p.bytes) x }) i
+        (λ k. record { count = p.count + 1; lens = set p.lens (f k) (w k); bytes = b k })
+        ∙ ap (λ (k : ℕ). record { count = p.count + 1; lens = set p.lens p.count (kept_length x); bytes = take k p.bytes ++ copied (drop k p.bytes) x }) i
         ∙ ap next e
         ∙ next_kept items d
         ∙ ap (λ (t : Bool). kept most (cond t (items ++ (x ∷ [])) items)) (sym (lt-ltb (length items) most d))
@@ -182,17 +208,17 @@ laid_image ss qs ls ks xs ys out e f g h i =
 -- what is answered, by the lengths of snippets ls and of sequences js
 module _ (k : Kept) (buffer ls js : List ℕ) (f : ls ≡ take k.snippets.count k.snippets.lens) (g : js ≡ take k.sequences.count k.sequences.lens) where
   module _ (ss qs : List (List ℕ)) (e : k.snippets ≡ kept 15 ss) (i : k.sequences ≡ kept 16 qs) where
-    snippets_are : ls ≡ map length ss
+    snippets_are : ls ≡ map kept_length ss
     snippets_are = f ∙ lens 15 ss k.snippets e
 
-    sequences_are : js ≡ map length qs
+    sequences_are : js ≡ map kept_length qs
     sequences_are = g ∙ lens 16 qs k.sequences i
 
     many_snippets : length ls ≡ length ss
-    many_snippets = ap length snippets_are ∙ length-map ss length
+    many_snippets = ap length snippets_are ∙ length-map ss kept_length
 
     many_sequences : length js ≡ length qs
-    many_sequences = ap length sequences_are ∙ length-map qs length
+    many_sequences = ap length sequences_are ∙ length-map qs kept_length
 
   pub no_snippets_lem : length ls < 1 → ImageLaid k buffer 9 buffer
   no_snippets_lem h ss qs a b e i =
@@ -208,24 +234,16 @@ module _ (k : Kept) (buffer ls js : List ℕ) (f : ls ≡ take k.snippets.count 
       let u = lt-ltb (length qs) 1 (omega arith) in
       (simp (t, u), simp (t, u))
 
-  module _ (h : 1 ≤ length ls) (o : 1 ≤ length js) (u v : ℕ) (p : u ≡ sum ls) (q : v ≡ sum js) where
-    module _ (ss qs : List (List ℕ)) (e : k.snippets ≡ kept 15 ss) (i : k.sequences ≡ kept 16 qs) where
-      u_is : u ≡ length (joined ss)
-      u_is = p ∙ ap sum (snippets_are ss qs e i) ∙ sum_of_lengths ss
-
-      v_is : v ≡ length (joined qs)
-      v_is = q ∙ ap sum (sequences_are ss qs e i) ∙ sum_of_lengths qs
-
+  module _ (h : 1 ≤ length ls) (o : 1 ≤ length js) (u v : ℕ) (p : u ≡ min (sum ls) 101) (q : v ≡ min (sum js) 101) where
     pub too_large : 98 < length ls + length js + u + v → ImageLaid k buffer 8 buffer
     too_large w ss qs a b e i =
         let c = many_snippets ss qs e i in
         let d = many_sequences ss qs e i in
-        let r = u_is ss qs e i in
-        let t = v_is ss qs e i in
-        let y = joined_length ss qs in
+        let r = ap sum (snippets_are ss qs e i) in
+        let t = ap sum (sequences_are ss qs e i) in
         let s = le-ltb (length ss) 1 (omega arith) in
         let z = le-ltb (length qs) 1 (omega arith) in
-        let x = lt-ltb 100 (image_size ss qs) (omega arith) in
+        let x = lt-ltb 100 (image_size ss qs) (omega (arith, kept_most ss, kept_most qs, joined_length ss qs)) in
         (simp (s, z, x), simp (s, z, x))
 
     pub built : length ls + length js + u + v ≤ 98 → (xs ys out buffer' : List ℕ) (number : ℕ) → xs ≡ take u k.snippets.bytes → ys ≡ take v k.sequences.bytes
@@ -234,12 +252,15 @@ module _ (k : Kept) (buffer ls js : List ℕ) (f : ls ≡ take k.snippets.count 
     built w xs ys out buffer' number j l z m x ss qs a b e i =
         let c = many_snippets ss qs e i in
         let d = many_sequences ss qs e i in
-        let r = u_is ss qs e i in
-        let t = v_is ss qs e i in
+        let sums : sum ls ≡ sum (map kept_length ss) = ap sum (snippets_are ss qs e i) in
+        let totals : sum js ≡ sum (map kept_length qs) = ap sum (sequences_are ss qs e i) in
+        let r : u ≡ length (joined ss) = omega (arith, kept_sum ss (omega arith)) in
+        let t : v ≡ length (joined qs) = omega (arith, kept_sum qs (omega arith)) in
         let y = joined_length ss qs in
         let none : image_number ss qs ≡ 0 = simp (le-ltb (length ss) 1 (omega arith), le-ltb (length qs) 1 (omega arith), le-ltb 100 (image_size ss qs) (omega arith)) in
         let laid : out ≡ image_bytes ss qs =
-        laid_image ss qs ls js xs ys out (snippets_are ss qs e i) (sequences_are ss qs e i) (j ∙ bytes 15 ss k.snippets e u r (omega arith)) (l ∙ bytes 16 qs k.sequences i v t (omega arith)) z in
+        laid_image ss qs ls js xs ys out (snippets_are ss qs e i ∙ kept_exact ss (omega arith)) (sequences_are ss qs e i ∙ kept_exact qs (omega arith))
+        (j ∙ bytes 15 ss k.snippets e u r (omega arith)) (l ∙ bytes 16 qs k.sequences i v t (omega arith)) z in
         let item : gives out ≡ told_by (image_number ss qs) (image_bytes ss qs) = λ i. told_by (sym none i) (laid i) in (
           m ∙ length_number (whole buffer (gives out)) ∙ ap (λ (t : Told (List ℕ)). told_number (whole buffer t)) item,
           x ∙ ap (whole_out buffer) item,

@@ -1,5 +1,5 @@
-use Rattle.assemble.proofs.Keeping.{laid_over}
-use Rattle.assemble.proofs.pool.laid.Goals as goal
+use Rattle.pool.proofs.Keeping.{laid_over}
+use Rattle.pool.proofs.laid.Goals as goal
 
 pub returns : goal.returns
 returns c =

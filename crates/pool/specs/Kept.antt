@@ -1,20 +1,24 @@
 -- Items kept: their number, a length for each, then their bytes, of which a hundred have room.
-use Rattle.std.specs.Prelude.{ℕ, ◌+◌, ◌-◌, ◌≤◌, ◌≡◌, cond, List, [], ◌∷◌, ◌++◌, map, ltb, length, replicate, sum}
+use Rattle.std.specs.Prelude.{ℕ, ◌+◌, ◌-◌, ◌≤◌, ◌≡◌, min, cond, List, [], ◌∷◌, ◌++◌, map, ltb, length, replicate, sum}
 use Rattle.errors.specs.Told.{told_by, told_number}
 use Rattle.laws.specs.Copied.{copied}
 use Rattle.laws.specs.Whole.{whole, whole_out}
 use Rattle.laws.specs.Lists.{joined}
 use Rattle.memory.specs.Image.{image_bytes}
 use Rattle.memory.specs.Memory.{image_number}
-use Rattle.assemble.specs.declared.pool.Pool.{Pool}
-use Rattle.assemble.specs.declared.pool.Kept.{Kept}
+use Rattle.pool.specs.declared.Pool.{Pool}
+use Rattle.pool.specs.declared.Kept.{Kept}
+
+-- an item's length as it is kept: above 255 counts as 255
+abbrev pub kept_length : List ℕ → ℕ
+kept_length x = min (length x) 255
 
 -- where there is room for the lengths of `most` items
 unfoldable pub kept : (most : ℕ) → List (List ℕ) → Pool most
 kept most items =
     record {
       count = length items;
-      lens = map length items ++ replicate (most - length items) 0;
+      lens = map kept_length items ++ replicate (most - length items) 0;
       bytes = copied (replicate 100 0) (joined items);
     }
 
@@ -30,7 +34,7 @@ abbrev pub ends : ℕ → List ℕ → List ℕ
 ends before [] = []
 ends before (n ∷ ns) = (before + n) ∷ ends (before + n) ns
 
--- an item more behind the others, where there is room for its length
+-- an item more behind the others, where there is room for its length; every pool keeps some items
 abbrev pub Pushed : (most : ℕ) → List ℕ → Pool most → Pool most → Type 0
 Pushed most bytes p p' =
     (items : List (List ℕ)) → length items ≤ most → p ≡ kept most items → p' ≡ kept most (cond (ltb (length items) most) (items ++ (bytes ∷ [])) items)

@@ -1,10 +1,13 @@
-// Snippets and sequences kept until an image is built of them (added): of each kind their number, their lengths, and their bytes one after the
-// other. Document 01, 'The hundred bytes'.
-// Proved: `push` puts an item behind the others, `image` tests and lays out what the builder's `build` does.
-ghost use Rattle.std.specs.Prelude.{◌≡◌, ◌+◌, ◌≤◌, ◌<◌, cond, ltb, length, sum, take};
+// Snippets and sequences kept in bytes until an image is built of them (added; no Rust file): of each kind their number, their lengths, and their
+// bytes one after the other. Document 01, 'The hundred bytes'.
+// Proved: `push` puts an item behind the others, `image` tests and lays out what the builder's `build` does. Every pool is made by `new` and `push`, so
+// that it keeps some items (specs/Kept.antt); nothing is asked of a caller.
+#![tactic(auto)]
+
+ghost use Rattle.std.specs.Prelude.{◌≡◌, ◌+◌, ◌≤◌, ◌<◌, cond, ltb, length, min, sum, take};
 ghost use Rattle.errors.specs.Number.{answer_number, error_number};
 ghost use Rattle.laws.specs.Copied.{over};
-ghost use Rattle.assemble.specs.Kept.{ends, no_items, nothing_kept, Pushed, Fits, image_from, ImageLaid};
+ghost use Rattle.pool.specs.Kept.{ends, no_items, nothing_kept, Pushed, Fits, image_from, ImageLaid};
 
 use errors::Error;
 use memory::{MAX_MEMORY_SIZE, MAX_SEQUENCES, MAX_SNIPPETS};
@@ -13,17 +16,18 @@ use memory::{MAX_MEMORY_SIZE, MAX_SEQUENCES, MAX_SNIPPETS};
 // (docs/DECISIONS.md, 'Speed'). A hundred have room, since an image of more is refused. Arrays beside a count: there is no heap, and the kit's
 // `arrayvec::ArrayVec` is not `Copy`, as these are.
 #[derive(Clone, Copy)]
-pub(crate) struct Pool<const MOST: usize> {
-    count: u8,
+pub struct Pool<const MOST: usize> {
+    count: usize,
+    // A length above 255 counts as 255, which no image has room for.
     lens: [u8; MOST],
     bytes: [u8; MAX_MEMORY_SIZE],
 }
 
-// The snippets and the sequences that a list of calls added.
+// The snippets and the sequences that an image is built of.
 #[derive(Clone, Copy)]
-pub(crate) struct Kept {
-    pub(crate) snippets: Pool<MAX_SNIPPETS>,
-    pub(crate) sequences: Pool<MAX_SEQUENCES>,
+pub struct Kept {
+    pub snippets: Pool<MAX_SNIPPETS>,
+    pub sequences: Pool<MAX_SEQUENCES>,
 }
 
 impl<const MOST: usize> Pool<MOST> {
@@ -38,18 +42,17 @@ impl<const MOST: usize> Pool<MOST> {
     }
 
     // Puts an item behind the others, as far as its bytes have room, or answers `full` where there is no room for its length.
-    pub(crate) fn push(&mut self, bytes: &[u8], full: Error) -> Result<(), Error>
-        requires { (MOST ≤ 16) × (length bytes.now < 256) }
+    pub fn push(&mut self, bytes: &[u8], full: Error) -> Result<(), Error>
         ensures value { answer_number result ≡ cond (ltb self.old.count MOST) 0 (error_number full) }
         ensures pushed { Pushed MOST bytes.now self.old self.new }
     {
-        let n = usize::from(self.count);
+        let n = self.count;
         if MOST <= n {
             return Err(full);
         }
         let at = total(&self.lens[..n]).min(MAX_MEMORY_SIZE);
         laws::copy_into(&mut self.bytes[at..], bytes);
-        self.lens[n] = bytes.len() as u8;
+        self.lens[n] = bytes.len().min(255) as u8;
         self.count += 1;
         Ok(())
     }
@@ -59,12 +62,12 @@ impl<const MOST: usize> Pool<MOST> {
         ensures value { result.now ≡ take self.now.count self.now.lens }
         ensures upper_bound { length result.now ≤ MOST }
     {
-        laws::shown(&self.lens, self.count)
+        &self.lens[..self.count.min(MOST)]
     }
 }
 
 impl Kept {
-    pub(crate) fn new() -> Kept
+    pub fn new() -> Kept
         ensures { result ≡ nothing_kept }
     {
         Kept {
@@ -74,7 +77,7 @@ impl Kept {
     }
 
     // Tests no snippets, no sequences, then the size; the image of what is kept goes whole to the front of the buffer.
-    pub(crate) fn image(&self, buffer: &mut [u8]) -> Result<(), Error>
+    pub fn image(&self, buffer: &mut [u8]) -> Result<(), Error>
         ensures { ImageLaid self.now buffer.old (answer_number result) buffer.new }
     {
         let snippets = self.snippets.lens();
@@ -142,11 +145,13 @@ fn pointers(out: &mut [u8], at: usize, lens: &[u8], before: usize) -> usize
     last
 }
 
-// How many bytes items of these lengths take.
+// How many bytes items of these lengths take; more than a hundred count as 101.
 fn total(lens: &[u8]) -> usize
-    requires { length lens.now ≤ 16 }
-    ensures value { result ≡ sum lens.now }
-    ensures upper_bound { result < 4096 }
+    ensures { result ≡ min (sum lens.now) 101 }
 {
-    lens.iter().map(|len| usize::from(*len)).sum()
+    let mut sum = 0usize;
+    for len in lens {
+        sum = (sum + usize::from(*len)).min(MAX_MEMORY_SIZE + 1);
+    }
+    sum
 }

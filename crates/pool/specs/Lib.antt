@@ -1,0 +1,2 @@
+-- The definitions that the contracts of `pool` cite.
+pub mod Kept
