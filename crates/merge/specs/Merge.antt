@@ -1,6 +1,6 @@
 -- What is claimed of two images merged: document 02, CR 7, "Each sequence must play the same points with the same gain, timebase, loop count (absent
--- equals 0) and frequency as before", and each refusal exactly under its condition. The rules are said once more here, in numbers.
-use Rattle.std.specs.Prelude.{ℕ, zero, suc, ◌+◌, ◌≤◌, ◌<◌, ◌≡◌, ◌↔◌, ◌⊎◌, cond, ◌&&◌, List, [], ◌∷◌, ◌++◌, map, ltb, leb, eqb, length, replicate, drop, Some, None}
+-- equals 0) and frequency as before", and each refusal exactly under its condition. The request's rules are said a second time here, apart from Merged.antt.
+use Rattle.std.specs.Prelude.{ℕ, zero, suc, ◌+◌, ◌≤◌, ◌<◌, ◌≡◌, ◌↔◌, ◌⊎◌, cond, ◌&&◌, List, [], ◌∷◌, ◌++◌, ltb, leb, eqb, length, replicate, drop, Some, None}
 use Rattle.std.specs.declared.option.Option as rust
 use Rattle.std.proofs.Math.Option.{Option, none, some}
 use Rattle.std.proofs.Math.ListN.{get_elem?}
@@ -12,7 +12,7 @@ use Rattle.frame.specs.declared.Gain.{Gain}
 use Rattle.frame.specs.declared.Timebase.{Timebase}
 use Rattle.frame.specs.declared.FrameBuilder.{FrameBuilder}
 use Rattle.frame.specs.Frame.{on_given, bytes_of}
-use Rattle.content.specs.Content.{Point, Content, Both, size_of, Admitted}
+use Rattle.content.specs.Content.{Point, Content, Both, size_of, image_of, Admitted}
 use Rattle.content.specs.ReadImage.{and_then, every, read_image}
 use Rattle.merge.specs.Merged.{merged_item}
 
@@ -26,7 +26,7 @@ pub record Played : Type 0 where
   pub loop_count : ℕ
   pub frequency : rust.Option ℕ
 
--- the points that a number names among the snippets, which count from 1; 0 is silence; none where they lack it
+-- the points that a number names among the snippets, which count from 1; 0 is silence; none where the snippets lack it
 abbrev pub points_named : List (List Point) → ℕ → Option (Option (List Point))
 points_named snippets zero = some none
 points_named snippets (suc n) = and_then (get_elem? snippets n) (λ points. some (some points))
@@ -47,12 +47,13 @@ PlaysAlike c i k j = (all : List Played) × (plays c i ≡ some all) × (plays k
 
 -- ---- what becomes of a frame
 
--- f of the second image, whose first has so many snippets, stands as g in the merged image
+-- f stands in the second image and g in its place in the merged one, both as they are read; the first image has `count` snippets
 pub record Kept (count : ℕ) (f g : FrameBuilder) : Type 0 where
   -- "Silence remains silence"
   pub silence : f.snippet_id ≡ 0 → g.snippet_id ≡ 0
   pub number : 1 ≤ f.snippet_id → g.snippet_id ≡ count + f.snippet_id
-  -- "Apart from its number a frame keeps every field, a loop count's absence included where the form allows it": in a frame of one byte
+  -- "Apart from its number a frame keeps every field, a loop count's absence included where the form allows it": where one byte is still enough, since a
+  -- frame that is read without loop count has one byte
   pub gain : g.gain ≡ f.gain
   pub timebase : g.timebase ≡ f.timebase
   pub loop_count : g.loop_count ≡ on_given f.loop_count (cond (ltb g.snippet_id 8) None (Some 0)) Some
@@ -68,6 +69,9 @@ pub record Merged (c d : Content) (image : List ℕ) : Type 0 where
   pub content : Content
   pub reads : read_image image ≡ some content
   pub bytes : Bytes image
+  -- and nothing else is in it
+  pub admitted : Admitted content
+  pub laid : image ≡ image_of content
   -- "the first's snippets and sequences, then the second's"; the first's are as they were
   pub snippets : content.snippets ≡ c.snippets ++ d.snippets
   pub others : List (List FrameBuilder)
@@ -77,7 +81,7 @@ pub record Merged (c d : Content) (image : List ℕ) : Type 0 where
   -- "Each sequence must play the same .. as before"
   pub first : (i : ℕ) → i < length c.sequences → PlaysAlike c i content i
   pub second : (i : ℕ) → i < length d.sequences → PlaysAlike d i content (length c.sequences + i)
-  -- a buffer with room gets the hundred bytes, its others stay; a shorter one stays, and 24 is told
+  -- a buffer with room gets the hundred bytes, and its other bytes stay; a shorter one stays as it was, and 24 is told
   pub hundred : length image ≡ 100
   pub given : (out : List ℕ) → 100 ≤ length out → (whole out (gives image) ≡ gives image) × (whole_out out (gives image) ≡ image ++ drop 100 out)
   pub short : (out : List ℕ) → length out < 100 → (whole out (gives image) ≡ refuses 24) × (whole_out out (gives image) ≡ out)
@@ -103,7 +107,7 @@ growing count (f ∷ fs) = cond (eqb (length (bytes_of f)) 1 && leb 1 f.snippet_
 abbrev pub sizes_of : Content → Content → ℕ
 sizes_of c d = size_of c + size_of d + growing (length c.snippets) (joined d.sequences)
 
--- each number is told exactly where its own rule applies and none before it does
+-- each number is told exactly where its own rule applies and no earlier one does
 pub record Refused (c d : Content) : Type 0 where
   pub missing : (merged_item (some c) (some d) ≡ refuses 25) ↔ ¬ (Named c × Named d)
   pub snippets : (merged_item (some c) (some d) ≡ refuses 6) ↔ ((Named c × Named d) × (15 < snippets_of c d))
@@ -115,32 +119,35 @@ pub record Refused (c d : Content) : Type 0 where
 
 -- ---- images as one reads them
 
--- bytes and zeros to a hundred
-abbrev pub hundred : List ℕ → ℕ → List ℕ
-hundred l zeros = l ++ replicate zeros 0
+-- bytes, and so many zeros
+abbrev pub filled : List ℕ → ℕ → List ℕ
+filled l zeros = l ++ replicate zeros 0
 
--- seven snippets of one point, and a sequence that plays the last; six
+-- seven snippets of one point, and a sequence that plays the last
 abbrev pub seven : List ℕ
-seven = hundred (0x07 ∷ 0x01 ∷ 0x0A ∷ 0x0B ∷ 0x0C ∷ 0x0D ∷ 0x0E ∷ 0x0F ∷ 0x10 ∷ 0x11 ∷ replicate 7 0xAA ++ 0x07 ∷ []) 82
+seven = filled (0x07 ∷ 0x01 ∷ 0x0A ∷ 0x0B ∷ 0x0C ∷ 0x0D ∷ 0x0E ∷ 0x0F ∷ 0x10 ∷ 0x11 ∷ replicate 7 0xAA ++ 0x07 ∷ []) 82
 
+-- the same with six
 abbrev pub six : List ℕ
-six = hundred (0x06 ∷ 0x01 ∷ 0x09 ∷ 0x0A ∷ 0x0B ∷ 0x0C ∷ 0x0D ∷ 0x0E ∷ 0x0F ∷ replicate 6 0xAA ++ 0x06 ∷ []) 84
+six = filled (0x06 ∷ 0x01 ∷ 0x09 ∷ 0x0A ∷ 0x0B ∷ 0x0C ∷ 0x0D ∷ 0x0E ∷ 0x0F ∷ replicate 6 0xAA ++ 0x06 ∷ []) 84
 
--- two snippets, and a sequence: the first snippet, silence at half gain and 87.04 ms, the second with loop count 0
+-- two snippets, and a sequence: the first snippet, silence at half gain and 87.04 ms, the second with loop count 0, the first with loop count 2
 abbrev pub two : List ℕ
-two = hundred (0x02 ∷ 0x01 ∷ 0x05 ∷ 0x06 ∷ 0x0A ∷ 0x01 ∷ 0x02 ∷ 0x01 ∷ 0x38 ∷ 0x02 ∷ 0x80 ∷ []) 89
+two = filled (0x02 ∷ 0x01 ∷ 0x05 ∷ 0x06 ∷ 0x0C ∷ 0x01 ∷ 0x02 ∷ 0x01 ∷ 0x38 ∷ 0x02 ∷ 0x80 ∷ 0x01 ∷ 0x90 ∷ []) 87
 
 pub record Merge : Type 0 where
   -- "Either input unreadable gives 18"
   pub unread : (o p : Option Content) → (merged_item o p ≡ refuses 18) ↔ ((o ≡ none) ⊎ (p ≡ none))
   pub refused : (l m : List ℕ) → Bytes l → Bytes m → (c d : Content) → read_image l ≡ some c → read_image m ≡ some d → Refused c d
+  -- a refusal is told whatever the buffer, which stays
+  pub untouched : (out : List ℕ) (n : ℕ) → (whole out (refuses n) ≡ refuses n) × (whole_out out (refuses n) ≡ out)
   pub merged : (l m : List ℕ) → Bytes l → Bytes m → (c d : Content) → read_image l ≡ some c → read_image m ≡ some d
       → (image : List ℕ) → merged_item (some c) (some d) ≡ gives image → Merged c d image
-  -- behind seven snippets a frame's number 1 is 8, which takes a second byte, and 2 is 9; silence stays
-  pub grown : merged_item (read_image seven) (read_image two) ≡ gives (hundred (
-      0x09 ∷ 0x02 ∷ 0x0D ∷ 0x0E ∷ 0x0F ∷ 0x10 ∷ 0x11 ∷ 0x12 ∷ 0x13 ∷ 0x14 ∷ 0x15 ∷ 0x16 ∷ 0x1B ∷ replicate 7 0xAA
-      ++ 0x01 ∷ 0x02 ∷ 0x07 ∷ 0x00 ∷ 0x81 ∷ 0x38 ∷ 0x01 ∷ 0x81 ∷ []) 72)
-  -- behind six it is 7, still in one byte, and a loop count that was given stays given
-  pub stays : merged_item (read_image six) (read_image two) ≡ gives (hundred (
-      0x08 ∷ 0x02 ∷ 0x0C ∷ 0x0D ∷ 0x0E ∷ 0x0F ∷ 0x10 ∷ 0x11 ∷ 0x12 ∷ 0x13 ∷ 0x14 ∷ 0x18 ∷ replicate 6 0xAA
-      ++ 0x01 ∷ 0x02 ∷ 0x06 ∷ 0x07 ∷ 0x38 ∷ 0x00 ∷ 0x81 ∷ []) 75)
+  -- behind seven snippets number 1 becomes 8, which takes a second byte where there was none, and 2 becomes 9; silence stays
+  pub grown : merged_item (read_image seven) (read_image two) ≡ gives (filled (
+      0x09 ∷ 0x02 ∷ 0x0D ∷ 0x0E ∷ 0x0F ∷ 0x10 ∷ 0x11 ∷ 0x12 ∷ 0x13 ∷ 0x14 ∷ 0x15 ∷ 0x16 ∷ 0x1D ∷ replicate 7 0xAA
+      ++ 0x01 ∷ 0x02 ∷ 0x07 ∷ 0x00 ∷ 0x81 ∷ 0x38 ∷ 0x01 ∷ 0x81 ∷ 0x00 ∷ 0x91 ∷ []) 70)
+  -- behind six number 1 becomes 7, still in one byte, or in two with the loop count that was given
+  pub stays : merged_item (read_image six) (read_image two) ≡ gives (filled (
+      0x08 ∷ 0x02 ∷ 0x0C ∷ 0x0D ∷ 0x0E ∷ 0x0F ∷ 0x10 ∷ 0x11 ∷ 0x12 ∷ 0x13 ∷ 0x14 ∷ 0x1A ∷ replicate 6 0xAA
+      ++ 0x01 ∷ 0x02 ∷ 0x06 ∷ 0x07 ∷ 0x38 ∷ 0x00 ∷ 0x81 ∷ 0x07 ∷ 0x90 ∷ []) 73)

@@ -1,4 +1,4 @@
--- Two images into one: document 02, CR 7. An image is told by the content that it is read back to; specs/Merge.antt: what is claimed of this.
+-- Two images into one: document 02, CR 7. An image stands here as the content that it is read to; what is claimed of the result is in Merge.antt.
 use Rattle.std.specs.Prelude.{ℕ, zero, suc, ◌+◌, Bool, false, cond, ◌||◌, List, [], ◌∷◌, ◌++◌, map, ltb, length}
 use Rattle.std.proofs.Math.Option.{Option}
 use Rattle.errors.specs.Told.{Told, refuses, told_by}
@@ -31,11 +31,12 @@ abbrev pub any : {A : Type 0} → (A → Bool) → List A → Bool
 any p [] = false
 any p (x ∷ xs) = p x || any p xs
 
--- "A frame .. naming a snippet its own image lacks"
+-- "A frame .. naming a snippet its own image lacks"; number 0 is silence
 abbrev pub lacks : Content → Bool
 lacks c = any (λ (f : FrameBuilder). ltb (length c.snippets) f.snippet_id) (joined c.sequences)
 
--- "limits give 6, 7 or 8, tried in that order after the missing snippet", "refused with 25"; 0 where nothing is
+-- a frame "of either input" gives 25, and "limits give 6, 7 or 8, tried in that order after the missing snippet"; 0 where nothing is refused. The other
+-- limits stay out of reach: items keep their points and frames, and a sequence above 96 bytes makes an image above a hundred
 abbrev pub merge_number : Content → Content → ℕ
 merge_number c d =
     cond (lacks c || lacks d) 25
@@ -43,6 +44,6 @@ merge_number c d =
     (cond (ltb 16 (length c.sequences + length d.sequences)) 7
     (cond (ltb 100 (size_of (merged c d))) 8 0)))
 
--- the merged image; "Either input unreadable gives 18"
+-- the merged image, or a refusal: "Either input unreadable gives 18"
 abbrev pub merged_item : Option Content → Option Content → Told (List ℕ)
 merged_item o p = on_option o (refuses 18) (λ c. on_option p (refuses 18) (λ d. told_by (merge_number c d) (image_of (merged c d))))

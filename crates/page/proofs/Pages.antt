@@ -1,21 +1,17 @@
 -- How long a page is, what `page` knows of an image that it counted, and the page that is placed.
 -- Assumes nothing.
-use Rattle.std.proofs.Common.{◌≡◌, ◌+◌, ◌*◌, ◌≤◌, ◌++◌, ◌∙◌, ℕ, suc, Ok, List, [], ◌∷◌, map, length, drop, ap, refl, sym, arith}
-use Rattle.std.proofs.Math.Option.{Option, none, some}
+use Rattle.std.proofs.Common.{◌≡◌, ◌+◌, ◌*◌, ◌≤◌, ◌++◌, ◌∙◌, ℕ, suc, List, [], ◌∷◌, map, length, drop, ap, refl, sym, arith}
 use lib.ListN.{length-append, length-map}
-use Rattle.laws.specs.Bytes.{All, Bytes}
+use Rattle.laws.specs.Bytes.{All}
 use Rattle.laws.specs.Copied.{copied, placed}
 use Rattle.laws.specs.Lists.{joined}
 use Rattle.laws.proofs.Lists.{joined_append, all_map}
 use Rattle.laws.proofs.Copies.{copied_fits}
 use Rattle.content.specs.Content.{Content, byte_of, point_bytes, Admitted}
-use Rattle.content.specs.ReadImage.{read_image}
-use Rattle.content.proofs.Images.{image_codec}
-use Rattle.readings.specs.InPlace.{header_of}
-use Rattle.page.specs.InPlace.{items_at, frames_in}
+use Rattle.readings.specs.InPlace.{items_at, frames_in}
 use Rattle.page.specs.Lines.{snippet_line, frame_lines, numbered, page_lines, page_of}
+use Rattle.readings.proofs.InPlace.{Counted}
 use Rattle.page.proofs.Placed.{placed_more}
-use Rattle.page.proofs.Standing.{snippets_stand, sequences_stand}
 use Rattle.page.proofs.Indexed.{lines_count}
 use Rattle.page.proofs.Shown.{lines_shown, joined_lines}
 use Rattle.page.proofs.Wide.{snippet_wide}
@@ -31,31 +27,6 @@ snippets_wide n (l ∷ ls) h =
 pub length_page : (c : Content) → Admitted c → length (page_of c) ≡ 37 * (length c.snippets + length (joined c.sequences))
 unfolding page_of
 length_page c a = joined_lines (page_lines c) (lines_shown c a) ∙ ap (λ n. 37 * n) (lines_count c)
-
--- ---- what is counted
-
-pub record Counted (l : List ℕ) (s q : ℕ) : Type 0 where
-  pub content : Content
-  pub read : read_image l ≡ some content
-  pub good : Admitted content
-  pub snippets : items_at l 0 s ≡ map point_bytes content.snippets
-  pub sequences : map frames_in (items_at l s q) ≡ content.sequences
-  pub count : s ≡ length content.snippets
-
-pub counted : (l : List ℕ) (s q : ℕ) → Bytes l → Ok (s, q) ≡ header_of (read_image l) → Counted l s q
-counted l s q h e = go (read_image l) refl e where
-  go : (o : Option Content) → read_image l ≡ o → Ok (s, q) ≡ header_of o → Counted l s q
-  go none d e = cc
-  go (some c) d e =
-      let n : ◌≡◌ {A = ℕ × ℕ} (s, q) (length c.snippets, length c.sequences) = cc in
-      record {
-        content = c;
-        read = d;
-        good = (image_codec.sound l c h d).0;
-        snippets = (λ i. items_at l 0 (n i).0) ∙ snippets_stand l h c d;
-        sequences = (λ i. map frames_in (items_at l (n i).0 (n i).1)) ∙ sequences_stand l h c d;
-        count = λ i. (n i).0;
-      }
 
 -- ---- what is placed
 

@@ -20,7 +20,7 @@ use Rattle.page.proofs.Apart.{same_page}
 use Rattle.page.proofs.Indexed.{lines_count, snippet_at, frame_at}
 use Rattle.page.proofs.Long.{page_most}
 use Rattle.page.proofs.Said.{snippet_said, frame_said}
-use Rattle.page.proofs.Standing.{found_inside, all_found}
+use Rattle.readings.proofs.InPlace.{found_inside, all_found}
 use Rattle.page.proofs.Shown.{lines_shown, joined_lines}
 
 apart : (l m : List ℕ) → Bytes l → Bytes m → (c d : Content) → read_image l ≡ some c → read_image m ≡ some d → page_of c ≡ page_of d → l ≡ m

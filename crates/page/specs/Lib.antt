@@ -1,4 +1,3 @@
 -- The definitions that the contracts of `page` cite, and the claim on them.
-pub mod InPlace
 pub mod Lines
 pub mod Page

@@ -11,7 +11,7 @@ ghost use Rattle.laws.specs.Lists.{joined};
 ghost use Rattle.laws.specs.Whole.{whole, whole_out, length_of};
 ghost use Rattle.frame.specs.Frame.{bytes_of};
 ghost use Rattle.content.specs.ReadImage.{read_image};
-ghost use Rattle.page.specs.InPlace.{items_at, frames_in};
+ghost use Rattle.readings.specs.InPlace.{items_at, frames_in};
 ghost use Rattle.page.specs.Lines.{digit, two_digits, two_capitals, in_capitals, line, snippet_line, frame_line, frame_lines, numbered, page_item};
 
 use errors::Error;

@@ -5,3 +5,4 @@ pub mod Told
 pub mod Words
 pub mod Telling
 pub mod Items
+pub mod InPlace

@@ -1,6 +1,6 @@
--- An image read where it stands: `header` and `item`, and what private contracts cite. proofs/Fitting.antt: what is found to be an image is
+-- An image read where it stands: `header` and `item`, and what private contracts cite, here, of `page` and of `merge`. proofs/Fitting.antt: what is found to be an image is
 -- what `read_image` reads; proofs/Standing.antt: where its items stand.
-use Rattle.std.specs.Prelude.{ℕ, Result, Ok, Err, zero, suc, ◌+◌, ◌≡◌, Bool, true, false, cond, ◌&&◌, List, leb, length, get_or}
+use Rattle.std.specs.Prelude.{ℕ, Result, Ok, Err, zero, suc, ◌+◌, ◌≡◌, Bool, true, false, cond, ◌&&◌, List, [], ◌∷◌, leb, length, get_or}
 use Rattle.std.specs.declared.option.Option as rust
 use Rattle.std.proofs.Math.Option.{Option, none, some}
 use Rattle.std.proofs.Math.ListN.{get_elem?}
@@ -8,7 +8,7 @@ use Rattle.errors.specs.declared.Error.{Error}
 use Rattle.frame.specs.declared.FrameBuilder.{FrameBuilder}
 use Rattle.content.specs.Content.{Content}
 use Rattle.content.specs.ReadImage.{read_frames}
-use Rattle.reader.specs.Walk.{item}
+use Rattle.reader.specs.Walk.{item, frames_from}
 use Rattle.reader.specs.Items.{at_told}
 
 -- whether there is one
@@ -45,3 +45,18 @@ item_at image k = item image (before_item image k) (get_or image (2 + k) 0)
 -- the j-th frame, where the bytes are frames
 abbrev pub NthFrame : List ℕ → ℕ → rust.Option FrameBuilder → Type 0
 NthFrame bs j r = (fs : List FrameBuilder) → read_frames 32 bs ≡ some fs → at_told r ≡ get_elem? fs j
+
+-- n items from the k-th on
+abbrev pub items_at : List ℕ → ℕ → ℕ → List (List ℕ)
+items_at image k zero = []
+items_at image k (suc n) = item_at image k ∷ items_at image (suc k) n
+
+-- those that were not refused
+abbrev pub those : List (Result FrameBuilder Error) → List FrameBuilder
+those [] = []
+those (Ok f ∷ rs) = f ∷ those rs
+those (Err e ∷ rs) = those rs
+
+-- the frames that bytes are
+abbrev pub frames_in : List ℕ → List FrameBuilder
+frames_in bytes = those (frames_from 32 bytes)

@@ -1,6 +1,6 @@
 -- There are 32 at most.
 use Rattle.std.proofs.Common.{arith}
-use Rattle.page.proofs.Standing.{frames_few}
+use Rattle.readings.proofs.InPlace.{frames_few}
 use Rattle.page.proofs.frames.Goals as goal
 
 pub overflow_add-frames : goal.overflow_add-frames

@@ -1,7 +1,7 @@
 -- Those that are left, with those before, are all.
 use Rattle.std.proofs.Common.{◌≡◌, ◌+◌, length}
 use Rattle.reader.specs.Walk.{frames_left}
-use Rattle.page.specs.InPlace.{those, frames_in}
+use Rattle.readings.specs.InPlace.{those, frames_in}
 use Rattle.page.proofs.frames.Given as goal
 
 abbrev pub invariant-loop-frame : goal.invariant-loop-frame

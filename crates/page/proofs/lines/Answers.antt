@@ -1,7 +1,7 @@
 -- A sequence's frames more.
 use Rattle.std.proofs.Common.{◌+◌, ◌∙◌, ap, arith, length}
 use Rattle.readings.specs.InPlace.{item_at}
-use Rattle.page.specs.InPlace.{frames_in}
+use Rattle.readings.specs.InPlace.{frames_in}
 use Rattle.page.proofs.Standing.{frames_bound, frames_next, frames_end}
 use Rattle.page.proofs.lines.Goals as goal
 

@@ -1,7 +1,7 @@
 -- Those of the sequences that are left, with those before, are all.
 use Rattle.std.proofs.Common.{◌≡◌, ◌+◌, drop, length, map}
 use Rattle.laws.specs.Lists.{joined}
-use Rattle.page.specs.InPlace.{items_at, frames_in}
+use Rattle.readings.specs.InPlace.{items_at, frames_in}
 use Rattle.page.proofs.lines.Given as goal
 
 abbrev pub invariant-loop-i : goal.invariant-loop-i

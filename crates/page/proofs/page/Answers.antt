@@ -6,9 +6,10 @@ use Rattle.laws.specs.Lists.{joined}
 use Rattle.laws.specs.Copied.{placed}
 use Rattle.laws.proofs.Lists.{bytes_of}
 use Rattle.laws.proofs.Whole.{whole_or_nothing}
-use Rattle.page.specs.InPlace.{items_at, frames_in}
+use Rattle.readings.specs.InPlace.{items_at, frames_in}
 use Rattle.page.specs.Lines.{frame_lines, numbered, page_of, page_item}
-use Rattle.page.proofs.Pages.{counted, size, snippets_few, all_placed}
+use Rattle.readings.proofs.InPlace.{counted}
+use Rattle.page.proofs.Pages.{size, snippets_few, all_placed}
 use Rattle.page.proofs.page.Goals as goal
 
 -- without room

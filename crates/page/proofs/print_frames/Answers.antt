@@ -4,7 +4,7 @@ use Rattle.laws.specs.Copied.{placed}
 use Rattle.laws.specs.Lists.{joined}
 use Rattle.frame.specs.Frame.{bytes_of}
 use Rattle.reader.specs.Walk.{frames_left}
-use Rattle.page.specs.InPlace.{those}
+use Rattle.readings.specs.InPlace.{those}
 use Rattle.page.specs.Lines.{frame_line, numbered}
 use Rattle.page.proofs.Numbered.{line_more}
 use Rattle.page.proofs.Wide.{frame_wide}

@@ -4,7 +4,7 @@ use Rattle.laws.specs.Copied.{placed}
 use Rattle.laws.specs.Lists.{joined}
 use Rattle.frame.specs.Frame.{bytes_of}
 use Rattle.reader.specs.Walk.{frames_left}
-use Rattle.page.specs.InPlace.{those, frames_in}
+use Rattle.readings.specs.InPlace.{those, frames_in}
 use Rattle.page.specs.Lines.{frame_line, frame_lines, numbered}
 use Rattle.page.proofs.print_frames.Given as goal
 

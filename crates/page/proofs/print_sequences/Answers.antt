@@ -5,11 +5,12 @@ use Rattle.laws.specs.Lists.{joined}
 use Rattle.laws.proofs.Lists.{joined_append}
 use Rattle.frame.specs.declared.FrameBuilder.{FrameBuilder}
 use Rattle.readings.specs.InPlace.{item_at}
-use Rattle.page.specs.InPlace.{items_at, frames_in}
+use Rattle.readings.specs.InPlace.{items_at, frames_in}
 use Rattle.page.specs.Lines.{frame_lines, numbered}
 use Rattle.page.proofs.Placed.{lines_placed, placed_none}
 use Rattle.page.proofs.Numbered.{numbered_next}
-use Rattle.page.proofs.Standing.{items_next, items_end, frames_next}
+use Rattle.readings.proofs.InPlace.{items_next, items_end}
+use Rattle.page.proofs.Standing.{frames_next}
 use Rattle.page.proofs.Wide.{frames_wide}
 use Rattle.page.proofs.print_sequences.Goals as goal
 

@@ -3,10 +3,10 @@ use Rattle.std.proofs.Common.{◌≡◌, ◌+◌, ◌*◌, ◌≤◌, ◌<◌, �
 use Rattle.laws.specs.Copied.{placed}
 use Rattle.laws.specs.Lists.{joined}
 use Rattle.readings.specs.InPlace.{item_at}
-use Rattle.page.specs.InPlace.{items_at}
+use Rattle.readings.specs.InPlace.{items_at}
 use Rattle.page.specs.Lines.{snippet_line, numbered}
 use Rattle.page.proofs.Numbered.{line_more, no_line_more}
-use Rattle.page.proofs.Standing.{items_next, items_end, items_all}
+use Rattle.readings.proofs.InPlace.{items_next, items_end, items_all}
 use Rattle.page.proofs.Wide.{snippet_wide}
 use Rattle.page.proofs.print_snippets.Goals as goal
 

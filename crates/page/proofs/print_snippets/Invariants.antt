@@ -2,7 +2,7 @@
 use Rattle.std.proofs.Common.{◌≡◌, ◌+◌, ◌*◌, drop}
 use Rattle.laws.specs.Copied.{placed}
 use Rattle.laws.specs.Lists.{joined}
-use Rattle.page.specs.InPlace.{items_at}
+use Rattle.readings.specs.InPlace.{items_at}
 use Rattle.page.specs.Lines.{snippet_line, numbered}
 use Rattle.page.proofs.print_snippets.Given as goal
 
