@@ -1,0 +1,60 @@
+-- Items one by one: tested, and put behind those that are kept.
+-- Assumes nothing.
+use Rattle.std.proofs.Common.{◌≡◌, ◌+◌, ◌≤◌, ◌<◌, ◌++◌, ◌||◌, ◌∙◌, Bool, ℕ, zero, suc, List, [], ◌∷◌, cond, ltb, map, length, drop, refl, sym, ap, arith}
+use mathlib.Core.List.{append_assoc, map-append}
+use lib.ListN.{length-append}
+use borrow.Author.Tests.{lt-ltb}
+use Rattle.laws.specs.Lists.{joined}
+use Rattle.frame.specs.declared.FrameBuilder.{FrameBuilder}
+use Rattle.readings.specs.InPlace.{item_at, items_at, frames_in}
+use Rattle.readings.proofs.InPlace.{items_next, items_end}
+use Rattle.pool.specs.declared.Pool.{Pool}
+use Rattle.pool.specs.Kept.{kept, Pushed}
+use Rattle.pool.proofs.Keeping.{count}
+use Rattle.merge.specs.Merged.{any}
+
+-- ---- whether one passes
+
+pub any_append : {A : Type 0} (p : A → Bool) (xs ys : List A) → any p (xs ++ ys) ≡ (any p xs || any p ys)
+any_append p [] ys = refl
+any_append p (x ∷ xs) ys = grind (arith, any_append p xs ys)
+
+module _ (p : FrameBuilder → Bool) (image : List ℕ) (k n i : ℕ) where
+  pub any_next : i < n
+      → any p (joined (map frames_in (drop i (items_at image k n)))) ≡ (any p (frames_in (item_at image (k + i))) || any p (joined (map frames_in (drop (i + 1) (items_at image k n)))))
+  any_next h =
+      ap (λ l. any p (joined (map frames_in l))) (items_next image k n i h)
+      ∙ any_append p (frames_in (item_at image (k + i))) (joined (map frames_in (drop (i + 1) (items_at image k n))))
+
+  pub any_end : n ≤ i → any p (joined (map frames_in (drop i (items_at image k n)))) ≡ Bool.false
+  any_end h = ap (λ l. any p (joined (map frames_in l))) (items_end image k n i h)
+
+-- ---- one item more
+
+items_last : (image : List ℕ) (k n : ℕ) → items_at image k (suc n) ≡ items_at image k n ++ item_at image (k + n) ∷ []
+items_last image k zero = (λ t. item_at image (at t) ∷ []) where
+  at : k ≡ k + 0
+  at = omega arith
+items_last image k (suc n) = (λ t. item_at image k ∷ items_last image (suc k) n t) ∙ (λ t. item_at image k ∷ (items_at image (suc k) n ++ item_at image (at t) ∷ [])) where
+  at : suc k + n ≡ k + suc n
+  at = omega arith
+
+pub items_more : (image : List ℕ) (k n : ℕ) → items_at image k (n + 1) ≡ items_at image k n ++ item_at image (k + n) ∷ []
+items_more image k n = let e : n + 1 ≡ suc n = omega arith in ap (items_at image k) e ∙ items_last image k n
+
+module _ (most : ℕ) (before items : List (List ℕ)) (p : Pool most) (e : p ≡ kept most (before ++ items)) where
+  many : p.count ≡ length before + length items
+  many = count most (before ++ items) p e ∙ length-append before items
+
+  pub kept_room : p.count < most → length before + length items < most
+  kept_room h = omega (arith, many)
+
+  pub kept_full : most ≤ p.count → most ≤ length before + length items
+  kept_full h = omega (arith, many)
+
+  pub kept_more : (x : List ℕ) (p' : Pool most) → p.count < most → Pushed most x p p' → p' ≡ kept most (before ++ (items ++ x ∷ []))
+  kept_more x p' h q =
+      let n = length-append before items in
+      q (before ++ items) (omega (arith, many)) e
+      ∙ ap (λ t. kept most (cond t ((before ++ items) ++ x ∷ []) (before ++ items))) (lt-ltb (length (before ++ items)) most (omega (arith, many)))
+      ∙ ap (kept most) (append_assoc before items (x ∷ []))
