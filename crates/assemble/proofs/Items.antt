@@ -19,7 +19,8 @@ use Rattle.calls.specs.Calls.{frame_begun}
 use Rattle.pattern.specs.Calls.{snippet_from, points_from, begun_by, FrameCalls, frame_from, sequence_from, frames_from}
 use Rattle.pattern.proofs.Items.{frame_ran}
 use Rattle.pattern.proofs.Snippets.{snippet_holds}
-use Rattle.pattern.proofs.Frames.{built_bytes, FrameOutcome, frame_outcome}
+use Rattle.frame.proofs.Built.{built_bytes}
+use Rattle.pattern.proofs.Frames.{FrameOutcome, frame_outcome}
 use Rattle.pattern.proofs.Sequences.{sequence_holds}
 use Rattle.assemble.specs.Lists.{groups_of}
 use Rattle.assemble.specs.Items.{snippet_item, sequence_item, WholeItems}

@@ -4,3 +4,4 @@ pub mod Packed
 pub mod Parts
 pub mod Reading
 pub mod Written
+pub mod Built

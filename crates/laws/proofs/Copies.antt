@@ -1,12 +1,12 @@
--- What is copied where it fits, and bytes laid over a list.
+-- What is copied where it fits, bytes laid over a list, and bytes placed from an index on, one part behind the other.
 -- Assumes nothing.
-use mathlib.Core.Path.{◌≡◌, ap, sym, ◌∙◌}
-use mathlib.Core.List.{List, ◌++◌, append_assoc, append-nil}
-use Prim.Native.Nat.{ℕ, ◌+◌, ◌≤◌}
+use mathlib.Core.Path.{◌≡◌, refl, ap, sym, ◌∙◌}
+use mathlib.Core.List.{List, [], ◌∷◌, ◌++◌, append_assoc, append-nil}
+use Prim.Native.Nat.{ℕ, zero, suc, ◌+◌, ◌≤◌}
 use native.Mathlib.Omega.{arith}
-use lib.ListN.{length, take, drop, length-append, length-take, length-drop, drop_of_length-le}
+use lib.ListN.{length, take, drop, set, length-append, length-take, length-drop, drop_of_length-le}
 use lib.Seq.{take_all, take_at, drop_at, drop-drop}
-use Rattle.laws.specs.Copied.{copied, over}
+use Rattle.laws.specs.Copied.{copied, over, placed}
 
 -- what fits is copied whole, and all of a buffer that is as long
 pub copied_fits : (d xs : List ℕ) → length xs ≤ length d → copied d xs ≡ xs ++ drop (length xs) d
@@ -36,3 +36,25 @@ over_behind front l xs n e =
 -- and what stands behind as many others
 pub over_at : (front z rest xs : List ℕ) (n : ℕ) → length front ≡ n → length z ≡ length xs → over (front ++ (z ++ rest)) n xs ≡ front ++ xs ++ rest
 over_at front z rest xs n e f = over_behind front (z ++ rest) xs n e ∙ ap (λ (l : List ℕ). front ++ xs ++ l) (drop_at z rest (length xs) f)
+
+-- ---- placed one part behind the other
+
+pub placed_none : (l : List ℕ) (at : ℕ) → placed l at [] ≡ l
+placed_none [] zero = refl
+placed_none [] (suc at) = refl
+placed_none (x ∷ l) zero = refl
+placed_none (x ∷ l) (suc at) = ap (λ t. x ∷ t) (placed_none l at)
+
+pub placed_first : (l : List ℕ) (at b : ℕ) (r : List ℕ) → placed l at (b ∷ r) ≡ placed (set l at b) (suc at) r
+placed_first [] zero b r = sym (drop_of_length-le [] {i = length r} (omega arith))
+placed_first [] (suc at) b r = sym (drop_of_length-le [] {i = length r} (omega arith))
+placed_first (x ∷ l) zero b r = refl
+placed_first (x ∷ l) (suc at) b r = ap (λ t. x ∷ t) (placed_first l at b r)
+
+pub placed_more : (l : List ℕ) (at : ℕ) (a b : List ℕ) → placed (placed l at a) (at + length a) b ≡ placed l at (a ++ b)
+placed_more l at [] b = ap (λ n. placed (placed l at []) n b) (omega arith) ∙ ap (λ t. placed t at b) (placed_none l at)
+placed_more l at (x ∷ a) b =
+    ap (λ n. placed (placed l at (x ∷ a)) n b) (omega arith)
+    ∙ ap (λ t. placed t (suc at + length a) b) (placed_first l at x a)
+    ∙ placed_more (set l at x) (suc at) a b
+    ∙ sym (placed_first l at x (a ++ b))

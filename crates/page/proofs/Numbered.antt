@@ -4,7 +4,8 @@ use Rattle.std.proofs.Common.{◌≡◌, ◌+◌, ◌*◌, ◌∙◌, ℕ, suc, 
 use Rattle.laws.specs.Copied.{placed}
 use Rattle.laws.specs.Lists.{joined}
 use Rattle.page.specs.Lines.{numbered}
-use Rattle.page.proofs.Placed.{lines_placed, placed_none}
+use Rattle.laws.proofs.Copies.{placed_none}
+use Rattle.page.proofs.Placed.{lines_placed}
 
 pub numbered_next : {A B : Type 0} (f : ℕ → A → B) (n : ℕ) (xs : List A) (x : A) (r : List A) → xs ≡ x ∷ r → numbered f n xs ≡ f n x ∷ numbered f (n + 1) r
 numbered_next f n xs x r e = ap (numbered f n) e ∙ ap (λ m. f n x ∷ numbered f m r) one where

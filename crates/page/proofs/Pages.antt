@@ -6,12 +6,11 @@ use Rattle.laws.specs.Bytes.{All}
 use Rattle.laws.specs.Copied.{copied, placed}
 use Rattle.laws.specs.Lists.{joined}
 use Rattle.laws.proofs.Lists.{joined_append, all_map}
-use Rattle.laws.proofs.Copies.{copied_fits}
+use Rattle.laws.proofs.Copies.{copied_fits, placed_more}
 use Rattle.content.specs.Content.{Content, byte_of, point_bytes, Admitted}
 use Rattle.readings.specs.InPlace.{items_at, frames_in}
 use Rattle.page.specs.Lines.{snippet_line, frame_lines, numbered, page_lines, page_of}
 use Rattle.readings.proofs.InPlace.{Counted}
-use Rattle.page.proofs.Placed.{placed_more}
 use Rattle.page.proofs.Indexed.{lines_count}
 use Rattle.page.proofs.Shown.{lines_shown, joined_lines}
 use Rattle.page.proofs.Wide.{snippet_wide}

@@ -6,11 +6,11 @@ use mathlib.Core.List.{append_assoc}
 use lib.ListN.{length-append, length-replicate, drop_of_length-le}
 use Rattle.laws.specs.Copied.{copied, placed}
 use Rattle.laws.specs.Lists.{joined}
-use Rattle.laws.proofs.Copies.{copied_fits}
+use Rattle.laws.proofs.Copies.{copied_fits, placed_more, placed_none}
 use Rattle.frame.specs.declared.FrameBuilder.{FrameBuilder}
 use Rattle.frame.specs.Frame.{bytes_of, has_second, second_byte, on_given}
 use Rattle.page.specs.Lines.{characters, blank, newline, two_digits, two_capitals, in_capitals, line, snippet_line, frame_line, numbered}
-use Rattle.page.proofs.Placed.{placed_more, placed_none, placed_two}
+use Rattle.page.proofs.Placed.{placed_two}
 
 -- what is left of an empty line behind a text
 blanks_left : (n m : ℕ) → n ≤ m → drop {A = ℕ} n (replicate m blank ++ newline ∷ []) ≡ replicate (m - n) blank ++ newline ∷ []

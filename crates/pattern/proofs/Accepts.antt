@@ -23,7 +23,8 @@ use Rattle.content.specs.Content.{Content, point_bytes, frames_bytes, size_of}
 use Rattle.pattern.specs.Calls.{SnippetCall, ramp, step, point, snippet_step, snippet_from, points_from, FrameCall, gain, timebase, loop_count, frequency_hz, frame_step, Begin, new, silence, begun_by, FrameCalls, frame_called, number_of, frame_from, sequence_step, sequence_from, frames_from, MemoryCall, add_snippet, add_sequence, memory_step, memory_from, content_from, built_from}
 use Rattle.pattern.specs.Accepts.{point_fault, made_fault, snippet_fault, bad_begin, field_fault, sequence_fault, memory_fault, Accepts}
 use Rattle.pattern.proofs.Items.{frame_ran, answer_on, with_made_frame, snippets_held, sequences_held, content_held}
-use Rattle.pattern.proofs.Frames.{built_bytes, ran_fields}
+use Rattle.frame.proofs.Built.{built_bytes}
+use Rattle.pattern.proofs.Frames.{ran_fields}
 use Rattle.pattern.proofs.Snippets.{snippet_holds}
 use Rattle.pattern.proofs.Sequences.{sequence_holds}
 use Rattle.pattern.proofs.Memories.{memory_holds}

@@ -1,4 +1,4 @@
--- A frame's builder holds in each field what the last accepted call gave, and is admitted; its bytes are those of its fields.
+-- A frame's builder holds in each field what the last accepted call gave, and is admitted.
 -- Assumes nothing.
 use Rattle.std.specs.Prelude.{Option, Some, None}
 use mathlib.Core.Path.{◌≡◌, refl, ap, ◌∙◌, subst}
@@ -17,19 +17,6 @@ use Rattle.frame.specs.Builder.{frame_with, plain_frame, new_frame, with_loop_co
 use Rattle.frame.specs.Frame.{first_byte, second_byte, has_second, bytes_of, frame_bytes, built_frame}
 use Rattle.pattern.specs.Calls.{FrameCall, gain, timebase, loop_count, frequency_hz, frame_step, Begin, new, silence, begun_by, FrameCalls, number_of, sets, last_set, frame_from}
 use Rattle.pattern.proofs.Items.{frame_ran}
-
--- ---- a built frame shows the bytes of its fields
-
-third_short : (a b : ℕ) (q : Option ℕ) → take (length (a ∷ b ∷ third_byte q)) (take 3 ((a ∷ b ∷ third_byte q) ++ replicate 3 0)) ≡ a ∷ b ∷ third_byte q
-third_short a b None = refl
-third_short a b (Some f) = refl
-
-pub built_bytes : (b : FrameBuilder) → frame_bytes (built_frame b) ≡ bytes_of b
-built_bytes b = go (has_second b) where
-  go : (t : Bool) → take (length (first_byte b ∷ cond t (second_byte b ∷ third_byte b.frequency) [])) (take 3 ((first_byte b ∷ cond t (second_byte b ∷ third_byte b.frequency) []) ++ replicate 3 0))
-      ≡ first_byte b ∷ cond t (second_byte b ∷ third_byte b.frequency) []
-  go true = third_short (first_byte b) (second_byte b) b.frequency
-  go false = refl
 
 -- ---- the fields
 

@@ -39,7 +39,8 @@ use Rattle.pattern.specs.Calls.{held, SnippetCall, ramp, step, snippet_step, add
 use Rattle.pattern.proofs.Items.{frame_ran, with_made_frame, Item, points, frames, added_item, snippets_of, sequences_of, content_of, content_held}
 use Rattle.pattern.proofs.Outcomes.{Outcome}
 use Rattle.pattern.proofs.Snippets as snippet
-use Rattle.pattern.proofs.Frames.{built_bytes, fields_after, ran_fields}
+use Rattle.frame.proofs.Built.{built_bytes}
+use Rattle.pattern.proofs.Frames.{fields_after, ran_fields}
 use Rattle.pattern.proofs.Sequences as sequence
 use Rattle.pattern.proofs.Sequences.{frames_append}
 use Rattle.pattern.proofs.Memories as memory

@@ -26,7 +26,8 @@ use Rattle.content.specs.Content.{frames_bytes}
 use Rattle.pattern.specs.Calls.{FrameCalls, frame_from, begun_by, sequence_step, sequence_from, frames_from}
 use Rattle.pattern.proofs.Items.{frame_ran, with_made_frame}
 use Rattle.pattern.proofs.Outcomes.{Outcome, all_calls}
-use Rattle.pattern.proofs.Frames.{built_bytes, FrameOutcome, frame_outcome}
+use Rattle.frame.proofs.Built.{built_bytes}
+use Rattle.pattern.proofs.Frames.{FrameOutcome, frame_outcome}
 
 pub record Holds (b : SequenceBuilder) (fs : List FrameBuilder) : Type 0 where
   pub long : length b.«data» ≡ 96

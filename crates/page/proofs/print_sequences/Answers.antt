@@ -7,7 +7,8 @@ use Rattle.frame.specs.declared.FrameBuilder.{FrameBuilder}
 use Rattle.readings.specs.InPlace.{item_at}
 use Rattle.readings.specs.InPlace.{items_at, frames_in}
 use Rattle.page.specs.Lines.{frame_lines, numbered}
-use Rattle.page.proofs.Placed.{lines_placed, placed_none}
+use Rattle.laws.proofs.Copies.{placed_none}
+use Rattle.page.proofs.Placed.{lines_placed}
 use Rattle.page.proofs.Numbered.{numbered_next}
 use Rattle.readings.proofs.InPlace.{items_next, items_end}
 use Rattle.page.proofs.Standing.{frames_next}
