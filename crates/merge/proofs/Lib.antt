@@ -1,0 +1,5 @@
+pub mod Raised
+pub mod Lengths
+pub mod Plays
+pub mod Refused
+pub mod Merging
