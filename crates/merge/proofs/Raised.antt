@@ -1,4 +1,4 @@
--- A raised frame as it is read back: what it keeps, and how its length grows.
+-- A raised frame as it is read back, and what it keeps.
 -- Assumes nothing.
 use Rattle.std.specs.Prelude.{ℕ, zero, suc, ◌+◌, ◌≤◌, ◌≡◌, cond, ◌&&◌, leb, ltb, eqb, length, Some, None}
 use Rattle.std.specs.declared.option.Option as rust
@@ -14,18 +14,26 @@ use Rattle.frame.proofs.Canon.{canon}
 use Rattle.merge.specs.Merged.{raised_number, raised}
 use Rattle.merge.specs.Merge.{Kept}
 
+-- it names one of so many snippets, or silence
+abbrev pub Names : ℕ → FrameBuilder → Type 0
+Names snippets f = f.snippet_id ≤ snippets
+
 module _ (count n : ℕ) (g : Gain) (t : Timebase) where
+  abbrev number : ℕ
+  number = raised_number count n
+
   abbrev own : rust.Option ℕ → rust.Option ℕ → FrameBuilder
   own k q = canon (frame_with n g t k q)
 
-  kept_loops : (k q : rust.Option ℕ) → loop_meant (raised count (own k q)) ≡ on_given (own k q).loop_count (cond (ltb (raised_number count n) 8) None (Some 0)) Some
+  kept_loops : (k q : rust.Option ℕ)
+      → loop_meant (raised count (own k q)) ≡ on_given (own k q).loop_count (cond (ltb number 8) None (Some 0)) Some
   unfolding canon
   kept_loops (Some k) q = refl
   kept_loops None (Some q) = refl
   kept_loops None None = grind (arith, nat_tests)
 
-  kept_size : (k q : rust.Option ℕ)
-      → length (bytes_of (canon (raised count (own k q)))) ≡ length (bytes_of (own k q)) + cond (eqb (length (bytes_of (own k q))) 1 && leb 8 (raised_number count n)) 1 0
+  kept_size : (k q : rust.Option ℕ) → let l = length (bytes_of (own k q)) in
+      length (bytes_of (canon (raised count (own k q)))) ≡ l + cond (eqb l 1 && leb 8 number) 1 0
   unfolding canon
   kept_size k (Some q) = refl
   kept_size (Some k) None = refl
