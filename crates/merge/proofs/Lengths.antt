@@ -30,7 +30,8 @@ module _ (count few : ℕ) (s : count + few ≤ 15) where
   frame_grows zero g t None None h = refl
   frame_grows (suc n) g t None None h = grind (arith, nat_tests)
 
-  frames_grow : (fs : List FrameBuilder) → All (Names few) fs → length (frames_bytes (map (raised count) fs)) ≡ length (frames_bytes fs) + growing count fs
+  frames_grow : (fs : List FrameBuilder) → All (Names few) fs
+      → length (frames_bytes (map (raised count) fs)) ≡ length (frames_bytes fs) + growing count fs
   frames_grow [] h = omega arith
   frames_grow (f ∷ fs) h =
       simp length-append (omega (arith, frame_grows f.snippet_id f.gain f.timebase f.loop_count f.frequency h.0, frames_grow fs h.1))

@@ -1,27 +1,22 @@
 -- The claim on two images merged.
 -- Assumes nothing.
-use Rattle.std.specs.Prelude.{ℕ, ◌+◌, ◌≤◌, ◌<◌, ◌≡◌, ◌↔◌, ◌⊎◌, Bool, cond, ◌||◌, List, [], ◌∷◌, ◌++◌, map, ltb, length}
-use Rattle.std.proofs.Common.{refl, sym, subst, arith, ap, inl, inr, ⊎_elim, ◌∙◌, length-append, le-ltb, lt-ltb}
+use Rattle.std.specs.Prelude.{ℕ, ◌≡◌, ◌↔◌, ◌⊎◌, List, [], ◌∷◌, ◌++◌, map, length}
+use Rattle.std.proofs.Common.{refl, sym, subst, arith, ap, inl, inr, ◌∙◌, length-append, le-ltb, lt-ltb}
 use Rattle.std.proofs.Math.Option.{Option, none, some}
 use Rattle.std.proofs.lemmas.Bool.Decides.{nat_tests}
 use Rattle.std.proofs.lemmas.List.{length-map, map-append}
-use mathlib.Core.List.{map-map}
-use Rattle.errors.specs.Told.{gives, refuses, told_by}
-use Rattle.laws.specs.Bytes.{All, Bytes}
-use Rattle.laws.proofs.Lists.{all_append}
+use Rattle.errors.specs.Told.{gives, refuses}
+use Rattle.laws.specs.Bytes.{Bytes}
 use Rattle.frame.specs.declared.FrameBuilder.{FrameBuilder}
-use Rattle.frame.specs.Agreement.{FrameAdmitted}
 use Rattle.frame.specs.Read.{read_frame}
 use Rattle.frame.proofs.Canon.{canon}
-use Rattle.content.specs.Content.{Content, Both, Admitted, image_of, size_of}
+use Rattle.content.specs.Content.{Content, Both, Admitted, image_of}
 use Rattle.content.specs.ReadImage.{read_image, read_items, read_snippet, read_sequence}
-use Rattle.content.proofs.Admits.{SnippetAdmitted, SequenceAdmitted}
 use Rattle.content.proofs.Codec.{some_inj}
 use Rattle.content.proofs.Images.{image_codec, image_length}
 use Rattle.content.proofs.Sameness.{canonical}
-use Rattle.readings.proofs.Items.{found_left, found_right, found_map}
-use Rattle.merge.specs.Merged.{raised, merged, lacks, merge_number, merged_item}
-use Rattle.merge.specs.Merge.{PlaysAlike, Kept, Merged, Named, snippets_of, sequences_of, Merge}
+use Rattle.merge.specs.Merged.{raised, merged, merged_item}
+use Rattle.merge.specs.Merge.{Kept, Merged, Named, Merge}
 use Rattle.merge.proofs.Raised.{kept}
 use Rattle.merge.proofs.Lengths.{merged_size}
 use Rattle.merge.proofs.Admits.{merged_admitted}
@@ -67,16 +62,13 @@ module _ (c d : Content) (again_c : canonical c ≡ c) (again_d : canonical d �
         short = λ out h. let t = lt-ltb (length out) 100 h in (simp (long, t), simp (long, t));
       }
 
-given_is : (n : ℕ) (i j : List ℕ) → told_by n i ≡ gives j → i ≡ j
-given_is n i j e = grind (arith, nat_tests)
-
 merged_to : (l m : List ℕ) → Bytes l → Bytes m → (c d : Content) → read_image l ≡ some c → read_image m ≡ some d
     → (image : List ℕ) → merged_item (some c) (some d) ≡ gives image → Merged c d image
 merged_to l m h g c d e f image t =
     let (w, s, q, z) = (refused c d).accepted.0 (image, t) in
     let a = merged_admitted c d (image_codec.sound l c h e).0 (image_codec.sound m d g f).0 w.1 s q (omega (arith, merged_size c d w.1 s)) in
-    subst (Merged c d) (given_is (merge_number c d) (image_of (merged c d)) image t)
-    (image_merged c d (read_again l c h e) (read_again m d g f) w a)
+    let same : image_of (merged c d) ≡ image = grind (arith, nat_tests) in
+    subst (Merged c d) same (image_merged c d (read_again l c h e) (read_again m d g f) w a)
 
 unread : (o p : Option Content) → (merged_item o p ≡ refuses 18) ↔ ((o ≡ none) ⊎ (p ≡ none))
 unread none p = (λ e. inl refl, λ h. refl)

@@ -1,6 +1,6 @@
 -- A frame of either image plays in the merged image what it played.
 -- Assumes nothing.
-use Rattle.std.specs.Prelude.{ℕ, zero, suc, ◌+◌, ◌≤◌, ◌<◌, ◌≡◌, true, cond, List, [], ◌∷◌, ◌++◌, map, leb, length, get_or, Some, None}
+use Rattle.std.specs.Prelude.{ℕ, zero, suc, ◌+◌, ◌≤◌, ◌<◌, ◌≡◌, List, [], ◌∷◌, ◌++◌, map, length, get_or, Some, None}
 use Rattle.std.specs.declared.option.Option as rust
 use Rattle.std.proofs.Common.{refl, arith, ◌∙◌}
 use mathlib.Core.List.{map-map}
@@ -21,7 +21,7 @@ use Rattle.content.proofs.Sameness.{canonical}
 use Rattle.reader.proofs.Placed.{elem_some}
 use Rattle.readings.proofs.Items.{found_left, found_right, found_map}
 use Rattle.merge.specs.Merged.{raised_number, raised, merged}
-use Rattle.merge.specs.Merge.{Played, points_named, played, PlaysAlike, Named}
+use Rattle.merge.specs.Merge.{points_named, played, PlaysAlike, Named}
 use Rattle.merge.proofs.Raised.{Names}
 
 -- both are there, and the same
@@ -86,19 +86,22 @@ there P (x ∷ xs) zero p h = (x, refl, p.0)
 there P (x ∷ xs) (suc i) p h = there P xs i p.1 (omega arith)
 
 module _ (c d : Content) where
-  abbrev rest : List (List FrameBuilder)
-  rest = map (map (raised (length c.snippets))) d.sequences
+  abbrev others : List FrameBuilder → List FrameBuilder
+  others fs = map (raised (length c.snippets)) fs
+
+  abbrev all : List (List FrameBuilder)
+  all = c.sequences ++ map others d.sequences
 
   pub first_plays : Named c → (i : ℕ) → i < length c.sequences → PlaysAlike c i (canonical (merged c d)) i
   unfolding canonical
   first_plays w i h =
       let (fs, e, n) = there (All (Names (length c.snippets))) c.sequences i w h in
-      rw (e, found_map (map canon) (c.sequences ++ rest) i fs (found_left c.sequences rest i fs e)) (frames_first c.snippets d.snippets fs n)
+      rw (e, found_map (map canon) all i fs (found_left c.sequences (map others d.sequences) i fs e)) (frames_first c.snippets d.snippets fs n)
 
   pub second_plays : Named d → (i : ℕ) → i < length d.sequences → PlaysAlike d i (canonical (merged c d)) (length c.sequences + i)
   unfolding canonical
   second_plays w i h =
       let (fs, e, n) = there (All (Names (length d.snippets))) d.sequences i w h in
       let at = length c.sequences + i in
-      let found = found_right c.sequences rest i at refl ∙ found_map (map (raised (length c.snippets))) d.sequences i fs e in
-      rw (e, found_map (map canon) (c.sequences ++ rest) at (map (raised (length c.snippets)) fs) found, map-map) (frames_second c.snippets d.snippets fs n)
+      let found = found_right c.sequences (map others d.sequences) i at refl ∙ found_map others d.sequences i fs e in
+      rw (e, found_map (map canon) all at (others fs) found, map-map) (frames_second c.snippets d.snippets fs n)

@@ -40,8 +40,8 @@ module _ (count n : ℕ) (g : Gain) (t : Timebase) where
   kept_size None None = grind (arith, nat_tests)
 
 numbered : (count n : ℕ) → (n ≡ 0 → raised_number count n ≡ 0) × (1 ≤ n → raised_number count n ≡ count + n)
-numbered count zero = (λ e. refl, λ h. absurd (omega arith))
-numbered count (suc n) = (λ e. absurd (omega arith), λ h. refl)
+numbered count zero = grind arith
+numbered count (suc n) = grind arith
 
 pub kept : (count : ℕ) (f : FrameBuilder) → Kept count (canon f) (canon (raised count (canon f)))
 unfolding canon
