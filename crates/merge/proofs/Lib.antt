@@ -1,1 +1,7 @@
 mod Keeping
+mod Raised
+mod Lengths
+mod Admits
+mod Plays
+mod Refused
+pub mod Merging

@@ -1,5 +1,6 @@
--- What is claimed of two images merged: document 02, CR 7, "Each sequence must play the same points with the same gain, timebase, loop count (absent
--- equals 0) and frequency as before", and each refusal exactly under its condition. The request's rules are said a second time here, apart from Merged.antt.
+-- What is claimed of two images merged: document 02, CR 7, "Each sequence must play the same points with the same gain, timebase, loop count
+-- (absent equals 0) and frequency as before", and each refusal exactly under its condition. The request's rules are said a second time here, apart
+-- from Merged.antt.
 use Rattle.std.specs.Prelude.{ℕ, zero, suc, ◌+◌, ◌≤◌, ◌<◌, ◌≡◌, ◌↔◌, ◌⊎◌, cond, ◌&&◌, List, [], ◌∷◌, ◌++◌, ltb, leb, eqb, length, replicate, drop, Some, None}
 use Rattle.std.specs.declared.option.Option as rust
 use Rattle.std.proofs.Math.Option.{Option, none, some}
@@ -35,7 +36,8 @@ points_named snippets (suc n) = and_then (get_elem? snippets n) (λ points. some
 abbrev pub played : List (List Point) → FrameBuilder → Option Played
 played snippets f =
     and_then (points_named snippets f.snippet_id)
-    (λ points. some (record { points = points; gain = f.gain; timebase = f.timebase; loop_count = on_given f.loop_count 0 (λ k. k); frequency = f.frequency }))
+    (λ points. some (
+        record { points = points; gain = f.gain; timebase = f.timebase; loop_count = on_given f.loop_count 0 (λ k. k); frequency = f.frequency }))
 
 -- what sequence i plays, frame by frame; none where there is none, or where one of its frames names a missing snippet
 abbrev pub plays : Content → ℕ → Option (List Played)
@@ -112,7 +114,8 @@ pub record Refused (c d : Content) : Type 0 where
   pub missing : (merged_item (some c) (some d) ≡ refuses 25) ↔ ¬ (Named c × Named d)
   pub snippets : (merged_item (some c) (some d) ≡ refuses 6) ↔ ((Named c × Named d) × (15 < snippets_of c d))
   pub sequences : (merged_item (some c) (some d) ≡ refuses 7) ↔ ((Named c × Named d) × (snippets_of c d ≤ 15) × (16 < sequences_of c d))
-  pub size : (merged_item (some c) (some d) ≡ refuses 8) ↔ ((Named c × Named d) × (snippets_of c d ≤ 15) × (sequences_of c d ≤ 16) × (102 < sizes_of c d))
+  pub size : (merged_item (some c) (some d) ≡ refuses 8)
+      ↔ ((Named c × Named d) × (snippets_of c d ≤ 15) × (sequences_of c d ≤ 16) × (102 < sizes_of c d))
   -- and where none does, there is an image
   pub accepted : ((image : List ℕ) × (merged_item (some c) (some d) ≡ gives image))
       ↔ ((Named c × Named d) × (snippets_of c d ≤ 15) × (sequences_of c d ≤ 16) × (sizes_of c d ≤ 102))
@@ -138,7 +141,7 @@ two = filled (0x02 ∷ 0x01 ∷ 0x05 ∷ 0x06 ∷ 0x0C ∷ 0x01 ∷ 0x02 ∷ 0x0
 pub record Merge : Type 0 where
   -- "Either input unreadable gives 18"
   pub unread : (o p : Option Content) → (merged_item o p ≡ refuses 18) ↔ ((o ≡ none) ⊎ (p ≡ none))
-  pub refused : (l m : List ℕ) → Bytes l → Bytes m → (c d : Content) → read_image l ≡ some c → read_image m ≡ some d → Refused c d
+  pub refused : (c d : Content) → Refused c d
   -- a refusal is told whatever the buffer, which stays
   pub untouched : (out : List ℕ) (n : ℕ) → (whole out (refuses n) ≡ refuses n) × (whole_out out (refuses n) ≡ out)
   pub merged : (l m : List ℕ) → Bytes l → Bytes m → (c d : Content) → read_image l ≡ some c → read_image m ≡ some d
