@@ -11,7 +11,7 @@ use Rattle.content.specs.Content.{Content, Within, Admitted, size_of}
 use Rattle.content.proofs.Admits.{SnippetAdmitted, SequenceAdmitted}
 use Rattle.merge.specs.Merged.{raised_number, raised, merged}
 use Rattle.merge.specs.Merge.{Named, snippets_of, sequences_of}
-use Rattle.merge.proofs.Raised.{Names}
+use Rattle.merge.proofs.FrameKept.{Names}
 
 module _ {A : Type 0} (most : ℕ) (Good : A → Type 0) where
   within_append : (xs ys : List A) → Within most Good xs → Within most Good ys → length xs + length ys ≤ most → Within most Good (xs ++ ys)

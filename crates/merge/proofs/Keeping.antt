@@ -1,12 +1,13 @@
 -- Items one by one: tested, and put behind those that are kept.
 -- Assumes nothing.
-use Rattle.std.proofs.Common.{◌≡◌, ◌+◌, ◌≤◌, ◌<◌, ◌++◌, ◌||◌, ◌∙◌, Bool, true, false, ℕ, zero, suc, List, [], ◌∷◌, cond, ltb, map, length, drop, refl, sym, ap, arith}
+use Rattle.std.proofs.Common.{◌≡◌, ◌+◌, ◌≤◌, ◌<◌, ◌++◌, ◌||◌, ◌∙◌, Bool, true, false, ℕ, zero, suc, List, [], ◌∷◌, cond, ltb, map, length, drop, refl, sym, ap, subst, arith}
 use mathlib.Core.List.{append_assoc, map-append}
 use lib.ListN.{length-append}
 use borrow.Author.Tests.{lt-ltb, le-ltb, ltb-true, ltb-false}
 use Rattle.errors.specs.declared.Error.{Error}
 use Rattle.errors.specs.Number.{error_number}
 use Rattle.errors.proofs.Numbers.{has_number}
+use Rattle.laws.specs.Bytes.{All}
 use Rattle.laws.specs.Lists.{joined}
 use Rattle.frame.specs.declared.FrameBuilder.{FrameBuilder}
 use Rattle.readings.specs.InPlace.{item_at, items_at, frames_in}
@@ -44,6 +45,13 @@ items_last image k (suc n) = (λ t. item_at image k ∷ items_last image (suc k)
 
 pub items_more : (image : List ℕ) (k n : ℕ) → items_at image k (n + 1) ≡ items_at image k n ++ item_at image (k + n) ∷ []
 items_more image k n = let e : n + 1 ≡ suc n = omega arith in ap (items_at image k) e ∙ items_last image k n
+
+-- what holds of each item's g holds of the i-th's
+pub items_each : {A : Type 0} (P : A → Type 0) (g : List ℕ → A) (image : List ℕ) (k n i : ℕ) → All P (map g (items_at image k n)) → i < n → P (g (item_at image (k + i)))
+items_each P g image k zero i h t = absurd (omega arith)
+items_each P g image k (suc n) zero h t = let e : k ≡ k + 0 = omega arith in subst (λ j. P (g (item_at image j))) e h.0
+items_each P g image k (suc n) (suc i) h t =
+    let e : suc k + i ≡ k + suc i = omega arith in subst (λ j. P (g (item_at image j))) e (items_each P g image (suc k) n i h.1 (omega arith))
 
 pub has_room : (a b full : ℕ) → 1 ≤ full → 0 ≡ cond (ltb a b) 0 full → a < b
 has_room a b full h v = go (ltb a b) refl v where

@@ -16,7 +16,7 @@ use Rattle.frame.specs.Builder.{frame_with}
 use Rattle.content.specs.Content.{Content, frames_bytes, size_of}
 use Rattle.merge.specs.Merged.{raised, merged}
 use Rattle.merge.specs.Merge.{Named, growing, snippets_of, sizes_of}
-use Rattle.merge.proofs.Raised.{Names}
+use Rattle.merge.proofs.FrameKept.{Names}
 
 growing_append : (count : ℕ) (fs gs : List FrameBuilder) → growing count (fs ++ gs) ≡ growing count fs + growing count gs
 growing_append count [] gs = omega arith

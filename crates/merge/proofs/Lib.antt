@@ -1,5 +1,6 @@
 mod Keeping
-mod Raised
+mod Raising
+mod FrameKept
 mod Lengths
 mod Admits
 mod Plays

@@ -17,7 +17,7 @@ use Rattle.content.proofs.Images.{image_codec, image_length}
 use Rattle.content.proofs.Sameness.{canonical}
 use Rattle.merge.specs.Merged.{raised, merged, merged_item}
 use Rattle.merge.specs.Merge.{Kept, Merged, Named, Merge}
-use Rattle.merge.proofs.Raised.{kept}
+use Rattle.merge.proofs.FrameKept.{kept}
 use Rattle.merge.proofs.Lengths.{merged_size}
 use Rattle.merge.proofs.Admits.{merged_admitted}
 use Rattle.merge.proofs.Plays.{first_plays, second_plays}

@@ -22,7 +22,7 @@ use Rattle.reader.proofs.Placed.{elem_some}
 use Rattle.readings.proofs.Items.{found_left, found_right, found_map}
 use Rattle.merge.specs.Merged.{raised_number, raised, merged}
 use Rattle.merge.specs.Merge.{points_named, played, PlaysAlike, Named}
-use Rattle.merge.proofs.Raised.{Names}
+use Rattle.merge.proofs.FrameKept.{Names}
 
 -- both are there, and the same
 abbrev Alike : {A : Type 0} → Option A → Option A → Type 0

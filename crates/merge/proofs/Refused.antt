@@ -10,7 +10,7 @@ use Rattle.content.specs.Content.{Content, image_of}
 use Rattle.merge.specs.Merged.{any, merged}
 use Rattle.merge.specs.Merge.{Refused}
 use Rattle.merge.proofs.Keeping.{any_append}
-use Rattle.merge.proofs.Raised.{Names}
+use Rattle.merge.proofs.FrameKept.{Names}
 use Rattle.merge.proofs.Lengths.{merged_size}
 
 module _ (most : ℕ) where

@@ -37,7 +37,7 @@ abbrev pub played : List (List Point) → FrameBuilder → Option Played
 played snippets f =
     and_then (points_named snippets f.snippet_id)
     (λ points. some (
-        record { points = points; gain = f.gain; timebase = f.timebase; loop_count = on_given f.loop_count 0 (λ k. k); frequency = f.frequency }))
+    record { points = points; gain = f.gain; timebase = f.timebase; loop_count = on_given f.loop_count 0 (λ k. k); frequency = f.frequency }))
 
 -- what sequence i plays, frame by frame; none where there is none, or where one of its frames names a missing snippet
 abbrev pub plays : Content → ℕ → Option (List Played)

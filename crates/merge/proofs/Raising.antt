@@ -1,0 +1,46 @@
+-- The bytes of a sequence's frames, raised: their room, and one frame more.
+-- Assumes nothing.
+use Rattle.std.specs.Prelude.{ℕ, ◌+◌, ◌*◌, ◌≤◌, ◌≡◌, Bool, true, false, cond, List, [], ◌∷◌, ◌++◌, ◌%◌, map, length, Some, None}
+use Rattle.std.specs.declared.option.Option as rust
+use Rattle.std.proofs.Common.{◌∙◌, refl, sym, ap, arith, length-append}
+use Rattle.laws.specs.Copied.{placed}
+use Rattle.laws.proofs.Copies.{placed_more}
+use Rattle.frame.specs.declared.FrameBuilder.{FrameBuilder}
+use Rattle.frame.specs.Frame.{on_given, first_byte, second_byte, has_second, bytes_of}
+use Rattle.content.specs.Content.{frames_bytes}
+use Rattle.readings.specs.InPlace.{frames_in}
+use Rattle.readings.proofs.InPlace.{frames_few}
+use Rattle.merge.specs.Merged.{raised}
+use Rattle.merge.specs.InPlace.{raised_bytes}
+
+-- "one to three bytes"
+third : (q : rust.Option ℕ) → length (on_given q [] (λ f. f % 256 ∷ [])) ≤ 1
+third None = omega arith
+third (Some f) = omega arith
+
+three : (f : FrameBuilder) → length (bytes_of f) ≤ 3
+three f = go (has_second f) where
+  go : (t : Bool) → length (first_byte f ∷ cond t (second_byte f ∷ on_given f.frequency [] (λ f. f % 256 ∷ [])) []) ≤ 3
+  go true = omega (arith, third f.frequency)
+  go false = omega arith
+
+raised_long : (count : ℕ) (fs : List FrameBuilder) → length (frames_bytes (map (raised count) fs)) ≤ 3 * length fs
+raised_long count [] = omega arith
+raised_long count (f ∷ fs) =
+    omega (arith, length-append (bytes_of (raised count f)) (frames_bytes (map (raised count) fs)), three (raised count f), raised_long count fs)
+
+pub raised_few : (count : ℕ) (bytes : List ℕ) → length (raised_bytes count bytes) ≤ 96
+raised_few count bytes = omega (arith, raised_long count (frames_in bytes), frames_few bytes)
+
+-- the frames fs are f and those that are left; x is the bytes of f, raised
+module _ (count : ℕ) (fs left : List FrameBuilder) (f : FrameBuilder) (e : fs ≡ f ∷ left) (x : List ℕ) (h : x ≡ bytes_of (raised count f)) where
+  pub raised_next : length x + length (frames_bytes (map (raised count) left)) ≡ length (frames_bytes (map (raised count) fs))
+  raised_next =
+      omega (arith, length-append (bytes_of (raised count f)) (frames_bytes (map (raised count) left)), ap (λ gs. length (frames_bytes (map (raised count) gs))) e, ap length h)
+
+  pub raised_placed : (out : List ℕ) (at : ℕ)
+      → placed (placed out at x) (at + length x) (frames_bytes (map (raised count) left)) ≡ placed out at (frames_bytes (map (raised count) fs))
+  raised_placed out at =
+      placed_more out at x (frames_bytes (map (raised count) left))
+      ∙ ap (λ y. placed out at (y ++ frames_bytes (map (raised count) left))) h
+      ∙ ap (λ gs. placed out at (frames_bytes (map (raised count) gs))) (sym e)
