@@ -1,7 +1,7 @@
 -- Items one by one: tested, and put behind those that are kept.
 -- Assumes nothing.
 use Rattle.std.proofs.Common.{◌≡◌, ◌+◌, ◌≤◌, ◌<◌, ◌++◌, ◌||◌, ◌∙◌, Bool, true, false, ℕ, zero, suc, List, [], ◌∷◌, cond, ltb, map, length, drop, refl, sym, ap, subst, arith}
-use mathlib.Core.List.{append_assoc, map-append}
+use mathlib.Core.List.{append_assoc}
 use lib.ListN.{length-append}
 use borrow.Author.Tests.{lt-ltb, le-ltb, ltb-true, ltb-false}
 use Rattle.errors.specs.declared.Error.{Error}

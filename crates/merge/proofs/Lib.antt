@@ -1,6 +1,7 @@
 mod Keeping
 mod Raising
 mod FrameKept
+mod Answered
 mod Lengths
 mod Admits
 mod Plays

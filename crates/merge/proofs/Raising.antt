@@ -2,7 +2,7 @@
 -- Assumes nothing.
 use Rattle.std.specs.Prelude.{ℕ, ◌+◌, ◌*◌, ◌≤◌, ◌≡◌, Bool, true, false, cond, List, [], ◌∷◌, ◌++◌, ◌%◌, map, length, Some, None}
 use Rattle.std.specs.declared.option.Option as rust
-use Rattle.std.proofs.Common.{◌∙◌, refl, sym, ap, arith, length-append}
+use Rattle.std.proofs.Common.{◌∙◌, sym, ap, arith, length-append}
 use Rattle.laws.specs.Copied.{placed}
 use Rattle.laws.proofs.Copies.{placed_more}
 use Rattle.frame.specs.declared.FrameBuilder.{FrameBuilder}

@@ -1,6 +1,6 @@
 -- Each number is told exactly where its rule applies.
 -- Assumes nothing.
-use Rattle.std.specs.Prelude.{ℕ, ◌≡◌, ◌↔◌, Bool, false, ◌||◌, List, [], ◌∷◌, ◌++◌, ltb, length}
+use Rattle.std.specs.Prelude.{ℕ, ◌≡◌, ◌↔◌, Bool, false, List, [], ◌∷◌, ltb, length}
 use Rattle.std.proofs.Common.{refl, arith}
 use Rattle.std.proofs.lemmas.Bool.Decides.{nat_tests}
 use Rattle.laws.specs.Bytes.{All}
@@ -21,7 +21,7 @@ module _ (most : ℕ) where
   none_over [] = (λ e. tt, λ h. refl)
   none_over (f ∷ fs) = grind (arith, nat_tests, none_over fs)
 
-  named : (qs : List (List FrameBuilder)) → (over (joined qs) ≡ false) ↔ All (All (Names most)) qs
+  pub named : (qs : List (List FrameBuilder)) → (over (joined qs) ≡ false) ↔ All (All (Names most)) qs
   named [] = (λ e. tt, λ h. refl)
   named (q ∷ qs) = grind (arith, any_append (λ (f : FrameBuilder). ltb most f.snippet_id) q (joined qs), none_over q, named qs)
 

@@ -1,5 +1,5 @@
 -- An item more.
-use Rattle.std.proofs.Common.{◌≡◌, ◌+◌, ◌≤◌, ◌<◌, ◌++◌, ◌∷◌, [], ◌∙◌, ap, sym, subst, arith, map, length, take}
+use Rattle.std.proofs.Common.{◌≡◌, ◌+◌, ◌≤◌, ◌++◌, ◌∷◌, [], ◌∙◌, ap, sym, subst, arith, map, length}
 use Rattle.std.proofs.lemmas.List.{length-map, map-append}
 use Rattle.errors.specs.Number.{answer_number}
 use Rattle.errors.proofs.Passed.{passed}

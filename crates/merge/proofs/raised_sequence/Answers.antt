@@ -1,10 +1,9 @@
 -- A frame more.
-use Rattle.std.proofs.Common.{◌≡◌, ◌+◌, ◌≤◌, ◌∷◌, [], ◌∙◌, Ok, List, ℕ, map, length, take, replicate, ap, sym, subst, arith}
+use Rattle.std.proofs.Common.{◌≡◌, ◌+◌, ◌∷◌, ◌∙◌, map, length, take, replicate, ap, sym, subst, arith}
 use lib.Seq.{take_at}
 use Rattle.laws.specs.Bytes.{All}
 use Rattle.laws.specs.Copied.{placed}
 use Rattle.laws.proofs.Copies.{placed_none, copied_fits}
-use Rattle.frame.specs.declared.FrameBuilder.{FrameBuilder}
 use Rattle.frame.specs.Frame.{bytes_of, frame_bytes}
 use Rattle.frame.proofs.Built.{built_bytes}
 use Rattle.content.specs.Content.{frames_bytes}

@@ -1,5 +1,5 @@
 -- The frames that are left, laid behind those before, give all of them; and they have room.
-use Rattle.std.proofs.Common.{◌≡◌, ◌+◌, ◌*◌, ◌≤◌, map, length}
+use Rattle.std.proofs.Common.{◌≡◌, ◌+◌, map, length}
 use Rattle.laws.specs.Bytes.{All}
 use Rattle.laws.specs.Copied.{placed}
 use Rattle.content.specs.Content.{frames_bytes}

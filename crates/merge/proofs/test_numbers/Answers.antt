@@ -1,5 +1,5 @@
 -- An item more.
-use Rattle.std.proofs.Common.{◌≡◌, ◌+◌, ◌<◌, ◌||◌, ◌∙◌, Bool, ap, sym, ltb, arith, cond, map, drop}
+use Rattle.std.proofs.Common.{◌+◌, ◌||◌, ◌∙◌, ap, sym, ltb, arith, cond, map, drop}
 use Rattle.laws.specs.Lists.{joined}
 use Rattle.frame.specs.declared.FrameBuilder.{FrameBuilder}
 use Rattle.readings.specs.InPlace.{item_at, items_at, frames_in}
