@@ -13,6 +13,7 @@ use Rattle.snippet.specs.Point.{point_byte, point}
 use Rattle.readings.proofs.Telling.{readings_told}
 use Rattle.page.proofs.Long.{page_room}
 use Rattle.page.proofs.Printed.{page}
+use Rattle.merge.proofs.Merging.{merge}
 use Rattle.assemble.specs.Items.{snippet_item, frame_item, sequence_item}
 use Rattle.assemble.proofs.Items.{whole_items}
 use Rattle.assemble.proofs.Strict.{assembled, strict}
@@ -45,6 +46,7 @@ telling =
       lists = tells 16 _ (λ x. readings_told.lists x.1.0 x.1.1 x.0);
       pages = tells 16 _ (λ x. page_room x.0 x.1.0 x.1.1);
       printed = page;
+      merged = merge;
       image_points = λ i j. tells 16 _ (λ x. readings_told.point x.0 x.1 i j);
       image_frames = λ i j. tells 56 _ (λ x. readings_told.frame x.0 x.1 i j);
       images = readings_told;

@@ -12,6 +12,7 @@ use Rattle.readings.specs.Lists.{lists_answer}
 use Rattle.readings.specs.Telling.{ReadingsTold}
 use Rattle.page.specs.Lines.{page_item}
 use Rattle.page.specs.Page.{Page}
+use Rattle.merge.specs.Merge.{Merge}
 use Rattle.assemble.specs.Items.{snippet_item, frame_item, sequence_item, WholeItems}
 use Rattle.assemble.specs.Strict.{Assembled, Strict}
 
@@ -34,6 +35,8 @@ pub record Telling : Type 0 where
   -- da728x_page with any buffer on slices of bytes; images that print alike are equal
   pub pages : Tells 16 (λ (x : List ℕ × ((l : List ℕ) × Bytes l)). length_of (whole x.0 (page_item (read_image x.1.0))))
   pub printed : Page
+  -- da728x_merge: a number alone; each refusal exactly under its condition, and each sequence plays what it played
+  pub merged : Merge
   -- images that are answered alike are read alike
   pub images : ReadingsTold
   -- da728x_assemble: a number; da728x_assemble_strict: a number and a place

@@ -8,6 +8,7 @@
 
 ghost use Rattle.std.specs.Prelude.{◌≡◌, ltb, min, length};
 ghost use Rattle.errors.specs.Number.{told};
+ghost use Rattle.errors.specs.Told.{told_number};
 ghost use Rattle.errors.specs.Packed.{packed, Room};
 ghost use Rattle.snippet.specs.Point.{point, point_told, ramp_in, timebases_in, amplitude_in};
 ghost use Rattle.laws.specs.Copied.{copied};
@@ -19,6 +20,7 @@ ghost use Rattle.content.specs.ReadImage.{read_image};
 ghost use Rattle.readings.specs.Readings.{counts_answer, point_answer, frame_answer};
 ghost use Rattle.readings.specs.Lists.{lists_item, lists_answer};
 ghost use Rattle.page.specs.Lines.{page_item};
+ghost use Rattle.merge.specs.Merged.{merged_item};
 ghost use Rattle.field.specs.Field.{code_of};
 ghost use Rattle.field.specs.Layout.{readings, replacements};
 ghost use Rattle.registers.specs.Table.{interrupts, actuator, control, trigger, read_only, addresses};
@@ -210,6 +212,16 @@ pub extern "C" fn da728x_page(image: &[u8], out: &mut [u8]) -> u32
     ensures out { out.new ≡ whole_out out.old (page_item (read_image image.now)) }
 {
     length_word(page::page(image, out))
+}
+
+// Puts two images merged into one to the front of `image`; answers 0, or the refusal's number, and then `image` stays.
+#[unsafe(no_mangle)]
+pub extern "C" fn da728x_merge(first: &[u8], second: &[u8], image: &mut [u8]) -> u8
+    ensures answer { result
+        ≡ told_number (whole image.old (merged_item (read_image first.now) (read_image second.now))) }
+    ensures image { image.new ≡ whole_out image.old (merged_item (read_image first.now) (read_image second.now)) }
+{
+    errors::number(merge::merge(first, second, image))
 }
 
 #[unsafe(no_mangle)]
