@@ -15,6 +15,19 @@ pub const EXAMPLE: [u8; IMAGE] = {
     image
 };
 
+/// The image of these items, in which nothing is tested.
+pub fn laid(snippets: &[Vec<u8>], sequences: &[Vec<u8>]) -> [u8; IMAGE] {
+    let mut image = [0; IMAGE];
+    image[..2].copy_from_slice(&[snippets.len() as u8, sequences.len() as u8]);
+    let mut end = 2 + snippets.len() + sequences.len();
+    for (at, item) in snippets.iter().chain(sequences).enumerate() {
+        image[end..end + item.len()].copy_from_slice(item);
+        end += item.len();
+        image[2 + at] = (end - 1) as u8;
+    }
+    image
+}
+
 /// The bytes of each snippet's points and the frames of each sequence.
 #[derive(Debug, Clone, Default, PartialEq)]
 pub struct Lists {

@@ -84,10 +84,11 @@ pub type Pair = [Lists; 2];
 pub type Generate = fn(&mut Random) -> Pair;
 
 /// Each kind of pair by name.
-pub const KINDS: [(&str, Generate); 5] = [
+pub const KINDS: [(&str, Generate); 6] = [
     ("fitting", fitting),
     ("snippets", about_15_snippets),
     ("sequences", about_16_sequences),
+    ("counts", about_15_and_16),
     ("sizes", about_100_bytes),
     ("missing", with_a_missing_snippet),
 ];
@@ -188,6 +189,20 @@ fn about_16_sequences(random: &mut Random) -> Pair {
     })
 }
 
+/// 13 to 18 snippets and 14 to 19 sequences together.
+fn about_15_and_16(random: &mut Random) -> Pair {
+    let snippets = shared(random.within(13, 18), 15, random);
+    let sequences = shared(random.within(14, 19), 16, random);
+    [0, 1].map(|at| {
+        sound(
+            snippets[at],
+            sequences[at],
+            least(snippets[at], sequences[at]) + random.below(4),
+            random,
+        )
+    })
+}
+
 /// 97 to 103 bytes together.
 fn about_100_bytes(random: &mut Random) -> Pair {
     let snippets = shared(random.within(2, 15), 14, random);
@@ -203,7 +218,7 @@ fn about_100_bytes(random: &mut Random) -> Pair {
 /// A frame of one image, or one of each, names a snippet that its own image lacks, whatever the other has.
 fn with_a_missing_snippet(random: &mut Random) -> Pair {
     loop {
-        let (_, generate) = random.pick(&KINDS[..4]);
+        let (_, generate) = random.pick(&KINDS[..5]);
         let mut pair = generate(random);
         let sides = random.pick(&[[true, false], [false, true], [true, true]]);
         let of_each = pair.iter_mut().zip(sides).filter_map(|(lists, side)| side.then_some(lists));

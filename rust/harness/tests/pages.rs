@@ -3,7 +3,7 @@
 
 use harness::compared;
 use harness::damage::{built, damaged};
-use harness::images::{EXAMPLE, plain};
+use harness::images::{EXAMPLE, laid, plain};
 use harness::lists::MARKER;
 use harness::pages::{LINE, LONGEST, SHORTEST, page};
 use harness::random::Random;
@@ -69,19 +69,6 @@ fn lines(page: &str) -> usize {
 fn bytes(digits: &str) -> Vec<u8> {
     let byte = |at| u8::from_str_radix(&digits[at..at + 2], 16).unwrap();
     (0..digits.len()).step_by(2).map(byte).collect()
-}
-
-/// The image of these items, in which nothing is tested.
-fn laid(snippets: &[Vec<u8>], sequences: &[Vec<u8>]) -> [u8; IMAGE] {
-    let mut image = [0; IMAGE];
-    image[..2].copy_from_slice(&[snippets.len() as u8, sequences.len() as u8]);
-    let mut end = 2 + snippets.len() + sequences.len();
-    for (at, item) in snippets.iter().chain(sequences).enumerate() {
-        image[end..end + item.len()].copy_from_slice(item);
-        end += item.len();
-        image[2 + at] = (end - 1) as u8;
-    }
-    image
 }
 
 /// The image that a reader of the paper puts together from its lines.
