@@ -3,6 +3,7 @@
 
 use crate::images::{Lists, plain};
 use crate::random::Random;
+use crate::whole::TOO_SHORT;
 use crate::{GAINS, TIMEBASES};
 use yambelugo::{Frame, Gain, IMAGE, Timebase};
 
@@ -28,6 +29,18 @@ pub fn merged(first: &[u8], second: &[u8]) -> Result<[u8; IMAGE], u8> {
     let built = joined(&first, &second).published(false);
     assert_eq!(built.err(), limit, "{first:02X?}, {second:02X?}");
     built
+}
+
+/// The number that is told where this buffer is lent, the last refusal included; puts into the buffer what then is in it.
+pub fn put(merged: Result<[u8; IMAGE], u8>, buffer: &mut [u8]) -> u8 {
+    match (merged, buffer.get_mut(..IMAGE)) {
+        (Err(number), _) => number,
+        (Ok(_), None) => TOO_SHORT,
+        (Ok(image), Some(front)) => {
+            front.copy_from_slice(&image);
+            0
+        }
+    }
 }
 
 /// What is added again: the snippets and sequences of the first, then those of the second, whose frames name the snippets that they named.

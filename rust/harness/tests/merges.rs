@@ -5,10 +5,9 @@ use harness::compared;
 use harness::damage::damaged;
 use harness::images::{laid, plain};
 use harness::lists::MARKER;
-use harness::merges::{KINDS, any_images, grown, images, least, merged, miss, plays, sound};
+use harness::merges::{KINDS, any_images, grown, images, least, merged, miss, plays, put, sound};
 use harness::random::Random;
 use harness::raw::{self, ffi};
-use harness::whole::TOO_SHORT;
 use std::collections::{BTreeMap, BTreeSet};
 use std::thread;
 use yambelugo::IMAGE;
@@ -30,14 +29,7 @@ const ROOM: usize = 108;
 fn compare(first: &[u8], second: &[u8], room: usize, marker: u8) -> u8 {
     let wanted = merged(first, second);
     let mut expected = vec![marker; room];
-    let number = match (&wanted, expected.get_mut(..IMAGE)) {
-        (Err(number), _) => *number,
-        (Ok(_), None) => TOO_SHORT,
-        (Ok(image), Some(front)) => {
-            front.copy_from_slice(image);
-            0
-        }
-    };
+    let number = put(wanted, &mut expected);
     let mut lent = vec![marker; room];
     let told = raw::merge(first, second, &mut lent);
     assert_eq!(told, number, "{first:02X?}, {second:02X?}, {room} bytes");
