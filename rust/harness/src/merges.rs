@@ -7,7 +7,7 @@ use crate::whole::TOO_SHORT;
 use crate::{GAINS, TIMEBASES};
 use yambelugo::{Frame, Gain, IMAGE, Timebase};
 
-/// The refusals, in the order in which they are tried; after them the buffer.
+/// The refusals, in the order in which they are tried; last comes the buffer.
 pub const REFUSALS: [u8; 5] = [18, 25, 6, 7, 8];
 
 /// The merged image of these bytes, or the number of their refusal.
@@ -31,7 +31,7 @@ pub fn merged(first: &[u8], second: &[u8]) -> Result<[u8; IMAGE], u8> {
     built
 }
 
-/// The number that is told where this buffer is lent, the last refusal included; puts into the buffer what then is in it.
+/// The number that is told where this buffer is lent, 24 included; writes what then is in the buffer.
 pub fn put(merged: Result<[u8; IMAGE], u8>, buffer: &mut [u8]) -> u8 {
     match (merged, buffer.get_mut(..IMAGE)) {
         (Err(number), _) => number,
@@ -96,14 +96,14 @@ pub type Pair = [Lists; 2];
 /// Makes a pair.
 pub type Generate = fn(&mut Random) -> Pair;
 
-/// Each kind of pair by name.
-pub const KINDS: [(&str, Generate); 6] = [
-    ("fitting", fitting),
-    ("snippets", about_15_snippets),
-    ("sequences", about_16_sequences),
-    ("counts", about_15_and_16),
-    ("sizes", about_100_bytes),
-    ("missing", with_a_missing_snippet),
+/// Each kind of pair.
+pub const KINDS: [Generate; 6] = [
+    fitting,
+    about_15_snippets,
+    about_16_sequences,
+    about_15_and_16,
+    about_100_bytes,
+    with_a_missing_snippet,
 ];
 
 /// The images of a pair, which the published builders make.
@@ -113,8 +113,7 @@ pub fn images(pair: &Pair) -> [[u8; IMAGE]; 2] {
 
 /// The images of a pair of any kind.
 pub fn any_images(random: &mut Random) -> [[u8; IMAGE]; 2] {
-    let (_, generate) = random.pick(&KINDS);
-    images(&generate(random))
+    images(&random.pick(&KINDS)(random))
 }
 
 /// How many bytes the image of so many items has at least.
@@ -207,12 +206,8 @@ fn about_15_and_16(random: &mut Random) -> Pair {
     let snippets = shared(random.within(13, 18), 15, random);
     let sequences = shared(random.within(14, 19), 16, random);
     [0, 1].map(|at| {
-        sound(
-            snippets[at],
-            sequences[at],
-            least(snippets[at], sequences[at]) + random.below(4),
-            random,
-        )
+        let size = least(snippets[at], sequences[at]) + random.below(4);
+        sound(snippets[at], sequences[at], size, random)
     })
 }
 
@@ -231,8 +226,7 @@ fn about_100_bytes(random: &mut Random) -> Pair {
 /// A frame of one image, or one of each, names a snippet that its own image lacks, whatever the other has.
 fn with_a_missing_snippet(random: &mut Random) -> Pair {
     loop {
-        let (_, generate) = random.pick(&KINDS[..5]);
-        let mut pair = generate(random);
+        let mut pair = random.pick(&KINDS[..5])(random);
         let sides = random.pick(&[[true, false], [false, true], [true, true]]);
         let of_each = pair.iter_mut().zip(sides).filter_map(|(lists, side)| side.then_some(lists));
         of_each.for_each(|lists| miss(lists, random));

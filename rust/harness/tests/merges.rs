@@ -3,7 +3,7 @@
 
 use harness::compared;
 use harness::damage::damaged;
-use harness::images::{laid, plain};
+use harness::images::{laid, plain, small_world};
 use harness::lists::MARKER;
 use harness::merges::{KINDS, any_images, grown, images, least, merged, miss, plays, put, sound};
 use harness::random::Random;
@@ -113,7 +113,7 @@ fn pairs(part: usize) -> Met {
     let mut met = Met::default();
     for _ in 0..PAIRS / PARTS {
         let kind = random.pick(&[0, 0, 0, 0, 0, 0, 0, 0, 1, 1, 2, 2, 2, 3, 4, 4, 4, 5, 5, 5]);
-        let pair = KINDS[kind].1(&mut random);
+        let pair = KINDS[kind](&mut random);
         let mut both = images(&pair);
         assert_eq!(both.each_ref().map(|image| plain(image)), pair.map(Some));
         if random.chance(6) {
@@ -280,8 +280,8 @@ fn damaged_pairs(part: usize) -> [usize; 4] {
     let mut random = Random::new(130 + part as u64);
     let mut met = [0; 4];
     for case in 0..DAMAGED / PARTS {
-        let generate = KINDS[random.pick(&[0, 0, 0, 1, 2, 3, 4, 5])].1;
-        let mut both = images(&generate(&mut random));
+        let kind = random.pick(&[0, 0, 0, 1, 2, 3, 4, 5]);
+        let mut both = images(&KINDS[kind](&mut random));
         for (side, image) in both.iter_mut().enumerate() {
             if case % 3 != side {
                 *image = damaged(image, 1 + case % 2, &mut random);
@@ -491,35 +491,16 @@ fn three_images() {
     assert!((TRIPLES / 4..TRIPLES * 9 / 10).contains(&merges) && growing > TRIPLES / 20);
 }
 
-/// Every image whose points and frames are so many of these five bytes, in all ways of cutting them.
-fn small_world(length: u32) -> Vec<[u8; IMAGE]> {
-    const BYTES: [u8; 5] = [0x00, 0x01, 0x80, 0x81, 0x84];
-    let mut world = Vec::new();
-    for number in 0..BYTES.len().pow(length) {
-        let byte = |at| BYTES[number / BYTES.len().pow(at) % BYTES.len()];
-        let data: Vec<u8> = (0..length).map(byte).collect();
-        for cuts in 1..1 << (length - 1) {
-            let mut items = vec![vec![data[0]]];
-            for (at, byte) in data.iter().enumerate().skip(1) {
-                match cuts >> (at - 1) & 1 {
-                    0 => items.last_mut().unwrap().push(*byte),
-                    _ => items.push(vec![*byte]),
-                }
-            }
-            for snippets in 1..items.len() {
-                let (snippets, sequences) = items.split_at(snippets);
-                world.push(laid(snippets, sequences));
-            }
-        }
-    }
-    world.retain(|image| plain(image).is_some());
-    world
-}
-
-/// The images of a small world behind and before those of each number of snippets, and the smaller ones in pairs.
+/// Every image whose points and frames are two to four bytes of these five, behind and before one of each number of snippets; and those of
+/// two and three bytes in pairs.
 #[test]
 fn a_small_world() {
-    let [two, three, four] = [2, 3, 4].map(small_world);
+    const BYTES: [u8; 5] = [0x00, 0x01, 0x80, 0x81, 0x84];
+    let [two, three, four] = [2, 3, 4].map(|length| {
+        let mut world = small_world(&BYTES, length);
+        world.retain(|image| plain(image).is_some());
+        world
+    });
     let small = [two, three].concat();
     // With r(n) ways of n bytes to be whole frames, 2, 8, 34, these are Q(n) in some sequences, 2, 12, 74; and n bytes are S(n) in some
     // snippets, 5, 50, 500.
