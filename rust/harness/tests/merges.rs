@@ -508,7 +508,7 @@ fn a_small_world() {
     let mut told = Told::new();
     for snippets in 1..=15 {
         let points: Vec<_> = (0..snippets).map(|at| vec![16 * at, at]).collect();
-        let other = laid(&points, &[vec![0x01], vec![snippets % 8, 0x80 | snippets / 8]]);
+        let other = laid(&points, &[vec![0x01], vec![snippets % 8, 0x80 + snippets / 8]]);
         for image in small.iter().chain(&four) {
             count(&other, image, &mut told);
             count(image, &other, &mut told);
