@@ -295,10 +295,11 @@ uint32_t da728x_page(const uint8_t *image, size_t image_len, uint8_t *out, size_
  *   a sequence of second played   NO sign if first has a sequence of that number: that one is
  *   by the number that it had     played. Add n, in the triggers of da728x_configure too
  *   first and second exchanged    NO sign: every sequence is there, under another number
- *   an image that has a frame     25, also where the other image has a snippet of that number:
- *   with an absent snippet        the frame would play it, which it did not before
+ *   an image that has a frame     25, also where the merged image would have a snippet of that
+ *   with an absent snippet        number: a frame of first would play one of second's, as it did
+ *                                 not before
  *   an image merged once more     NO refusal if there is room: its sequences are there twice
- *   a frame that grows, forgotten 8, though without it there is room. Exchanged they may fit, for
+ *   growth not reckoned with      8, though without it there is room. Exchanged they may fit, for
  *                                 other frames grow then */
 uint8_t da728x_merge(const uint8_t *first, size_t first_len,
                      const uint8_t *second, size_t second_len,

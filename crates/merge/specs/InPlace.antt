@@ -21,4 +21,5 @@ raised_bytes count bytes = frames_bytes (map (raised count) (frames_in bytes))
 abbrev pub Keeps : (most full : ℕ) → List (List ℕ) → Pool most → ℕ → Pool most → Type 0
 Keeps most full items p n p' =
     (before : List (List ℕ)) → length before ≤ most → p ≡ kept most before
-    → (n ≡ cond (ltb most (length before + length items)) full 0) × (length before + length items ≤ most → p' ≡ kept most (before ++ items))
+    → (n ≡ cond (ltb most (length before + length items)) full 0)
+    × (length before + length items ≤ most → p' ≡ kept most (before ++ items))

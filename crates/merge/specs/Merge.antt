@@ -54,8 +54,8 @@ pub record Kept (count : ℕ) (f g : FrameBuilder) : Type 0 where
   -- "Silence remains silence"
   pub silence : f.snippet_id ≡ 0 → g.snippet_id ≡ 0
   pub number : 1 ≤ f.snippet_id → g.snippet_id ≡ count + f.snippet_id
-  -- "Apart from its number a frame keeps every field, a loop count's absence included where the form allows it": where one byte is still enough, since a
-  -- frame that is read without loop count has one byte
+  -- "Apart from its number a frame keeps every field, a loop count's absence included where the form allows it": where one byte is still enough,
+  -- since a frame that is read without loop count has one byte
   pub gain : g.gain ≡ f.gain
   pub timebase : g.timebase ≡ f.timebase
   pub loop_count : g.loop_count ≡ on_given f.loop_count (cond (ltb g.snippet_id 8) None (Some 0)) Some
@@ -85,7 +85,8 @@ pub record Merged (c d : Content) (image : List ℕ) : Type 0 where
   pub second : (i : ℕ) → i < length d.sequences → PlaysAlike d i content (length c.sequences + i)
   -- a buffer with room gets the hundred bytes, and its other bytes stay; a shorter one stays as it was, and 24 is told
   pub hundred : length image ≡ 100
-  pub given : (out : List ℕ) → 100 ≤ length out → (whole out (gives image) ≡ gives image) × (whole_out out (gives image) ≡ image ++ drop 100 out)
+  pub given : (out : List ℕ) → 100 ≤ length out
+      → (whole out (gives image) ≡ gives image) × (whole_out out (gives image) ≡ image ++ drop 100 out)
   pub short : (out : List ℕ) → length out < 100 → (whole out (gives image) ≡ refuses 24) × (whole_out out (gives image) ≡ out)
 
 -- ---- the refusals

@@ -35,8 +35,8 @@ any p (x ∷ xs) = p x || any p xs
 abbrev pub lacks : Content → Bool
 lacks c = any (λ (f : FrameBuilder). ltb (length c.snippets) f.snippet_id) (joined c.sequences)
 
--- a frame "of either input" gives 25, and "limits give 6, 7 or 8, tried in that order after the missing snippet"; 0 where nothing is refused. The other
--- limits stay out of reach: items keep their points and frames, and a sequence above 96 bytes makes an image above a hundred
+-- a frame "of either input" gives 25, and "limits give 6, 7 or 8, tried in that order after the missing snippet"; 0 where nothing is refused. The
+-- other limits stay out of reach: items keep their points and frames, and no sequence of 32 frames is above 96 bytes
 abbrev pub merge_number : Content → Content → ℕ
 merge_number c d =
     cond (lacks c || lacks d) 25

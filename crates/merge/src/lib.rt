@@ -1,7 +1,7 @@
 // Two images into one (document 02, CR 7; no Rust file): the first's snippets and sequences, then the second's, whose frames name their snippets by
 // numbers raised by the first's count.
-// Proved: `merge` hands out the image of specs/Merged.antt whole, or nothing, for any slices and any buffer; specs/Merge.antt: each sequence plays what
-// it played, and each refusal is told exactly under its condition.
+// Proved: `merge` hands out the image of specs/Merged.antt whole, or nothing, for any slices and any buffer; specs/Merge.antt: each sequence plays
+// what it played, and each refusal is told exactly under its condition.
 #![tactic(auto)]
 
 ghost use Rattle.std.specs.Prelude.{◌≡◌, ◌≤◌, ltb, cond, map, take, Ok, IsOkAnd};
@@ -22,8 +22,8 @@ use pool::{Kept, Pool};
 use reader::ReadFrames;
 use sequence::MAX_SEQUENCE_BYTES;
 
-// Puts the merged image to the front of `image`. Refused with NotAnImage, MissingSnippet, TooManySnippets, TooManySequences, WaveformMemoryFull, or last
-// BufferTooShort; then `image` stays.
+// Puts the merged image to the front of `image`. Refused with NotAnImage, MissingSnippet, TooManySnippets, TooManySequences, WaveformMemoryFull, or
+// last BufferTooShort; then `image` stays.
 pub fn merge(first: &[u8], second: &[u8], image: &mut [u8]) -> Result<(), Error>
     ensures answer { answer_number result
         ≡ told_number (whole image.old (merged_item (read_image first.now) (read_image second.now))) }

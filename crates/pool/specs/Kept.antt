@@ -37,7 +37,8 @@ ends before (n ∷ ns) = (before + n) ∷ ends (before + n) ns
 -- an item more behind the others, where there is room for its length; every pool keeps some items
 abbrev pub Pushed : (most : ℕ) → List ℕ → Pool most → Pool most → Type 0
 Pushed most bytes p p' =
-    (items : List (List ℕ)) → length items ≤ most → p ≡ kept most items → p' ≡ kept most (cond (ltb (length items) most) (items ++ (bytes ∷ [])) items)
+    (items : List (List ℕ)) → length items ≤ most → p ≡ kept most items
+    → p' ≡ kept most (cond (ltb (length items) most) (items ++ (bytes ∷ [])) items)
 
 -- ---- the image
 

@@ -1,7 +1,7 @@
 // Snippets and sequences kept in bytes until an image is built of them (added; no Rust file): of each kind their number, their lengths, and their
 // bytes one after the other. Document 01, 'The hundred bytes'.
-// Proved: `push` puts an item behind the others, `image` tests and lays out what the builder's `build` does. Every pool is made by `new` and `push`, so
-// that it keeps some items (specs/Kept.antt); nothing is asked of a caller.
+// Proved: `push` puts an item behind the others, `image` tests and lays out what the builder's `build` does. Every pool is made by `new` and `push`,
+// so that it keeps some items (specs/Kept.antt); nothing is asked of a caller.
 #![tactic(auto)]
 
 ghost use Rattle.std.specs.Prelude.{◌≡◌, ◌+◌, ◌≤◌, ◌<◌, cond, ltb, length, min, sum, take};

@@ -1,5 +1,5 @@
--- An image read where it stands: `header` and `item`, and what private contracts cite, here, of `page` and of `merge`. proofs/Fitting.antt: what is found to be an image is
--- what `read_image` reads; proofs/Standing.antt: where its items stand.
+-- An image read where it stands: `header` and `item`, and what private contracts cite, here, of `page` and of `merge`. proofs/Fitting.antt: what is
+-- found to be an image is what `read_image` reads; proofs/Standing.antt and InPlace.antt: where its items stand.
 use Rattle.std.specs.Prelude.{ℕ, Result, Ok, Err, zero, suc, ◌+◌, ◌≡◌, Bool, true, false, cond, ◌&&◌, List, [], ◌∷◌, leb, length, get_or}
 use Rattle.std.specs.declared.option.Option as rust
 use Rattle.std.proofs.Math.Option.{Option, none, some}

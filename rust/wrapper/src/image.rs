@@ -395,8 +395,7 @@ pub fn page<'a>(image: &[u8], out: &'a mut [u8]) -> Result<&'a str, Error> {
 /// Merges two images into one, so that both sets are loaded together: the snippets and sequences of
 /// `first`, then those of `second`.
 ///
-/// Sequence 0 of `second` has the number behind those of `first` then. A frame of `second` names its
-/// snippet by a number raised by how many snippets `first` has, and silence stays silence. Apart from
+/// Sequence i of `second` becomes i + n, where `first` has n. A frame of `second` names its snippet by a number raised by how many snippets `first` has, and silence stays silence. Apart from
 /// its number it keeps every field; a frame of one byte grows to two where its number reaches 8, which
 /// gives it the loop count 0. So every sequence plays what it played before.
 ///
@@ -410,8 +409,8 @@ pub fn page<'a>(image: &[u8], out: &'a mut [u8]) -> Result<&'a str, Error> {
 /// assert_eq!(both[..6], [2, 2, 7, 8, 9, 11]);
 /// assert_eq!(both[6..13], [0xAA, 0x00, 0x1F, 0x01, 0x02, 0x00, 0]);
 ///
-/// mooring[5] = 0x02; // its snippet 2, which it lacks; the merged image would have one
-/// assert_eq!(yambelugo::merge(&pilotage, &mooring), Err(Error::MissingSnippet));
+/// mooring[5] = 0x02; // its snippet 2, which it lacks: it would play pilotage's snippet 1
+/// assert_eq!(yambelugo::merge(&mooring, &pilotage), Err(Error::MissingSnippet));
 /// assert_eq!(yambelugo::merge(&pilotage, &mooring[..99]), Err(Error::NotAnImage));
 /// # Ok::<(), Error>(())
 /// ```
