@@ -22,8 +22,9 @@
  *
  * Every function returns on any input. A byte slice crosses as a pointer and a
  * length (of 64 bits: the archives are for x86-64); NULL is fine for a length of
- * 0. Slices of one call must not overlap. Nothing is written but to slices that
- * are not const, and there only what is said below.
+ * 0. Slices of one call must not overlap (but the two images that da728x_merge
+ * reads may). Nothing is written but to slices that are not const, and there only
+ * what is said below.
  *
  * A refusal is given by its number:
  *    1 InvalidTimebase      a point's length is not 1 to 8
@@ -55,8 +56,10 @@
  *                           da728x_set_frequency, is out of range
  *   24 BufferTooShort       the lent buffer is shorter than the item, the image, the lists or the
  *                           page that goes into it; no byte of it is written
+ *   25 MissingSnippet       a frame of an image that is to be merged names a snippet that its own
+ *                           image does not have
  *   28 MissingSequence      no sequence of this number is loaded: the record says how many are
- * 20 and 25 to 27 are not used.
+ * 20, 26 and 27 are not used.
  */
 #ifndef DA728X_H
 #define DA728X_H
@@ -259,6 +262,47 @@ uint32_t da728x_read_lists(const uint8_t *image, size_t image_len,
  *   names an absent snippet       that number */
 #define DA728X_PAGE 3478
 uint32_t da728x_page(const uint8_t *image, size_t image_len, uint8_t *out, size_t out_len);
+
+/* Merges two images into one, so that both sets are loaded together: the snippets and sequences of
+ * first, then those of second. Sequence i of second is sequence i + n of the merged image, where
+ * first has n (the low byte of da728x_read_counts). The frames of first stay as they are. Those of
+ * second name their snippets by numbers raised by how many snippets first has, and silence, 0,
+ * stays silence. Apart from its number a frame keeps every field; but one of one byte, which has
+ * no loop count, grows to two bytes where its number reaches 8, and has the loop count 0 then. So
+ * every sequence plays the same points with the same gain, timebase, loop count (absent equals 0)
+ * and frequency as before.
+ * Returns 0, and all hundred bytes are in the front of image; its other bytes stay. Or the first
+ * of these that holds, and all of image stays as it was:
+ *   18  first or second is no image
+ *   25  a frame of first or of second names a snippet that its own image does not have
+ *    6  together they have more than 15 snippets
+ *    7  together they have more than 16 sequences
+ *    8  the merged image would be above 100 bytes: it takes as many as both do without the zeros
+ *       behind their last items, less 2, and one more for each frame that grows
+ *   24  image is shorter than DA728X_IMAGE
+ * first and second may be the same bytes, for neither is written; image must not overlap them.
+ *
+ *     uint8_t both[DA728X_IMAGE];
+ *     uint8_t refused = da728x_merge(pilotage, DA728X_IMAGE, mooring, DA728X_IMAGE,
+ *                                    both, sizeof both);
+ *
+ * What a wrong use gives:
+ *   a refusal, ignored            NO sign but the number that is returned: image still has what
+ *                                 was there, which may be another image
+ *   image is shorter than 100     24, and no byte: an image is never cut
+ *   image lies over first or      NO sign: it may be written over bytes that are still to be read.
+ *   second                        Lend another, and copy it from there
+ *   a sequence of second played   NO sign if first has a sequence of that number: that one is
+ *   by the number that it had     played. Add n, in the triggers of da728x_configure too
+ *   first and second exchanged    NO sign: every sequence is there, under another number
+ *   an image that has a frame     25, also where the other image has a snippet of that number:
+ *   with an absent snippet        the frame would play it, which it did not before
+ *   an image merged once more     NO refusal if there is room: its sequences are there twice
+ *   a frame that grows, forgotten 8, though without it there is room. Exchanged they may fit, for
+ *                                 other frames grow then */
+uint8_t da728x_merge(const uint8_t *first, size_t first_len,
+                     const uint8_t *second, size_t second_len,
+                     uint8_t *image, size_t image_len);
 
 /* ---- registers -------------------------------------------------------- */
 

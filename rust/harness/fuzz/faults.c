@@ -13,6 +13,7 @@ REAL(da728x_assemble_strict);
 REAL(da728x_assemble);
 REAL(da728x_read_lists);
 REAL(da728x_page);
+REAL(da728x_merge);
 REAL(da728x_enable);
 REAL(da728x_configure);
 REAL(da728x_upload_waveform_memory);
@@ -107,6 +108,19 @@ uint32_t da728x_page(const uint8_t *image, size_t image_len, uint8_t *out, size_
         memcpy(out, whole, out_len);
     }
     return fault(29) && told == 65536 * 18 && out_len < 37 ? 65536 * 24 : told;
+}
+
+/* 30: as much of a merged image is written as has room. 31: a buffer that is too short is told before what the images are refused for. */
+uint8_t da728x_merge(const uint8_t *first, size_t first_len, const uint8_t *second, size_t second_len,
+                     uint8_t *image, size_t image_len)
+{
+    uint8_t whole[DA728X_IMAGE];
+    uint8_t told = real_da728x_merge(first, first_len, second, second_len, image, image_len);
+    if (fault(30) && told == 24 && image_len > 0) {
+        real_da728x_merge(first, first_len, second, second_len, whole, sizeof whole);
+        memcpy(image, whole, image_len);
+    }
+    return fault(31) && told && image_len < DA728X_IMAGE ? 24 : told;
 }
 
 /* 9: the record, which is const, is changed. */

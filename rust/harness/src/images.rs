@@ -15,6 +15,42 @@ pub const EXAMPLE: [u8; IMAGE] = {
     image
 };
 
+/// The image of these items, in which nothing is tested.
+pub fn laid(snippets: &[Vec<u8>], sequences: &[Vec<u8>]) -> [u8; IMAGE] {
+    let mut image = [0; IMAGE];
+    image[..2].copy_from_slice(&[snippets.len() as u8, sequences.len() as u8]);
+    let mut end = 2 + snippets.len() + sequences.len();
+    for (at, item) in snippets.iter().chain(sequences).enumerate() {
+        image[end..end + item.len()].copy_from_slice(item);
+        end += item.len();
+        image[2 + at] = (end - 1) as u8;
+    }
+    image
+}
+
+/// Every image whose points and frames are so many of these bytes, in all ways of cutting them; nothing is tested.
+pub fn small_world(bytes: &[u8], length: u32) -> Vec<[u8; IMAGE]> {
+    let mut world = Vec::new();
+    for number in 0..bytes.len().pow(length) {
+        let byte = |at| bytes[number / bytes.len().pow(at) % bytes.len()];
+        let data: Vec<u8> = (0..length).map(byte).collect();
+        for cuts in 1..1 << (length - 1) {
+            let mut items = vec![vec![data[0]]];
+            for (at, byte) in data.iter().enumerate().skip(1) {
+                match cuts >> (at - 1) & 1 {
+                    0 => items.last_mut().unwrap().push(*byte),
+                    _ => items.push(vec![*byte]),
+                }
+            }
+            for snippets in 1..items.len() {
+                let (snippets, sequences) = items.split_at(snippets);
+                world.push(laid(snippets, sequences));
+            }
+        }
+    }
+    world
+}
+
 /// The bytes of each snippet's points and the frames of each sequence.
 #[derive(Debug, Clone, Default, PartialEq)]
 pub struct Lists {

@@ -10,6 +10,7 @@ pub mod driver;
 pub mod generate;
 pub mod images;
 pub mod lists;
+pub mod merges;
 pub mod oracle;
 pub mod pages;
 pub mod patterns;

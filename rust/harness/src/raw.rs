@@ -1,4 +1,4 @@
-//! The C functions of sessions, on slices of any length, each lent with markers around it.
+//! The C functions of sessions, and the one that merges images, on slices of any length, each lent with markers around it.
 
 use crate::driver::Operation;
 use crate::lists::MARKER;
@@ -42,6 +42,18 @@ fn show<T>(bytes: &[u8], call: impl FnOnce(*const u8, usize) -> T) -> T {
     let answer = lend(&mut copy, |at, len| call(at, len));
     assert_eq!(copy, bytes, "written where nothing may be");
     answer
+}
+
+/// Merges two images, which stay.
+pub fn merge(first: &[u8], second: &[u8], image: &mut [u8]) -> u8 {
+    show(first, |one, one_len| {
+        show(second, |other, other_len| {
+            // SAFETY: each pointer and length is a slice; the mutable one overlaps no other.
+            lend(image, |to, len| unsafe {
+                ffi::da728x_merge(one, one_len, other, other_len, to, len)
+            })
+        })
+    })
 }
 
 /// Starts an operation that leaves the record, and whose function has these further arguments.

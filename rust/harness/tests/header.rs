@@ -71,6 +71,7 @@ fn empty_slices() {
         assert_eq!(da728x_read_frame(list, 0, 0, 0), 18 << 56);
         assert_eq!(da728x_read_lists(list, 0, none, 0), 18 * 65536);
         assert_eq!(da728x_page(list, 0, none, 0), 18 * 65536);
+        assert_eq!(da728x_merge(list, 0, list, 0, none, 0), 18);
         assert_eq!(da728x_register_addresses(none, 0), 0);
         for read in
             [da728x_read_interrupts, da728x_read_actuator, da728x_read_control, da728x_read_trigger]
@@ -249,7 +250,7 @@ fn nothing_is_required() {
             contracts += 1;
         }
     }
-    compared("contracts of exports", contracts, 49);
+    compared("contracts of exports", contracts, 50);
 }
 
 /// The functions that the wrapper calls.
@@ -280,5 +281,5 @@ fn prototypes_are_those_of_the_exports() {
     let exported = sorted(exported());
     assert_eq!(sorted(declared()), exported);
     assert_eq!(sorted(wrapped()), exported);
-    compared("prototypes", exported.len(), 25 + 24);
+    compared("prototypes", exported.len(), 26 + 24);
 }

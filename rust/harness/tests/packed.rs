@@ -3,6 +3,7 @@
 
 use harness::generate::{list, with_noise};
 use harness::images::{frame_word, hundred, plain};
+use harness::merges::{any_images, merged};
 use harness::oracle::{Builders, NOT_BEGUN, number};
 use harness::pages::{self, LONGEST};
 use harness::patterns::{KINDS, mended};
@@ -130,6 +131,23 @@ fn read(image: &[u8], numbers: &mut Numbers) {
     }
 }
 
+/// The numbers of one pair of images, with room and without, and of one that is cut.
+fn merge([first, second]: [[u8; IMAGE]; 2], numbers: &mut Numbers) {
+    let mut out = [0; IMAGE];
+    for (length, room) in [(100, 100), (100, 99), (99, 100)] {
+        let first = &first[..length];
+        let wanted = match merged(first, &second) {
+            Err(number) => Err(number.into()),
+            Ok(_) if room < IMAGE => Err(TOO_SHORT.into()),
+            Ok(_) => Ok(0),
+        };
+        let (one, other) = (first.as_ptr(), second.as_ptr());
+        // SAFETY: each pointer and length is a slice; they do not overlap.
+        let told = unsafe { ffi::da728x_merge(one, length, other, IMAGE, out.as_mut_ptr(), room) };
+        numbers.told("merge", told, wanted);
+    }
+}
+
 #[test]
 fn values_and_refusals_are_told_apart() {
     let mut random = Random::new(90);
@@ -154,6 +172,9 @@ fn values_and_refusals_are_told_apart() {
         let list = list(&calls[..cut], &mut random);
         built(&calls[..cut], &list, &mut numbers);
     }
+    for _ in 0..5_000 {
+        merge(any_images(&mut random), &mut numbers);
+    }
     read(&[], &mut numbers);
     read(&[0; IMAGE], &mut numbers);
     numbers.assert_met(&[
@@ -166,6 +187,7 @@ fn values_and_refusals_are_told_apart() {
         ("read_counts", 100, 1),
         ("read_lists", 100, 2),
         ("page", 60, 2),
+        ("merge", 1, 6),
         ("read_point", 256, 2),
         ("read_frame", 1_000, 2),
     ]);

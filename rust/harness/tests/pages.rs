@@ -3,7 +3,7 @@
 
 use harness::compared;
 use harness::damage::{built, damaged};
-use harness::images::{EXAMPLE, plain};
+use harness::images::{EXAMPLE, laid, plain, small_world};
 use harness::lists::MARKER;
 use harness::pages::{LINE, LONGEST, SHORTEST, page};
 use harness::random::Random;
@@ -69,19 +69,6 @@ fn lines(page: &str) -> usize {
 fn bytes(digits: &str) -> Vec<u8> {
     let byte = |at| u8::from_str_radix(&digits[at..at + 2], 16).unwrap();
     (0..digits.len()).step_by(2).map(byte).collect()
-}
-
-/// The image of these items, in which nothing is tested.
-fn laid(snippets: &[Vec<u8>], sequences: &[Vec<u8>]) -> [u8; IMAGE] {
-    let mut image = [0; IMAGE];
-    image[..2].copy_from_slice(&[snippets.len() as u8, sequences.len() as u8]);
-    let mut end = 2 + snippets.len() + sequences.len();
-    for (at, item) in snippets.iter().chain(sequences).enumerate() {
-        image[end..end + item.len()].copy_from_slice(item);
-        end += item.len();
-        image[2 + at] = (end - 1) as u8;
-    }
-    image
 }
 
 /// The image that a reader of the paper puts together from its lines.
@@ -356,23 +343,8 @@ fn near_pairs() {
 fn a_small_world() {
     const BYTES: [u8; 4] = [0x00, 0x01, 0x80, 0x84];
     let mut met = Met::default();
-    for length in 2..=6 {
-        for number in 0..BYTES.len().pow(length) {
-            let data: Vec<u8> = (0..length).map(|at| BYTES[number >> (2 * at) & 3]).collect();
-            for cuts in 1..1 << (length - 1) {
-                let mut items = vec![vec![data[0]]];
-                for (at, byte) in data.iter().enumerate().skip(1) {
-                    match cuts >> (at - 1) & 1 {
-                        0 => items.last_mut().unwrap().push(*byte),
-                        _ => items.push(vec![*byte]),
-                    }
-                }
-                for snippets in 1..items.len() {
-                    let (snippets, sequences) = items.split_at(snippets);
-                    met.compare(&laid(snippets, sequences));
-                }
-            }
-        }
+    for image in (2..=6).flat_map(|length| small_world(&BYTES, length)) {
+        met.compare(&image);
     }
     // With r(n) ways of n bytes to be whole frames, 1, 2, 6, 24, 76, 248, these are Q(n) in some sequences, 2, 10, 56, 296, 1568; and n
     // bytes are S(n) in some snippets, 4, 32, 256, 2048, 16384.

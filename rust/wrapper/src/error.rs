@@ -64,6 +64,8 @@ pub enum Error {
     InvalidDriveFrequency,
     /// 24: the buffer is shorter than the item or the page; no byte of it was written.
     BufferTooShort,
+    /// 25: a frame of an image that is to be merged names a snippet that its own image does not have.
+    MissingSnippet,
     /// 28: no sequence of this number is loaded: the last image that was uploaded has fewer, its
     /// upload was not completed, or there was none.
     MissingSequence,
@@ -101,6 +103,7 @@ impl Error {
             Error::InvalidCurrentOrImpedance => 22,
             Error::InvalidDriveFrequency => 23,
             Error::BufferTooShort => 24,
+            Error::MissingSnippet => 25,
             Error::MissingSequence => 28,
         }
     }
@@ -137,6 +140,7 @@ impl Error {
             22 => Error::InvalidCurrentOrImpedance,
             23 => Error::InvalidDriveFrequency,
             24 => Error::BufferTooShort,
+            25 => Error::MissingSnippet,
             28 => Error::MissingSequence,
             _ => return None,
         })
@@ -175,6 +179,7 @@ impl fmt::Display for Error {
                 "a frequency is outside 50 to 300 Hz (tracking) or 25 to 1024 Hz (other modes)"
             }
             Error::BufferTooShort => "the buffer is shorter than the item or the page",
+            Error::MissingSnippet => "a frame names a snippet that its own image does not have",
             Error::MissingSequence => "no sequence of this number is loaded",
         })
     }
@@ -206,7 +211,7 @@ mod tests {
         for number in 0..=255 {
             match Error::from_number(number, 7) {
                 Some(error) => assert_eq!(error.number(), number),
-                None => assert!(matches!(number, 0 | 20 | 25..=27 | 29..)),
+                None => assert!(matches!(number, 0 | 20 | 26 | 27 | 29..)),
             }
         }
     }

@@ -63,6 +63,14 @@ unsafe extern "C" {
         lists_len: usize,
     ) -> u32;
     pub fn da728x_page(image: *const u8, image_len: usize, out: *mut u8, out_len: usize) -> u32;
+    pub fn da728x_merge(
+        first: *const u8,
+        first_len: usize,
+        second: *const u8,
+        second_len: usize,
+        image: *mut u8,
+        image_len: usize,
+    ) -> u8;
 
     pub fn da728x_register_addresses(out: *mut u8, out_len: usize) -> usize;
     pub fn da728x_read_interrupts(byte: u8, out: *mut u8, out_len: usize) -> usize;

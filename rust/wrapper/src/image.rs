@@ -391,3 +391,43 @@ pub fn page<'a>(image: &[u8], out: &'a mut [u8]) -> Result<&'a str, Error> {
     debug_assert!(text.is_some(), "no text of {length} bytes");
     Ok(text.unwrap_or_default())
 }
+
+/// Merges two images into one, so that both sets are loaded together: the snippets and sequences of
+/// `first`, then those of `second`.
+///
+/// Sequence 0 of `second` has the number behind those of `first` then. A frame of `second` names its
+/// snippet by a number raised by how many snippets `first` has, and silence stays silence. Apart from
+/// its number it keeps every field; a frame of one byte grows to two where its number reaches 8, which
+/// gives it the loop count 0. So every sequence plays what it played before.
+///
+/// ```
+/// # use yambelugo::{Error, IMAGE};
+/// let (mut pilotage, mut mooring) = ([0; IMAGE], [0; IMAGE]);
+/// pilotage[..7].copy_from_slice(&[1, 1, 5, 6, 0xAA, 0x00, 0x01]);
+/// mooring[..7].copy_from_slice(&[1, 1, 4, 6, 0x1F, 0x01, 0x00]);
+/// let both = yambelugo::merge(&pilotage, &mooring)?;
+/// // Counts, where each item ends, the snippets, the sequences: of the second snippet 1 is 2 now.
+/// assert_eq!(both[..6], [2, 2, 7, 8, 9, 11]);
+/// assert_eq!(both[6..13], [0xAA, 0x00, 0x1F, 0x01, 0x02, 0x00, 0]);
+///
+/// mooring[5] = 0x02; // its snippet 2, which it lacks; the merged image would have one
+/// assert_eq!(yambelugo::merge(&pilotage, &mooring), Err(Error::MissingSnippet));
+/// assert_eq!(yambelugo::merge(&pilotage, &mooring[..99]), Err(Error::NotAnImage));
+/// # Ok::<(), Error>(())
+/// ```
+///
+/// # Errors
+/// `NotAnImage` unless each is a hundred bytes that the builders can make, else `MissingSnippet` if a
+/// frame of either names a snippet that its own image does not have, else `TooManySnippets` above 15
+/// together, else `TooManySequences` above 16, else `WaveformMemoryFull` if the merged image would be
+/// above 100 bytes.
+pub fn merge(first: &[u8], second: &[u8]) -> Result<[u8; IMAGE], Error> {
+    let (one, other) = ((first.as_ptr(), first.len()), (second.as_ptr(), second.len()));
+    let mut image = [0; IMAGE];
+    // SAFETY: each pointer and length is a borrowed slice; the mutable one overlaps no other.
+    let answer =
+        unsafe { ffi::da728x_merge(one.0, one.1, other.0, other.1, image.as_mut_ptr(), IMAGE) };
+    told(answer.into(), 1)?;
+    debug_assert!((0..2).all(|at| image[at] == first[at] + second[at]), "the counts together");
+    Ok(image)
+}

@@ -18,7 +18,7 @@ pub use config::{TriggerConfig, TriggerMode, TriggerPolarity, Variant, WaveformM
 pub use driver::{DA728x, Exchange, RECORD, Refusal, Reply, Session, Started, Turn};
 pub use error::Error;
 pub use image::{Frame, IMAGE, Lists, NotAssembled, PAGE, assemble, assemble_strict};
-pub use image::{page, read_counts, read_frame, read_lists, read_point};
+pub use image::{merge, page, read_counts, read_frame, read_lists, read_point};
 pub use point::PwlPoint;
 pub use ranges::{current_settings, frequency_settings, voltage_settings};
 pub use registers::{Group, REGISTERS, register_addresses};

@@ -17,7 +17,7 @@ macro_rules! functions {
         pub enum Function { $($name),* }
 
         /// Each function, its name, and every number that it can tell: 0 where it is done.
-        pub const FUNCTIONS: [(Function, &str, &[u64]); 49] =
+        pub const FUNCTIONS: [(Function, &str, &[u64]); 50] =
             [$((Function::$name, stringify!($name), &[$($number),*])),*];
     };
 }
@@ -40,6 +40,7 @@ functions! {
     da728x_read_frame: 0, 18, NOTHING;
     da728x_read_lists: 0, 18, 24;
     da728x_page: 0, 18, 24;
+    da728x_merge: 0, 6, 7, 8, 18, 24, 25;
     da728x_register_addresses: 0;
     da728x_read_interrupts: 0;
     da728x_read_actuator: 0;

@@ -7,6 +7,7 @@ use super::hands::{Hands, lent, shown};
 use crate::encoded;
 use crate::generate::{add_frames, any_call, good_point, list, with_noise};
 use crate::images::plain;
+use crate::merges::{any_images, merged, put};
 use crate::pages::{self, LONGEST};
 use crate::patterns::{KINDS, mended};
 use crate::random::Random;
@@ -53,6 +54,7 @@ impl Patterns {
             da728x_read_frame => self.read_frame(choices, hands),
             da728x_read_lists => self.read_lists(choices, hands),
             da728x_page => self.page(choices, hands),
+            da728x_merge => self.merge(choices, hands),
             _ => register(function, choices, hands),
         }
     }
@@ -314,6 +316,40 @@ impl Patterns {
         assert!(wanted == after, "not the page of {image:02X?}");
         found(&image, told >> 16, choices, hands);
         hands.tally.count(da728x_page, told >> 16);
+    }
+
+    /// Two images, of which any may be no image; mostly such as fit together, or miss it by little.
+    fn pair(&mut self, choices: &mut Choices) -> [Vec<u8>; 2] {
+        if choices.chance(40) {
+            return [self.image(choices), self.image(choices)];
+        }
+        let mut pair = any_images(choices.random()).map(Vec::from);
+        if choices.chance(10) {
+            let side = choices.below(2);
+            choices.forge(&mut pair[side]);
+        }
+        pair
+    }
+
+    /// What is written is the image that the published builders make of both.
+    fn merge(&mut self, choices: &mut Choices, hands: &mut Hands) {
+        let [first, second] = self.pair(choices);
+        let room = out(choices, IMAGE);
+        let slices = [shown(&first), shown(&second), lent(&room)];
+        let told = hands.call(da728x_merge, choices, slices, |[first, second, (image, len)]| {
+            // SAFETY: each pointer and length is a slice; the mutable one overlaps no other.
+            unsafe { ffi::da728x_merge(first.0, first.1, second.0, second.1, image, len).into() }
+        });
+        let (before, after) = hands.slice(2);
+        let mut wanted = before.to_vec();
+        let number = put(merged(&first, &second), &mut wanted);
+        assert_eq!(told, number.into(), "{first:02X?}, {second:02X?}");
+        assert!(wanted == after, "not the image of {first:02X?} and {second:02X?}");
+        if told == 0 {
+            let at = choices.below(self.images.len());
+            self.images[at].copy_from_slice(&wanted[..IMAGE]);
+        }
+        hands.tally.count(da728x_merge, told);
     }
 }
 

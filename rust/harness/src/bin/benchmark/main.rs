@@ -10,7 +10,7 @@ use std::env;
 use std::hint::black_box;
 use std::process::Command;
 use std::time::Instant;
-use works::{Done, Goal, Inputs, READING_THE_EXAMPLE, Side, WORKS, Work};
+use works::{Done, Goal, Inputs, MERGED_FROM_CALLS, READING_THE_EXAMPLE, Side, WORKS, Work};
 
 /// The C functions, without the wrapper's checks.
 use harness::raw::ffi;
@@ -67,8 +67,10 @@ fn compare() {
         let costs = [pair(|it| it.instructions), pair(|it| Some(it.nanoseconds))].join(" ");
         let theirs = theirs.as_ref().and_then(|it| it.instructions);
         before.building = before.building.or(ours.instructions);
-        if work.name == READING_THE_EXAMPLE {
-            before.counts = ours.instructions;
+        match work.name {
+            READING_THE_EXAMPLE => before.counts = ours.instructions,
+            MERGED_FROM_CALLS => before.calls = ours.instructions,
+            _ => {}
         }
         let judged = judged(work.goal, ours.instructions, theirs, &before);
         println!("{name:33} {costs}  {judged}");
@@ -80,11 +82,12 @@ fn compare() {
     }
 }
 
-/// The instructions of rows that others are held against: building an image, and the counts of the example.
+/// The instructions of rows that others are held against: building an image, the counts of the example, and merged images from calls.
 #[derive(Default)]
 struct Before {
     building: Option<f64>,
     counts: Option<f64>,
+    calls: Option<f64>,
 }
 
 /// The goal in words, and whether it is met.
@@ -96,6 +99,9 @@ fn judged(goal: Goal, ours: Option<f64>, theirs: Option<f64>, before: &Before) -
         }
         Goal::OfCounts(times) => {
             (format!("{times} of its counts"), before.counts.map(|it| it * times))
+        }
+        Goal::OfCalls(times) => {
+            (format!("{times} of its calls"), before.calls.map(|it| it * times))
         }
         Goal::AtMost(bound) => (format!("{bound} instructions"), Some(bound)),
         Goal::Free => return String::new(),

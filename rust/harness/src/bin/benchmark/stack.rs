@@ -49,9 +49,10 @@ extern "C" fn trampoline(call: &mut &mut dyn FnMut()) {
 #[cfg(test)]
 mod tests {
     use super::*;
+    use crate::works::MERGED_FROM_CALLS;
     use harness::pages::LONGEST;
 
-    /// 6 KB for all lists of an image, 4 KB for building and other reading, 1 KB for what drives the chip, each
+    /// 6 KB for all lists of an image, 4 KB for building and other reading, 2 KB for merging, 1 KB for what drives the chip, each
     /// with the caller's buffers; 1 KB for a page beside the caller's room for it.
     #[test]
     fn stack_stays_within_its_bounds() {
@@ -61,6 +62,8 @@ mod tests {
             let patterns = ["images", "answers", "one item", "reading"];
             let bound = match name {
                 "reading all lists" => 6144,
+                MERGED_FROM_CALLS => 4096,
+                "merged images" => 2048,
                 _ if name.starts_with("page") => 1024 + LONGEST,
                 _ if patterns.iter().any(|it| name.starts_with(it)) => 4096,
                 _ => 1024,

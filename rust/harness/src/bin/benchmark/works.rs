@@ -7,7 +7,8 @@ use embedded_hal_async::i2c::{ErrorKind, ErrorType, I2c};
 use harness::bus::{MOST, at_once};
 use harness::driver::{record_bytes, revision};
 use harness::encoded;
-use harness::images::EXAMPLE;
+use harness::images::{EXAMPLE, plain};
+use harness::merges::{any_images, merged};
 use harness::oracle::{Builders, matches, number};
 use harness::pages::LONGEST;
 use harness::patterns::{KINDS, mended};
@@ -16,8 +17,9 @@ use harness::raw::{BYTE, DONE, LISTS, SESSION};
 use harness::records::COUNT;
 use harness::settings::{Settings, published_variant};
 use harness::triggers;
+use harness::{GAINS, TIMEBASES};
 use std::hint::black_box;
-use yambelugo::{Call, DrivingMode, IMAGE, OperationMode, RECORD, Variant};
+use yambelugo::{Call, DrivingMode, IMAGE, OperationMode, PwlPoint, RECORD, Variant};
 
 const ADDRESS: u8 = 0x4A;
 
@@ -41,6 +43,9 @@ pub struct Inputs {
     /// Document 01's example image and those of the longest pages, so many of each.
     examples: Vec<[u8; IMAGE]>,
     longest: Vec<[u8; IMAGE]>,
+    /// Pairs of images that can be merged, and the calls that make the merged ones.
+    pairs: Vec<[[u8; IMAGE]; 2]>,
+    merged: Vec<Vec<u8>>,
     accepted: Vec<Case>,
     refused: Vec<Case>,
     /// Period words that come from some frequency, with the mode.
@@ -97,7 +102,28 @@ impl Inputs {
         let words = words.collect();
         let examples = vec![EXAMPLE; cases];
         let longest = (0..cases).map(|_| longest_page(&mut random)).collect();
-        Self { patterns, mended, images, examples, longest, accepted, refused, words }
+        let (mut pairs, mut merged_lists) = (Vec::new(), Vec::new());
+        while pairs.len() < cases {
+            let pair = any_images(&mut random);
+            if let Ok(image) = merged(&pair[0], &pair[1]) {
+                let list = encoded(&calls_of(&image));
+                assert_eq!(our_image(&list), Some(image));
+                pairs.push(pair);
+                merged_lists.push(list);
+            }
+        }
+        Self {
+            patterns,
+            mended,
+            images,
+            examples,
+            longest,
+            pairs,
+            merged: merged_lists,
+            accepted,
+            refused,
+            words,
+        }
     }
 }
 
@@ -107,6 +133,37 @@ fn longest_page(random: &mut Random) -> [u8; IMAGE] {
     image[6..].fill_with(|| random.below(128) as u8);
     image[..6].copy_from_slice(&[1, 3, 6, 38, 70, 99]);
     image
+}
+
+/// The fewest calls that make this image.
+fn calls_of(image: &[u8]) -> Vec<Call> {
+    let lists = plain(image).expect("an image");
+    let mut calls = Vec::new();
+    for points in &lists.snippets {
+        for byte in points {
+            let make = if *byte < 128 { PwlPoint::step } else { PwlPoint::ramp };
+            calls.push(Call::Point(make(byte / 16 % 8 + 1, byte % 16).expect("a point")));
+        }
+        calls.push(Call::AddSnippet);
+    }
+    for frames in &lists.sequences {
+        for frame in frames {
+            let begin =
+                if frame.snippet == 0 { Call::Silence } else { Call::FrameNew(frame.snippet) };
+            // A loop count of 0 is there without a call if something else takes a second byte.
+            let two_bytes = frame.snippet > 7 || frame.frequency_hz.is_some();
+            let loops = frame.loop_count.filter(|count| *count > 0 || !two_bytes);
+            calls.push(begin);
+            calls.extend((frame.gain != GAINS[0]).then_some(Call::Gain(frame.gain)));
+            calls
+                .extend((frame.timebase != TIMEBASES[0]).then_some(Call::Timebase(frame.timebase)));
+            calls.extend(loops.map(Call::LoopCount));
+            calls.extend(frame.frequency_hz.map(Call::FrequencyHz));
+            calls.push(Call::AddFrame);
+        }
+        calls.push(Call::AddSequence);
+    }
+    calls
 }
 
 /// What a side did: a sum over all that it answered, which both sides have to have alike, and how
@@ -134,6 +191,8 @@ pub enum Goal {
     OfBuilding(f64),
     /// So many times reading the counts of the example image.
     OfCounts(f64),
+    /// So many times making the merged images of the row before from their calls.
+    OfCalls(f64),
     AtMost(f64),
     Free,
 }
@@ -150,7 +209,10 @@ pub struct Work {
 /// The row that pages are held against.
 pub const READING_THE_EXAMPLE: &str = "reading the example";
 
-pub const WORKS: [Work; 20] = [
+/// The row that merging is held against.
+pub const MERGED_FROM_CALLS: &str = "merged images, from calls";
+
+pub const WORKS: [Work; 22] = [
     Work {
         name: "images",
         unit: "image",
@@ -221,6 +283,20 @@ pub const WORKS: [Work; 20] = [
         theirs: None,
         ours: our_long_pages,
         goal: Goal::AtMost(20.0),
+    },
+    Work {
+        name: MERGED_FROM_CALLS,
+        unit: "image",
+        theirs: None,
+        ours: our_images_from_calls,
+        goal: Goal::Free,
+    },
+    Work {
+        name: "merged images",
+        unit: "image",
+        theirs: None,
+        ours: our_merges,
+        goal: Goal::OfCalls(1.0),
     },
     Work {
         name: "refused settings",
@@ -460,6 +536,31 @@ fn pages(images: &[[u8; IMAGE]]) -> Done {
         black_box(&page);
         done.add(&told.to_le_bytes());
         done.count += u64::from(told);
+    }
+    done
+}
+
+/// What a program does that keeps the calls of both images.
+fn our_images_from_calls(inputs: &Inputs) -> Done {
+    let mut done = Done::default();
+    for list in &inputs.merged {
+        let image = our_image(list).expect("an image");
+        done.add(black_box(&image));
+        done.count += 1;
+    }
+    done
+}
+
+fn our_merges(inputs: &Inputs) -> Done {
+    let mut done = Done::default();
+    for [first, second] in &inputs.pairs {
+        let (one, other, mut image) = (first.as_ptr(), second.as_ptr(), [0; IMAGE]);
+        // SAFETY: each pointer and length is an array, and they do not overlap.
+        let told =
+            unsafe { ffi::da728x_merge(one, IMAGE, other, IMAGE, image.as_mut_ptr(), IMAGE) };
+        assert_eq!(told, 0, "refused");
+        done.add(black_box(&image));
+        done.count += 1;
     }
     done
 }
