@@ -1,5 +1,5 @@
-/* Builds a pattern, reads it back, prints its page, and plays it on a simulated DA7280; then sets
- * up a custom waveform.
+/* Builds a pattern, reads it back, prints its page, merges two others, and plays it on a simulated
+ * DA7280; then sets up a custom waveform.
  *
  * C99, no heap: everything lives in arrays of known size. Whatever is not as expected is
  * told, and main then returns 1. On a unit, transfer() is your I2C driver; the rest stays. */
@@ -255,6 +255,62 @@ static void print_page(const uint8_t image[DA728X_IMAGE])
     if (told < 65536) fwrite(page, 1, told, stdout);
 }
 
+/* ---- two patterns in one image ------------------------------------------ */
+
+/* One snippet, and a sequence that plays it twice. */
+static const uint8_t shallow_ahead[DA728X_IMAGE] = {
+    1,    1,    6,    13,   0xF3, 0xF7, 0xB0,
+    0x31, 0x84, 0x78, 0x18, 0x11, 0x8C, 0x78,
+};
+
+/* Two snippets, and two sequences that play both. */
+static const uint8_t turn_now[DA728X_IMAGE] = {
+    2,    2,    7,    9,    22,   35,   0x17, 0x10, 0x27, 0xF0,
+    0x49, 0x84, 0xC8, 0x29, 0x84, 0xC8, 0x09, 0x84, 0xC8, 0x18, 0x0A, 0x96, 0x2C,
+    0x0A, 0x96, 0x2C, 0x18, 0x49, 0x84, 0xC8, 0x29, 0x84, 0xC8, 0x09, 0x84, 0xC8,
+};
+
+/* The frames of turn_now name the snippets 2 and 3 here; silence, 18, stays. */
+static const uint8_t wanted_both[DA728X_IMAGE] = {
+    3,    3,    10,   12,   14,   21,   34,   47,
+    0xF3, 0xF7, 0xB0, 0x17, 0x10, 0x27, 0xF0,
+    0x31, 0x84, 0x78, 0x18, 0x11, 0x8C, 0x78,
+    0x4A, 0x84, 0xC8, 0x2A, 0x84, 0xC8, 0x0A, 0x84, 0xC8, 0x18, 0x0B, 0x96, 0x2C,
+    0x0B, 0x96, 0x2C, 0x18, 0x4A, 0x84, 0xC8, 0x2A, 0x84, 0xC8, 0x0A, 0x84, 0xC8,
+};
+
+static uint8_t merged(const uint8_t second[DA728X_IMAGE], uint8_t *image, size_t image_len)
+{
+    return da728x_merge(shallow_ahead, DA728X_IMAGE, second, DA728X_IMAGE, image, image_len);
+}
+
+static void merge(void)
+{
+    uint8_t both[DA728X_IMAGE], untouched[DA728X_IMAGE], lacking[DA728X_IMAGE], refused;
+    uint32_t counts;
+    uint64_t frame;
+    memset(both, 0x55, sizeof both);
+    memset(untouched, 0x55, sizeof untouched);
+    /* A silence made a frame of snippet 3, which turn_now has not. */
+    memcpy(lacking, turn_now, DA728X_IMAGE);
+    lacking[19] = 0x1B;
+    refused = merged(lacking, both, sizeof both);
+    expect("a frame with an absent snippet", refused, 25);
+    expect("an image with no room", merged(turn_now, both, sizeof both - 1), 24);
+    expect_bytes("the buffer without an image", both, untouched, sizeof both);
+    printf("not merged: a frame with an absent snippet, refused with %u\n", refused);
+
+    expect("da728x_merge", merged(turn_now, both, sizeof both), 0);
+    expect_bytes("the merged image", both, wanted_both, DA728X_IMAGE);
+    counts = da728x_read_counts(both, DA728X_IMAGE);
+    frame = da728x_read_frame(both, DA728X_IMAGE, 1, 0);
+    expect("the counts of both", counts, 0x0303);
+    expect("the first frame of turn_now", frame, (uint64_t)200 << 32 | 0x00010202);
+    printf("merged: %u snippets, %u sequences; sequence 1 begins with snippet %u at %u Hz\n",
+           (unsigned)counts >> 8, (unsigned)counts & 255u, (unsigned)(frame & 255),
+           (unsigned)(frame >> 32));
+}
+
 /* ---- the chip ----------------------------------------------------------- */
 
 static void put16(uint8_t *at, unsigned value)
@@ -432,6 +488,7 @@ int main(void)
     refuse();
     read_back(image);
     print_page(image);
+    merge();
     find(&chip);
     configure(&chip);
     upload(&chip, image);

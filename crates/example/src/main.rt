@@ -1,5 +1,5 @@
 // The main job, printed: two patterns made by the builders, their images, the lists that the reader gives back, their pages for the binder,
-// and the driver on a simulated chip. rust/harness/tests/example.rs holds what `stdout` says against the published Rust,
+// both in one image, and the driver on a simulated chip. rust/harness/tests/example.rs holds what `stdout` says against the published Rust,
 // and the pages against a plain printer.
 // Proved: every function returns.
 #![tactic(auto)]
@@ -21,10 +21,20 @@ fn main(rt: HostRuntime) -> io::Result<()> {
     image(&rt, "shallow ahead", &ahead)?;
     image(&rt, "turn now", &turn)?;
     example_calls::ahead(&rt)?;
-    println!(rt; "\n3. The same images, read back, and their pages for the binder")?;
+    println!(rt;
+        "\n3. The same images, read back, their pages for the binder, and both in one image"
+    )?;
     read(&rt, "shallow ahead", ahead.bytes())?;
     read(&rt, "turn now", turn.bytes())?;
-    read(&rt, "turn now with byte 02 changed to FF", &damaged(&turn))?;
+    let damaged = changed(&turn, 0x02, 0xFF);
+    read(&rt, "turn now with byte 02 changed to FF", &damaged)?;
+    println!(rt; "\nthe page of shallow ahead and turn now in one image")?;
+    example_lists::merged(&rt, ahead.bytes(), turn.bytes())?;
+    println!(rt;
+        "\nthe same with byte 13 of turn now changed to 1B, a frame of snippet 3, which turn now lacks"
+    )?;
+    let lacking = changed(&turn, 0x13, 0x1B);
+    example_lists::merged(&rt, ahead.bytes(), &lacking)?;
     example_drive::drive(&rt, &ahead, &turn)
 }
 
@@ -43,9 +53,11 @@ fn read(rt: &impl Print, title: &str, image: &[u8]) -> io::Result<()> {
     example_lists::page(rt, image)
 }
 
-// The same image with one byte changed, which is then no image.
-fn damaged(memory: &WaveformMemory) -> [u8; 100] {
+// The same image with one byte changed.
+fn changed(memory: &WaveformMemory, at: usize, byte: u8) -> [u8; 100] {
     let mut bytes = *memory.bytes();
-    bytes[2] = 0xFF;
+    if let Some(old) = bytes.get_mut(at) {
+        *old = byte;
+    }
     bytes
 }

@@ -1,4 +1,5 @@
-// Where the parts of an image stand, the lists that the reader gives back, and the page for the binder, printed. Proved: every function returns.
+// Where the parts of an image stand, the lists that the reader gives back, the page for the binder, and that of two images in one, printed.
+// Proved: every function returns.
 #![tactic(auto)]
 
 mod text;
@@ -42,6 +43,15 @@ pub fn page(rt: &impl Print, image: &[u8]) -> io::Result<()> {
     let mut out = [0u8; page::PAGE_SIZE];
     match page::page(image, &mut out) {
         Ok(length) => rt.write_all(out.get(..length).unwrap_or(&[])),
+        Err(e) => println!(rt; "  refused with {}", Refusal(e)),
+    }
+}
+
+/// The page of the image that the two make, or the refusal.
+pub fn merged(rt: &impl Print, first: &[u8], second: &[u8]) -> io::Result<()> {
+    let mut image = [0u8; 100];
+    match merge::merge(first, second, &mut image) {
+        Ok(()) => page(rt, &image),
         Err(e) => println!(rt; "  refused with {}", Refusal(e)),
     }
 }

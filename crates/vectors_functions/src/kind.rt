@@ -30,6 +30,7 @@ pub enum Kind {
     CurrentSettings,
     FrequencySettings,
     Page,
+    Merge,
 }
 
 impl TryFrom<u8> for Kind {
@@ -63,6 +64,7 @@ impl TryFrom<u8> for Kind {
             24 => Ok(Kind::CurrentSettings),
             25 => Ok(Kind::FrequencySettings),
             26 => Ok(Kind::Page),
+            27 => Ok(Kind::Merge),
             _ => Err(UnknownKind(number)),
         }
     }

@@ -12,7 +12,7 @@ use laws::byte_at;
 use vectors_bytes::{MARKER, number};
 
 // What a case gives and tells: the arguments, the list of calls or the image, the word answered, and what is left in the slice lent.
-// A case of an image read has other fields in these places: `Reads`.
+// A case of two images merged has the first in the place of the arguments; one of an image read has other fields in all places: `Reads`.
 #[derive(Clone, Copy)]
 struct Case<'a> {
     arguments: &'a [u8],
@@ -79,6 +79,7 @@ impl Case<'_> {
             Kind::Reads => 0,
             Kind::ReadLists => capi::da728x_read_lists(calls, out) as u64,
             Kind::Page => capi::da728x_page(calls, out) as u64,
+            Kind::Merge => capi::da728x_merge(self.arguments, calls, out) as u64,
             Kind::RegisterAddresses => capi::da728x_register_addresses(out) as u64,
             Kind::ReadInterrupts => capi::da728x_read_interrupts(a, out) as u64,
             Kind::ReadActuator => capi::da728x_read_actuator(a, out) as u64,

@@ -1,11 +1,12 @@
 //! What the program `example` says (crates/example/stdout) against the published Rust: its builder calls give its images, so do the
-//! lists that it read back, its pages are the plain printer's, and its exchanges are the published driver's on the same chip, whose memory
-//! and lock are the harness's own.
+//! lists that it read back, its pages are the plain printer's, that of both patterns too, whose image the published builders make, and its
+//! exchanges are the published driver's on the same chip, whose memory and lock are the harness's own.
 
 use harness::bus::Script;
 use harness::chip;
 use harness::driver::{Operation, Outcome, Pair, compare_new};
 use harness::images::plain;
+use harness::merges;
 use harness::oracle::Builders;
 use harness::pages;
 use harness::registers::ADDRESSES;
@@ -15,8 +16,12 @@ use yambelugo::{Call, DrivingMode, Error, OperationMode, Variant};
 
 const PATTERNS: [&str; 2] = ["shallow ahead", "turn now"];
 
-/// The last image of part 3.
+/// The last image that is read in part 3.
 const DAMAGED: &str = "turn now with byte 02 changed to FF";
+
+/// The last paragraph of part 3.
+const LACKING: &str =
+    "the same with byte 13 of turn now changed to 1B, a frame of snippet 3, which turn now lacks";
 
 /// The bus's code for its failure, in parts 5 and 6.
 const CODE: u8 = 3;
@@ -289,8 +294,28 @@ fn pages_are_those_of_the_images() {
     assert_eq!(pages::page(&damaged()), None);
     let told = of_pattern(3, &format!("the page of {DAMAGED}"));
     assert_eq!(told, [format!("  refused with {}", refusal(18))]);
-    assert_eq!(said.matches("\nthe page of ").count(), 3, "pages");
+    assert_eq!(said.matches("\nthe page of ").count(), 4, "pages");
     compared("lines of the example's pages", lines, 16);
+}
+
+/// The page of both patterns is the plain printer's of the image that the published builders make of their items; with a frame of a snippet
+/// that is not in its own image, which can be read, they are refused.
+#[test]
+fn both_are_in_one_image() {
+    let [ahead, turn] = PATTERNS.map(printed_image);
+    let page = pages::page(&merges::merged(&ahead, &turn).unwrap()).unwrap();
+    let said = text("crates/example/stdout");
+    let title = format!("\nthe page of {} and {} in one image\n", PATTERNS[0], PATTERNS[1]);
+    let below = said.split_once(&title).unwrap().1;
+    assert!(below.starts_with(&format!("{page}\n")), "{below}");
+    compared("lines of the page of both", page.lines().count(), 16);
+
+    let mut lacking = turn;
+    lacking[0x13] = 0x1B;
+    let frames = plain(&lacking).unwrap().sequences[0].clone();
+    assert_eq!(frames[3].snippet, 3);
+    assert_eq!(merges::merged(&ahead, &lacking), Err(25));
+    assert_eq!(of_pattern(3, LACKING), [format!("  refused with {}", refusal(25))]);
 }
 
 /// The simulated chip, on which the published driver is run.

@@ -2,11 +2,14 @@
 //! what `sample` makes of the published Rust, and hold every kind of case that their head lists.
 
 use harness::chip::Chip;
+use harness::images::{Lists, plain};
 use harness::lists::MARKER;
+use harness::merges::{grown, plays};
 use harness::pages;
 use harness::uploads::{Bare, Upload};
 use harness::{compared, text};
 use std::process::Command;
+use yambelugo::Frame;
 
 /// What the command writes.
 fn made(arguments: &[&str]) -> String {
@@ -83,8 +86,8 @@ fn every_kind_is_there() {
     let (shared, of_kinds): (Vec<&str>, Vec<&str>) =
         exported.iter().map(String::as_str).partition(|name| SHARED.contains(name));
     assert_eq!((&shared[..], of_kinds), (&SHARED[..], named));
-    compared("kinds of the stored sample", kinds.len(), 45);
-    compared("cases of the stored sample", cases, 5306);
+    compared("kinds of the stored sample", kinds.len(), 46);
+    compared("cases of the stored sample", cases, 5426);
 }
 
 fn bytes(field: &str) -> Vec<u8> {
@@ -162,8 +165,8 @@ fn short_buffers_are_there() {
         let cases = sample.lines().map(|line| line.split(' ').collect::<Vec<_>>());
         cases.filter(|case| case[0] == kind && case.get(3) == Some(&word)).count()
     };
-    let kinds = ["05", "06", "07", "09", "15", "16", "1A"];
-    let words = ["180000", "180000", "180000", "18", "18", "180000", "180000"];
+    let kinds = ["05", "06", "07", "09", "15", "16", "1A", "1B"];
+    let words = ["180000", "180000", "180000", "18", "18", "180000", "180000", "18"];
     let met: Vec<_> = kinds.iter().zip(words).map(|(kind, word)| short(kind, word)).collect();
     println!("short buffers in the sample: {met:?}");
     assert!(met.iter().all(|cases| *cases > 10), "{met:?}");
@@ -218,6 +221,101 @@ fn pages_are_there() {
     assert!(printed.iter().filter(|(page, room)| page.len() < *room).count() > 3);
     assert!(short.iter().filter(|(_, room)| *room == 0).count() > 2);
     assert!([0, pages::SHORTEST].iter().all(|room| none.contains(room)) && none.len() > 10);
+}
+
+/// A case of two images merged: what is told, the buffer afterwards, the images that can be read, and what they have together.
+struct Merge {
+    told: u8,
+    out: Vec<u8>,
+    same: bool,
+    read: [Option<Lists>; 2],
+    snippets: usize,
+    sequences: usize,
+    /// How many bytes the merged image takes, and how many frames of one byte grow in it.
+    size: usize,
+    growth: usize,
+}
+
+impl Merge {
+    /// Whether an image has a frame that names a snippet that it lacks.
+    fn lacks(&self, side: usize) -> bool {
+        self.read[side].as_ref().is_some_and(Lists::names_absent)
+    }
+
+    /// Whether it is merged, and some frame of the second image is so.
+    fn keeps(&self, frame: fn(&Frame) -> bool) -> bool {
+        let second = self.read[1].iter().flat_map(|it| it.sequences.iter().flatten());
+        self.told == 0 && second.into_iter().any(frame)
+    }
+}
+
+fn merges(sample: &str) -> Vec<Merge> {
+    let cases = sample.lines().filter_map(|line| line.strip_prefix("1B "));
+    cases
+        .map(|case| {
+            let fields: Vec<Vec<u8>> = case.split(' ').map(bytes).collect();
+            let [first, second, told, out] = &fields[..] else { panic!("{case}") };
+            let read = [first, second].map(|image| plain(image));
+            let sum = |of: fn(&Lists) -> usize| read.iter().flatten().map(of).sum::<usize>();
+            let growth = match &read {
+                [Some(first), Some(second)] => grown(second, first.snippets.len()),
+                _ => 0,
+            };
+            let (snippets, sequences) = (sum(|it| it.snippets.len()), sum(|it| it.sequences.len()));
+            // Both have the two counts.
+            let size = (sum(Lists::size) + growth).saturating_sub(2);
+            let copied = if *told == [0] { 100 } else { 0 };
+            let (image, rest) = out.split_at(copied);
+            if copied > 0 {
+                let before = [first, second].map(|image| plays(image).unwrap());
+                assert_eq!(plays(image), Some(before.concat()), "{case}");
+            }
+            assert!(rest.iter().all(|byte| *byte == MARKER), "{case}");
+            let (told, out, same) = (told[0], out.clone(), first == second);
+            Merge { told, out, same, read, snippets, sequences, size, growth }
+        })
+        .collect()
+}
+
+/// Images that are merged up to each limit, with growth and without, and each refusal, in the order in which they are tried; a merged
+/// image plays what the two play.
+#[test]
+fn merges_are_there() {
+    let sample = text("crates/vectors/stdin");
+    let merges = merges(&sample);
+    let shapes: [(&str, &dyn Fn(&Merge) -> bool); 27] = [
+        ("merged", &|it| it.told == 0),
+        ("merged into more room", &|it| it.told == 0 && it.out.len() > 100),
+        ("growth", &|it| it.told == 0 && it.growth > 0),
+        ("no growth", &|it| it.told == 0 && it.growth == 0),
+        ("silence", &|it| it.keeps(|frame| frame.snippet == 0)),
+        ("a loop count", &|it| it.keeps(|frame| frame.snippet > 0 && frame.loop_count.is_some())),
+        ("no loop count", &|it| it.keeps(|frame| frame.snippet > 0 && frame.loop_count.is_none())),
+        ("15 snippets", &|it| it.told == 0 && it.snippets == 15),
+        ("16 sequences", &|it| it.told == 0 && it.sequences == 16),
+        ("100 bytes", &|it| it.told == 0 && it.size == 100),
+        ("an image twice", &|it| it.told == 0 && it.same),
+        ("no first image", &|it| it.told == 18 && it.read[0].is_none() && it.read[1].is_some()),
+        ("no second image", &|it| it.told == 18 && it.read[0].is_some() && it.read[1].is_none()),
+        ("no image", &|it| it.told == 18 && it.read[0].is_none() && it.read[1].is_none()),
+        ("18 before 25", &|it| it.told == 18 && (it.lacks(0) || it.lacks(1))),
+        ("a snippet that the first lacks", &|it| it.told == 25 && it.lacks(0) && !it.lacks(1)),
+        ("a snippet that the second lacks", &|it| it.told == 25 && it.lacks(1) && !it.lacks(0)),
+        ("25 before the limits", &|it| it.told == 25 && (it.snippets > 15 || it.sequences > 16)),
+        ("16 snippets", &|it| it.told == 6 && it.snippets == 16),
+        ("6 before 7", &|it| it.told == 6 && it.sequences > 16),
+        ("17 sequences", &|it| it.told == 7 && it.sequences == 17),
+        ("7 before 8", &|it| it.told == 7 && it.size > 100),
+        ("101 bytes", &|it| it.told == 8 && it.size == 101),
+        ("too large by growth alone", &|it| it.told == 8 && it.size - it.growth <= 100),
+        ("too short by a byte", &|it| it.told == 24 && it.out.len() == 99),
+        ("no room", &|it| it.told == 24 && it.out.is_empty()),
+        ("a refusal before 24", &|it| ![0, 24].contains(&it.told) && it.out.len() < 100),
+    ];
+    let met = shapes.map(|(what, shape)| (what, merges.iter().filter(|it| shape(it)).count()));
+    println!("merges in the sample: {met:?}");
+    assert!(met.iter().all(|(_, cases)| *cases > 0), "{met:?}");
+    compared("merges of the sample", merges.len(), 120);
 }
 
 /// Values of registers that come from many settings, from two, from one and from none: voltages at both ends, every IMAX up to 40, and

@@ -5,8 +5,9 @@
 //! Rust's, and the settings of a register's value are those for which its `configure` writes it
 //! (`harness::ranges`); the numbers of refusals, the low two bits of TRIM4, a trigger's mode bit, the layout of records, the count of
 //! sequences in them and what lies outside the comparison are document 01's and 02's; what an image holds is told by the plain reader,
-//! and the Rust has to make the same image of that; its page is the plain printer's (`harness::pages`); what a chip holds is that of
-//! `harness::chip`, to which the published Rust uploads.
+//! and the Rust has to make the same image of that; its page is the plain printer's (`harness::pages`); which images are merged is
+//! document 02's (`harness::merges`), and the Rust makes the image of their items; what a chip holds is that of `harness::chip`, to which
+//! the published Rust uploads.
 
 use da728x::waveform::PwlPoint;
 use harness::bus::{Script, Wire, kind};
@@ -16,6 +17,7 @@ use harness::generate::{add_frames, any_call, any_frame_call, any_point, frame, 
 use harness::generate::{list, with_noise};
 use harness::images::{Lists, added, frame_word, hundred, plain};
 use harness::lists::MARKER;
+use harness::merges;
 use harness::oracle::{Builders, NOT_BEGUN, number, point};
 use harness::pages::{self, page};
 use harness::patterns;
@@ -32,7 +34,7 @@ use yambelugo::{Call, DrivingMode, OperationMode, Reply, Variant};
 
 /// Each kind of case: its number, the name of its C function without `da728x_`, or of what it is in
 /// two words, and how many there are. A kind's cases depend on nothing but its number and how many they are.
-const KINDS: [(u8, &str, usize); 45] = [
+const KINDS: [(u8, &str, usize); 46] = [
     (0x01, "point", 300),
     (0x02, "point_is_ramp", 256),
     (0x03, "point_timebases", 256),
@@ -47,6 +49,7 @@ const KINDS: [(u8, &str, usize); 45] = [
     (0x0A, "read_counts, read_point, read_frame", 160),
     (0x16, "read_lists", 80),
     (0x1A, "page", 60),
+    (0x1B, "merge", 120),
     (0x0B, "register_addresses", ADDRESS_ROOMS.len()),
     (0x0C, "read_interrupts", 40),
     (0x0D, "read_actuator", 40),
@@ -90,6 +93,22 @@ const SHAPES: [(&[usize], &[(usize, usize)]); 5] = [
     (&[1], &[(32, 2), (10, 3)]),
 ];
 
+/// The images that are merged first: how many snippets and sequences each of two has, and its size. As many as are allowed, and more by
+/// one; too many of both; too many sequences in too many bytes.
+const PAIRS: [[(usize, usize, usize); 2]; 8] = [
+    [(7, 1, 20), (8, 1, 30)],
+    [(8, 1, 30), (8, 1, 20)],
+    [(8, 9, 36), (8, 8, 34)],
+    [(1, 8, 20), (1, 8, 30)],
+    [(1, 9, 22), (1, 8, 20)],
+    [(1, 9, 51), (1, 8, 52)],
+    [(2, 2, 48), (2, 2, 54)],
+    [(2, 2, 49), (2, 2, 54)],
+];
+
+/// What is told of the others in turn, where there is room. In every other round one of the second's frames grows, if both can be read.
+const MERGES: [u8; 10] = [0, 18, 0, 25, 0, 6, 0, 7, 0, 8];
+
 /// The lengths of buffer that the addresses are copied into.
 const ADDRESS_ROOMS: [usize; 8] = [0, 1, 2, 21, 41, 42, 43, 50];
 
@@ -117,7 +136,8 @@ where document 02 tells it apart, the low two bits of TRIM4 as document 01 has t
 register as its trigger's mode, custom drive points written, where the Rust has no body for it, and
 28 for the number of a sequence that is not loaded. The settings of a register's value are those for
 which the Rust's configure, run for every setting, writes it, less those that document 01 refuses.
-The page of an image, which the Rust does not print, is the harness's, after document 02 (CR 1).
+The page of an image, which the Rust does not print, is the harness's, after document 02 (CR 1); so is
+which images are merged (CR 7), and the merged image is what the Rust makes of the items of both.
 Written by `scripts/remake-vectors` (rust/harness/src/bin/sample.rs), never by hand; read by the
 program `vectors`. The Rust is da728x-rs, revision REVISION, in rust/oracle, with these sums:
 SUMS
@@ -129,6 +149,7 @@ layouts and words are those of include/da728x.h.
 
 Kinds 01 to 09 and 0B to 1A: the numbers among the arguments, the calls or the image, the word
 answered, the bytes lent.
+Kind 1B: the first image, the second, the word answered, the bytes lent.
 Kind 0A: the image, the word of read_counts, then three bytes of read_point for each point of snippet
 0, of 1 and so on up to the first snippet that there is not, each with the answer past its last
 point; then eight bytes of read_frame for each frame likewise.
@@ -210,6 +231,7 @@ fn fields(kind: u8, at: usize, random: &mut Random) -> Vec<Vec<u8>> {
         0x0A => read(at, random),
         0x16 => listed(at, random),
         0x1A => printed(at, random),
+        0x1B => merged(at, random),
         0x0B => copied(&[], ADDRESSES.iter().map(|it| it.1).collect(), ADDRESS_ROOMS[at]),
         0x0C..=0x13 => register_fields(kind, random),
         0x17..=0x19 => settings_of(kind, at, random),
@@ -523,6 +545,52 @@ fn printed(at: usize, random: &mut Random) -> Vec<Vec<u8>> {
         Err(number) => usize::from(number) << 16,
     };
     vec![vec![], image, bytes_of(word as u64), out]
+}
+
+/// Two images into one: of `PAIRS`, then of pairs of which is told what `MERGES` has in its turn; into a buffer with room, or without.
+fn merged(at: usize, random: &mut Random) -> Vec<Vec<u8>> {
+    let wanted = (MERGES[at % MERGES.len()], at / MERGES.len() % 2 == 1);
+    let ([first, second], merged) = loop {
+        let images = match PAIRS.get(at) {
+            Some(pair) => sound(pair, random),
+            None => pair(random),
+        };
+        let merged = merges::merged(&images[0], &images[1]);
+        let told = merged.err().unwrap_or(0);
+        let grows = match images.each_ref().map(|image| held(image)) {
+            [Some(first), Some(second)] => merges::grown(&second, first.snippets.len()) > 0,
+            _ => wanted.1,
+        };
+        if at < PAIRS.len() || (told, grows) == wanted {
+            break (images, merged);
+        }
+    };
+    let mut out = lent(match merged {
+        Ok(_) if at < PAIRS.len() => 100,
+        Ok(_) => random.pick(&[100, 100, 100, 100, 101, 130, 99, 20, 0]),
+        Err(_) => random.pick(&[100, 100, 99, 4, 0]),
+    });
+    let told = merges::put(merged, &mut out);
+    vec![first, second, vec![told], out]
+}
+
+/// Two images of these counts and sizes.
+fn sound(pair: &[(usize, usize, usize); 2], random: &mut Random) -> [Vec<u8>; 2] {
+    let mut lists = |&(snippets, sequences, size)| merges::sound(snippets, sequences, size, random);
+    merges::images(&pair.each_ref().map(&mut lists)).map(Vec::from)
+}
+
+/// Two images, mostly near the limits; of some pairs one or both are nearly an image, or one is the other.
+fn pair(random: &mut Random) -> [Vec<u8>; 2] {
+    let mut pair = merges::any_images(random).map(Vec::from);
+    let side = random.below(2);
+    match random.below(10) {
+        0 | 1 => pair = [(); 2].map(|()| nearly(random.below(8), random)),
+        2 | 3 => pair[side] = nearly(random.below(8), random),
+        4 => pair[side] = pair[1 - side].clone(),
+        _ => {}
+    }
+    pair
 }
 
 /// An image of this shape, with random points and frames.
