@@ -4,7 +4,6 @@ use mathlib.Core.Path.{◌≡◌, refl, sym, ap, ap₂, ◌∙◌}
 use mathlib.Core.Bool.{Bool, cond}
 use mathlib.Core.List.{List, [], ◌∷◌, ◌++◌, map, map-append, append_assoc, append-nil}
 use Prim.Native.Nat.{ℕ, suc, ◌+◌, ◌-◌, ◌≤◌, ◌<◌, min}
-use native.Mathlib.Decide.{dec_le}
 use native.Mathlib.Omega.{arith}
 use lib.ListN.{length, take, drop, set, replicate, length-append, length-map, length-replicate, length-take, length-drop, drop_of_length-le, replicate-append-replicate}
 use lib.Seq.{set-append_seam, take_at, drop_at, take_all}
@@ -68,20 +67,19 @@ kept_exact (x ∷ xs) h =
 kept_sum : (items : List (List ℕ)) → sum (map kept_length items) < 255 → sum (map kept_length items) ≡ length (joined items)
 kept_sum items h = ap sum (kept_exact items h) ∙ sum_of_lengths items
 
-kept_total : (items : List (List ℕ)) → min (min (sum (map kept_length items)) 101) 100 ≡ min (length (joined items)) 100
-kept_total items = go (dec_le 255 (sum (map kept_length items))) where
-  go : Dec (255 ≤ sum (map kept_length items)) → min (min (sum (map kept_length items)) 101) 100 ≡ min (length (joined items)) 100
-  go (yes h) = omega (arith, kept_most items)
-  go (no h) = omega (arith, kept_sum items (omega arith))
-
 -- ---- one item more
 
 module _ (most : ℕ) (x : List ℕ) where
   -- the pool after it, as the code leaves it
   abbrev next : Pool most → Pool most
   next p =
-      let at = min (min (sum (take p.count p.lens)) 101) 100 in
-      record { count = p.count + 1; lens = set p.lens p.count (kept_length x); bytes = take at p.bytes ++ copied (drop at p.bytes) x }
+      let at = min p.used 100 in
+      record {
+        count = p.count + 1;
+        lens = set p.lens p.count (kept_length x);
+        bytes = take at p.bytes ++ copied (drop at p.bytes) x;
+        used = min (p.used + min (length x) 101) 101;
+      }
 
   module _ (items : List (List ℕ)) (h : length items < most) where
     abbrev m : ℕ
@@ -115,10 +113,11 @@ module _ (most : ℕ) (x : List ℕ) where
     next_kept : next (kept most items) ≡ kept most more
     unfolding kept
     next_kept =
-        let sums : min (min (sum (take m (lengths ++ zeros (most - m)))) 101) 100 ≡ min (length (joined items)) 100 =
-        ap (λ (l : List ℕ). min (min (sum l) 101) 100) (take_at lengths (zeros (most - m)) m (length-map items kept_length)) ∙ kept_total items in
+        let joins = ap length (joined_append items (x ∷ []) ∙ ap (λ (l : List ℕ). joined items ++ l) (append-nil x)) ∙ length-append (joined items) x in
+        let at : min (min (length (joined items)) 101) 100 ≡ min (length (joined items)) 100 = omega arith in
+        let used : min (min (length (joined items)) 101 + min (length x) 101) 101 ≡ min (length (joined more)) 101 = omega (arith, joins) in
         let n : m + 1 ≡ length more = sym (length-append items (x ∷ [])) in
-        λ i. record { count = n i; lens = lens_more i; bytes = bytes_more _ sums i }
+        λ i. record { count = n i; lens = lens_more i; bytes = bytes_more _ at i; used = used i }
 
   -- the number tells whether there is room
   module _ (p : Pool most) where
@@ -128,20 +127,24 @@ module _ (most : ℕ) (x : List ℕ) where
         e ∙ ap (λ (t : Bool). kept most (cond t (items ++ (x ∷ [])) items)) (sym (le-ltb (length items) most (omega arith)))
 
     -- what the code leaves, where the bytes from an index on were lent to the copying
-    pub room : p.count < most → length p.bytes ≡ 100 → (n at len : ℕ) (last : List ℕ) → n ≡ p.count → len ≡ kept_length x → at ≡ min (min (sum (take n p.lens)) 101) 100
-        → last ≡ copied (mid_of at (100 - at) p.bytes) x
-        → Pushed most x p (record { count = p.count + 1; lens = set p.lens n len; bytes = put_mid at (100 - at) p.bytes last })
-    room h long n at len last f w j l items g e =
+    pub room : p.count < most → length p.bytes ≡ 100 → (n at len used : ℕ) (last : List ℕ) → n ≡ p.count → len ≡ kept_length x → at ≡ min p.used 100
+        → used ≡ min (p.used + min (length x) 101) 101 → last ≡ copied (mid_of at (100 - at) p.bytes) x
+        → Pushed most x p (record { count = p.count + 1; lens = set p.lens n len; bytes = put_mid at (100 - at) p.bytes last; used = used })
+    room h long n at len used last f w j k l items g e =
         let c = count most items p e in
         let d : length items < most = omega arith in
-        let i : at ≡ min (min (sum (take p.count p.lens)) 101) 100 = j ∙ ap (λ (k : ℕ). min (min (sum (take k p.lens)) 101) 100) f in
         let t : mid_of at (100 - at) p.bytes ≡ drop at p.bytes = ap (λ (k : ℕ). mid_of at (k - at) p.bytes) (sym long) ∙ part_to_end p.bytes at in
         let none : post_of at (100 - at) p.bytes ≡ [] = drop_of_length-le (drop at p.bytes) {i = 100 - at} (simp length-drop (omega arith)) in
         let b : put_mid at (100 - at) p.bytes last ≡ take at p.bytes ++ copied (drop at p.bytes) x =
         ap₂ (λ (u v : List ℕ). take at p.bytes ++ (u ++ v)) (l ∙ ap (λ (u : List ℕ). copied u x) t) none
         ∙ ap (λ (u : List ℕ). take at p.bytes ++ u) (append-nil (copied (drop at p.bytes) x)) in
-        (λ k. record { count = p.count + 1; lens = set p.lens (f k) (w k); bytes = b k })
-        ∙ ap (λ (k : ℕ). record { count = p.count + 1; lens = set p.lens p.count (kept_length x); bytes = take k p.bytes ++ copied (drop k p.bytes) x }) i
+        (λ i. record { count = p.count + 1; lens = set p.lens (f i) (w i); bytes = b i; used = k i })
+        ∙ ap (λ (a : ℕ). record {
+          count = p.count + 1;
+          lens = set p.lens p.count (kept_length x);
+          bytes = take a p.bytes ++ copied (drop a p.bytes) x;
+          used = min (p.used + min (length x) 101) 101;
+        }) j
         ∙ ap next e
         ∙ next_kept items d
         ∙ ap (λ (t : Bool). kept most (cond t (items ++ (x ∷ [])) items)) (sym (lt-ltb (length items) most d))
@@ -234,7 +237,7 @@ module _ (k : Kept) (buffer ls js : List ℕ) (f : ls ≡ take k.snippets.count 
       let u = lt-ltb (length qs) 1 (omega arith) in
       (simp (t, u), simp (t, u))
 
-  module _ (h : 1 ≤ length ls) (o : 1 ≤ length js) (u v : ℕ) (p : u ≡ min (sum ls) 101) (q : v ≡ min (sum js) 101) where
+  module _ (h : 1 ≤ length ls) (o : 1 ≤ length js) (u v : ℕ) (p : u ≡ sum ls) (q : v ≡ sum js) where
     pub too_large : 98 < length ls + length js + u + v → ImageLaid k buffer 8 buffer
     too_large w ss qs a b e i =
         let c = many_snippets ss qs e i in

@@ -20,11 +20,12 @@ kept most items =
       count = length items;
       lens = map kept_length items ++ replicate (most - length items) 0;
       bytes = copied (replicate 100 0) (joined items);
+      used = min (length (joined items)) 101;
     }
 
 -- no items yet
 abbrev pub no_items : (most : ℕ) → Pool most
-no_items most = record { count = 0; lens = replicate most 0; bytes = replicate 100 0 }
+no_items most = record { count = 0; lens = replicate most 0; bytes = replicate 100 0; used = 0 }
 
 abbrev pub nothing_kept : Kept
 nothing_kept = record { snippets = no_items 15; sequences = no_items 16 }

@@ -4,7 +4,7 @@
 // so that it keeps some items (specs/Kept.antt); nothing is asked of a caller.
 #![tactic(auto)]
 
-ghost use Rattle.std.specs.Prelude.{◌≡◌, ◌+◌, ◌≤◌, ◌<◌, cond, ltb, length, min, sum, take};
+ghost use Rattle.std.specs.Prelude.{◌≡◌, ◌+◌, ◌≤◌, ◌<◌, cond, ltb, length, sum, take};
 ghost use Rattle.errors.specs.Number.{answer_number, error_number};
 ghost use Rattle.laws.specs.Copied.{over};
 ghost use Rattle.pool.specs.Kept.{ends, no_items, nothing_kept, Pushed, Fits, image_from, ImageLaid};
@@ -21,6 +21,8 @@ pub struct Pool<const MOST: usize> {
     // A length above 255 counts as 255, which no image has room for.
     lens: [u8; MOST],
     bytes: [u8; MAX_MEMORY_SIZE],
+    // How many bytes the items are; more than a hundred count as 101.
+    used: u8,
 }
 
 // The snippets and the sequences that an image is built of.
@@ -38,6 +40,7 @@ impl<const MOST: usize> Pool<MOST> {
             count: 0,
             lens: [0; MOST],
             bytes: [0; MAX_MEMORY_SIZE],
+            used: 0,
         }
     }
 
@@ -50,10 +53,12 @@ impl<const MOST: usize> Pool<MOST> {
         if MOST <= n {
             return Err(full);
         }
-        let at = total(&self.lens[..n]).min(MAX_MEMORY_SIZE);
+        let used = usize::from(self.used);
+        let at = used.min(MAX_MEMORY_SIZE);
         laws::copy_into(&mut self.bytes[at..], bytes);
         self.lens[n] = bytes.len().min(255) as u8;
         self.count += 1;
+        self.used = (used + bytes.len().min(101)).min(101) as u8;
         Ok(())
     }
 
@@ -145,13 +150,11 @@ fn pointers(out: &mut [u8], at: usize, lens: &[u8], before: usize) -> usize
     last
 }
 
-// How many bytes items of these lengths take; more than a hundred count as 101.
+// How many bytes items of these lengths take.
 fn total(lens: &[u8]) -> usize
-    ensures { result ≡ min (sum lens.now) 101 }
+    requires { length lens.now ≤ 16 }
+    ensures value { result ≡ sum lens.now }
+    ensures upper_bound { result < 4096 }
 {
-    let mut sum = 0usize;
-    for len in lens {
-        sum = (sum + usize::from(*len)).min(MAX_MEMORY_SIZE + 1);
-    }
-    sum
+    lens.iter().map(|len| usize::from(*len)).sum()
 }

@@ -17,7 +17,7 @@ returns-then-is_empty-2 c =
 pub returns-then-size-gt-MAX_MEMORY_SIZE : goal.returns-then-size-gt-MAX_MEMORY_SIZE
 returns-then-size-gt-MAX_MEMORY_SIZE c =
     too_large c.args.self.now c.args.buffer.now _ _ c.lens-snippets.ensures.value c.lens-sequences.ensures.value (search rules) (search rules)
-    _ _ c.total-a.ensures c.total-b.ensures (omega arith)
+    _ _ c.total-a.ensures.value c.total-b.ensures.value (omega arith)
 
 -- nothing is told of what was copied but the refusal
 no_length : (r : Result ℕ Error) → answer_number (result_map_both (λ n. tt {0}) (λ e. e) r) ≡ told_number (told r)
@@ -29,5 +29,5 @@ returns c =
     let copied = c.copy_whole in
     let made : c.map.result ≡ result_map_both (λ n. tt {0}) (λ e. e) copied.result = search rules in
     built c.args.self.now c.args.buffer.now _ _ c.lens-snippets.ensures.value c.lens-sequences.ensures.value (search rules) (search rules)
-    _ _ c.total-a.ensures c.total-b.ensures (omega arith)
+    _ _ c.total-a.ensures.value c.total-b.ensures.value (omega arith)
     _ _ _ _ _ refl refl c.laid-out.ensures (ap answer_number made ∙ no_length copied.result ∙ ap told_number copied.ensures.result_value) copied.ensures.buffer_after
