@@ -21,6 +21,7 @@ use Rattle.merge.proofs.FrameKept.{kept}
 use Rattle.merge.proofs.Lengths.{merged_size}
 use Rattle.merge.proofs.Admits.{merged_admitted}
 use Rattle.merge.proofs.Plays.{first_plays, second_plays}
+use Rattle.merge.proofs.Raising.{sequences_short}
 use Rattle.merge.proofs.Refused.{refused}
 
 -- what was read is read back as it is
@@ -50,6 +51,7 @@ module _ (c d : Content) (again_c : canonical c â‰¡ c) (again_d : canonical d â‰
         bytes = image_codec.fit (merged c d) a;
         admitted = good_canon Bytes read_image image_of Admitted canonical image_codec (merged c d) a;
         laid = sym (write_canon Bytes read_image image_of Admitted canonical image_codec (merged c d) a);
+        short_sequences = sequences_short (canonical (merged c d)).sequences (good_canon Bytes read_image image_of Admitted canonical image_codec (merged c d) a).sequences.each;
         snippets = refl;
         others = others d.sequences;
         sequences = map-append (map canon) c.sequences (map (map (raised count)) d.sequences)

@@ -3,11 +3,14 @@
 use Rattle.std.specs.Prelude.{ℕ, ◌+◌, ◌*◌, ◌≤◌, ◌≡◌, Bool, true, false, cond, List, [], ◌∷◌, ◌++◌, ◌%◌, map, length, Some, None}
 use Rattle.std.specs.declared.option.Option as rust
 use Rattle.std.proofs.Common.{◌∙◌, sym, ap, arith, length-append}
+use Rattle.std.proofs.lemmas.List.{length-map}
+use Rattle.laws.specs.Bytes.{All}
 use Rattle.laws.specs.Copied.{placed}
 use Rattle.laws.proofs.Copies.{placed_more}
 use Rattle.frame.specs.declared.FrameBuilder.{FrameBuilder}
 use Rattle.frame.specs.Frame.{on_given, first_byte, second_byte, has_second, bytes_of}
 use Rattle.content.specs.Content.{frames_bytes}
+use Rattle.content.proofs.Admits.{SequenceAdmitted}
 use Rattle.readings.specs.InPlace.{frames_in}
 use Rattle.readings.proofs.InPlace.{frames_few}
 use Rattle.merge.specs.Merged.{raised}
@@ -24,13 +27,17 @@ three f = go (has_second f) where
   go true = omega (arith, third f.frequency)
   go false = omega arith
 
-raised_long : (count : ℕ) (fs : List FrameBuilder) → length (frames_bytes (map (raised count) fs)) ≤ 3 * length fs
-raised_long count [] = omega arith
-raised_long count (f ∷ fs) =
-    omega (arith, length-append (bytes_of (raised count f)) (frames_bytes (map (raised count) fs)), three (raised count f), raised_long count fs)
+frames_long : (fs : List FrameBuilder) → length (frames_bytes fs) ≤ 3 * length fs
+frames_long [] = omega arith
+frames_long (f ∷ fs) = omega (arith, length-append (bytes_of f) (frames_bytes fs), three f, frames_long fs)
 
 pub raised_few : (count : ℕ) (bytes : List ℕ) → length (raised_bytes count bytes) ≤ 96
-raised_few count bytes = omega (arith, raised_long count (frames_in bytes), frames_few bytes)
+raised_few count bytes = omega (arith, frames_long (map (raised count) (frames_in bytes)), length-map (frames_in bytes) (raised count), frames_few bytes)
+
+-- so no sequence that the builders admit has more
+pub sequences_short : (qs : List (List FrameBuilder)) → All SequenceAdmitted qs → All (λ fs. length (frames_bytes fs) ≤ 96) qs
+sequences_short [] h = tt
+sequences_short (fs ∷ qs) h = (omega (arith, frames_long fs, h.0.few), sequences_short qs h.1)
 
 -- the frames fs are f and those that are left; x is the bytes of f, raised
 module _ (count : ℕ) (fs left : List FrameBuilder) (f : FrameBuilder) (e : fs ≡ f ∷ left) (x : List ℕ) (h : x ≡ bytes_of (raised count f)) where

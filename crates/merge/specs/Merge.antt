@@ -13,7 +13,7 @@ use Rattle.frame.specs.declared.Gain.{Gain}
 use Rattle.frame.specs.declared.Timebase.{Timebase}
 use Rattle.frame.specs.declared.FrameBuilder.{FrameBuilder}
 use Rattle.frame.specs.Frame.{on_given, bytes_of}
-use Rattle.content.specs.Content.{Point, Content, Both, size_of, image_of, Admitted}
+use Rattle.content.specs.Content.{Point, Content, Both, frames_bytes, size_of, image_of, Admitted}
 use Rattle.content.specs.ReadImage.{and_then, every, read_image}
 use Rattle.merge.specs.Merged.{merged_item}
 
@@ -74,6 +74,8 @@ pub record Merged (c d : Content) (image : List ℕ) : Type 0 where
   -- and nothing else is in it
   pub admitted : Admitted content
   pub laid : image ≡ image_of content
+  -- a raised number is 15 at most, since the builders admit it, and no sequence grows above its 96 bytes: 8 is the image's size alone
+  pub short_sequences : All (λ fs. length (frames_bytes fs) ≤ 96) content.sequences
   -- "the first's snippets and sequences, then the second's"; the first's are as they were
   pub snippets : content.snippets ≡ c.snippets ++ d.snippets
   pub others : List (List FrameBuilder)
