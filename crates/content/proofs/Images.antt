@@ -157,3 +157,7 @@ pub read_same : (c : Content) → Admitted c → Same c (canonical c)
 read_same c a =
     (same_image c (canonical c) a (good_canon Bytes read_image image_of Admitted canonical image_codec c a)).0
     (sym (write_canon Bytes read_image image_of Admitted canonical image_codec c a))
+
+-- what was read is read back as it is
+pub read_again : (l : List ℕ) (c : Content) → Bytes l → read_image l ≡ some c → canonical c ≡ c
+read_again l c h e = let s = image_codec.sound l c h e in some_inj (sym (image_codec.complete c s.0) ∙ ap read_image s.1 ∙ e)

@@ -5,6 +5,7 @@ use Rattle.std.proofs.Common.{◌∙◌, refl, sym, ap, subst, arith, lt-ltb}
 use Rattle.std.proofs.lemmas.Bool.Decides.{nat_tests}
 use Rattle.std.proofs.lemmas.List.{length-map, map-append}
 use lib.ListN.{length-append}
+use borrow.Author.Tests.{ltb-true, ltb-false}
 use Rattle.errors.specs.declared.Error.{Error}
 use Rattle.errors.specs.Number.{error_number}
 use Rattle.errors.specs.Told.{Told, gives, refuses, told_by, told_number}
@@ -24,7 +25,8 @@ use Rattle.readings.specs.InPlace.{header_of, items_at, frames_in}
 use Rattle.readings.proofs.InPlace.{Counted, counted, items_length}
 use Rattle.pool.specs.declared.Pool.{Pool}
 use Rattle.pool.specs.Kept.{no_items, kept, ImageLaid}
-use Rattle.merge.specs.Merged.{raised_number, raised, any, lacks, merged, merge_number, merged_item}
+use Rattle.std.specs.List.{list_any}
+use Rattle.merge.specs.Merged.{raised_number, raised, lacks, merged, merge_number, merged_item}
 use Rattle.merge.specs.InPlace.{Raisable, raised_bytes, Keeps}
 use Rattle.merge.proofs.FrameKept.{Names}
 use Rattle.merge.proofs.Refused.{named}
@@ -65,31 +67,29 @@ raisable count few h (fs ∷ qs) n a = (frames fs n.0 a.0.each, raisable count f
 
 -- whether an image of s snippets and q sequences lacks one that it names
 abbrev pub lacking : List ℕ → ℕ → ℕ → Bool
-lacking image s q = any (λ (f : FrameBuilder). ltb s f.snippet_id) (joined (map frames_in (items_at image s q)))
+lacking image s q = list_any (λ (f : FrameBuilder). ltb s f.snippet_id) (joined (map frames_in (items_at image s q)))
 
 lacking_is : (image : List ℕ) (s q : ℕ) (f : Counted image s q) → lacking image s q ≡ lacks f.content
-lacking_is image s q f = λ i. any (λ (h : FrameBuilder). ltb (f.count i) h.snippet_id) (joined (f.sequences i))
+lacking_is image s q f = λ i. list_any (λ (h : FrameBuilder). ltb (f.count i) h.snippet_id) (joined (f.sequences i))
 
-refused_25 : (t : Bool) (u : Error) → error_number u ≡ cond t 25 0 → (t ≡ true) × (error_number u ≡ 25)
-refused_25 true u e = (refl, e)
-refused_25 false u e = absurd (omega (arith, e, has_number u))
+-- a test that is told by a refusal, and one that is passed
+refused_by : (t : Bool) (full : ℕ) (u : Error) → error_number u ≡ cond t full 0 → (t ≡ true) × (error_number u ≡ full)
+refused_by true full u e = (refl, e)
+refused_by false full u e = absurd (omega (arith, e, has_number u))
 
-passed_25 : (t : Bool) → ◌≡◌ {A = ℕ} 0 (cond t 25 0) → t ≡ false
-passed_25 true e = absurd (omega arith)
-passed_25 false e = refl
+passed_by : (t : Bool) (full : ℕ) → 1 ≤ full → 0 ≡ cond t full 0 → t ≡ false
+passed_by true full h e = absurd (omega arith)
+passed_by false full h e = refl
 
 module _ (most full : ℕ) (items before : List (List ℕ)) (p p' : Pool most) (h : length before ≤ most) (e : p ≡ kept most before) where
   no_room : (u : Error) → Keeps most full items p (error_number u) p' → (most < length before + length items) × (error_number u ≡ full)
-  no_room u k = go (ltb most (length before + length items)) refl (k before h e).0 where
-    go : (t : Bool) → ltb most (length before + length items) ≡ t → error_number u ≡ cond t full 0 → (most < length before + length items) × (error_number u ≡ full)
-    go true d n = (grind (arith, nat_tests), n)
-    go false d n = absurd (omega (arith, n, has_number u))
+  no_room u k =
+      let m = refused_by (ltb most (length before + length items)) full u (k before h e).0 in (ltb-true most (length before + length items) m.0, m.1)
 
   room : 1 ≤ full → Keeps most full items p 0 p' → (length before + length items ≤ most) × (p' ≡ kept most (before ++ items))
-  room g k = go (ltb most (length before + length items)) refl (k before h e).0 where
-    go : (t : Bool) → ltb most (length before + length items) ≡ t → 0 ≡ cond t full 0 → (length before + length items ≤ most) × (p' ≡ kept most (before ++ items))
-    go true d n = absurd (omega arith)
-    go false d n = let fits : length before + length items ≤ most = grind (arith, nat_tests) in (fits, (k before h e).1 fits)
+  room g k =
+      let fits = ltb-false most (length before + length items) (passed_by (ltb most (length before + length items)) full g (k before h e).0) in
+      (fits, (k before h e).1 fits)
 
 -- ---- the answer
 
@@ -122,23 +122,23 @@ module _ (a b : List ℕ) (h : Bytes a) (i : Bytes b) (s q t r : ℕ) (e : Ok (s
 
   pub missing_first : (u : Error) → error_number u ≡ cond (lacking a s q) 25 0 → Answered (error_number u) out
   missing_first u n =
-      let m = refused_25 (lacking a s q) u n in
+      let m = refused_by (lacking a s q) 25 u n in
       let w : lacks c ≡ true = sym (lacking_is a s q f) ∙ m.0 in
       refused 25 (omega arith) (grind (arith, nat_tests)) u m.1
 
   module _ (m : ◌≡◌ {A = ℕ} 0 (cond (lacking a s q) 25 0)) where
     sound_first : lacks c ≡ false
-    sound_first = sym (lacking_is a s q f) ∙ passed_25 (lacking a s q) m
+    sound_first = sym (lacking_is a s q f) ∙ passed_by (lacking a s q) 25 (omega arith) m
 
     pub missing_second : (u : Error) → error_number u ≡ cond (lacking b t r) 25 0 → Answered (error_number u) out
     missing_second u n =
-        let k = refused_25 (lacking b t r) u n in
+        let k = refused_by (lacking b t r) 25 u n in
         let w : lacks d ≡ true = sym (lacking_is b t r g) ∙ k.0 in
         refused 25 (omega arith) (grind (arith, nat_tests)) u k.1
 
     module _ (m' : ◌≡◌ {A = ℕ} 0 (cond (lacking b t r) 25 0)) (p : Pool 15) (z : p ≡ no_items 15) (p₁ : Pool 15) where
       sound_second : lacks d ≡ false
-      sound_second = sym (lacking_is b t r g) ∙ passed_25 (lacking b t r) m'
+      sound_second = sym (lacking_is b t r g) ∙ passed_by (lacking b t r) 25 (omega arith) m'
 
       none : p ≡ kept 15 []
       unfolding kept

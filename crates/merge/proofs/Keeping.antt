@@ -15,23 +15,20 @@ use Rattle.readings.proofs.InPlace.{items_next, items_end}
 use Rattle.pool.specs.declared.Pool.{Pool}
 use Rattle.pool.specs.Kept.{kept, Pushed}
 use Rattle.pool.proofs.Keeping.{count}
-use Rattle.merge.specs.Merged.{any}
+use Rattle.std.specs.List.{list_any}
+use Rattle.std.proofs.lemmas.List.Folds.{list_any-append}
 
 -- ---- whether one passes
 
-pub any_append : {A : Type 0} (p : A → Bool) (xs ys : List A) → any p (xs ++ ys) ≡ (any p xs || any p ys)
-any_append p [] ys = refl
-any_append p (x ∷ xs) ys = grind (arith, any_append p xs ys)
-
 module _ (p : FrameBuilder → Bool) (image : List ℕ) (k n i : ℕ) where
   pub any_next : i < n
-      → any p (joined (map frames_in (drop i (items_at image k n)))) ≡ (any p (frames_in (item_at image (k + i))) || any p (joined (map frames_in (drop (i + 1) (items_at image k n)))))
+      → list_any p (joined (map frames_in (drop i (items_at image k n)))) ≡ (list_any p (frames_in (item_at image (k + i))) || list_any p (joined (map frames_in (drop (i + 1) (items_at image k n)))))
   any_next h =
-      ap (λ l. any p (joined (map frames_in l))) (items_next image k n i h)
-      ∙ any_append p (frames_in (item_at image (k + i))) (joined (map frames_in (drop (i + 1) (items_at image k n))))
+      ap (λ l. list_any p (joined (map frames_in l))) (items_next image k n i h)
+      ∙ list_any-append p (frames_in (item_at image (k + i))) (joined (map frames_in (drop (i + 1) (items_at image k n))))
 
-  pub any_end : n ≤ i → any p (joined (map frames_in (drop i (items_at image k n)))) ≡ false
-  any_end h = ap (λ l. any p (joined (map frames_in l))) (items_end image k n i h)
+  pub any_end : n ≤ i → list_any p (joined (map frames_in (drop i (items_at image k n)))) ≡ false
+  any_end h = ap (λ l. list_any p (joined (map frames_in l))) (items_end image k n i h)
 
 -- ---- one item more
 

@@ -12,8 +12,8 @@ use Rattle.frame.specs.Read.{read_frame}
 use Rattle.frame.proofs.Canon.{canon}
 use Rattle.content.specs.Content.{Content, Both, Admitted, image_of}
 use Rattle.content.specs.ReadImage.{read_image, read_items, read_snippet, read_sequence}
-use Rattle.content.proofs.Codec.{some_inj, good_canon, write_canon}
-use Rattle.content.proofs.Images.{image_codec, image_length}
+use Rattle.content.proofs.Codec.{good_canon, write_canon}
+use Rattle.content.proofs.Images.{image_codec, image_length, read_again}
 use Rattle.content.proofs.Sameness.{canonical}
 use Rattle.merge.specs.Merged.{raised, merged, merged_item}
 use Rattle.merge.specs.Merge.{Kept, Merged, Named, Merge}
@@ -23,10 +23,6 @@ use Rattle.merge.proofs.Admits.{merged_admitted}
 use Rattle.merge.proofs.Plays.{first_plays, second_plays}
 use Rattle.merge.proofs.Raising.{sequences_short}
 use Rattle.merge.proofs.Refused.{refused}
-
--- what was read is read back as it is
-read_again : (l : List ℕ) (c : Content) → Bytes l → read_image l ≡ some c → canonical c ≡ c
-read_again l c h e = let s = image_codec.sound l c h e in some_inj (sym (image_codec.complete c s.0) ∙ ap read_image s.1 ∙ e)
 
 both_map : {A : Type 0} (R : A → A → Type 0) (g r : A → A) → ((x : A) → R (g x) (g (r (g x)))) → (xs : List A)
     → Both R (map g xs) (map g (map r (map g xs)))

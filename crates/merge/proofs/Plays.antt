@@ -19,6 +19,7 @@ use Rattle.content.specs.Content.{Point, Content}
 use Rattle.content.specs.ReadImage.{every}
 use Rattle.content.proofs.Sameness.{canonical}
 use Rattle.reader.proofs.Placed.{elem_some}
+use Rattle.readings.proofs.InPlace.{all_found}
 use Rattle.readings.proofs.Items.{found_left, found_right, found_map}
 use Rattle.merge.specs.Merged.{raised_number, raised, merged}
 use Rattle.merge.specs.Merge.{points_named, played, PlaysAlike, Named}
@@ -79,12 +80,6 @@ module _ (ss ts : List (List Point)) where
 
 -- ---- the sequences of two contents
 
--- what stands at an index below the length, and what holds of it
-there : {A : Type 0} (P : A → Type 0) (xs : List A) (i : ℕ) → All P xs → i < length xs → (x : A) × (get_elem? xs i ≡ some x) × P x
-there P [] i p h = absurd (omega arith)
-there P (x ∷ xs) zero p h = (x, refl, p.0)
-there P (x ∷ xs) (suc i) p h = there P xs i p.1 (omega arith)
-
 module _ (c d : Content) where
   abbrev others : List FrameBuilder → List FrameBuilder
   others fs = map (raised (length c.snippets)) fs
@@ -95,13 +90,17 @@ module _ (c d : Content) where
   pub first_plays : Named c → (i : ℕ) → i < length c.sequences → PlaysAlike c i (canonical (merged c d)) i
   unfolding canonical
   first_plays w i h =
-      let (fs, e, n) = there (All (Names (length c.snippets))) c.sequences i w h in
+      let fs = get_or c.sequences i [] in
+      let e : get_elem? c.sequences i ≡ some fs = elem_some c.sequences i [] h in
+      let n = all_found (All (Names (length c.snippets))) c.sequences i fs w e in
       rw (e, found_map (map canon) all i fs (found_left c.sequences (map others d.sequences) i fs e)) (frames_first c.snippets d.snippets fs n)
 
   pub second_plays : Named d → (i : ℕ) → i < length d.sequences → PlaysAlike d i (canonical (merged c d)) (length c.sequences + i)
   unfolding canonical
   second_plays w i h =
-      let (fs, e, n) = there (All (Names (length d.snippets))) d.sequences i w h in
+      let fs = get_or d.sequences i [] in
+      let e : get_elem? d.sequences i ≡ some fs = elem_some d.sequences i [] h in
+      let n = all_found (All (Names (length d.snippets))) d.sequences i fs w e in
       let at = length c.sequences + i in
       let found = found_right c.sequences (map others d.sequences) i at refl ∙ found_map others d.sequences i fs e in
       rw (e, found_map (map canon) all at (others fs) found, map-map) (frames_second c.snippets d.snippets fs n)

@@ -1,14 +1,14 @@
 -- The bytes of a sequence's frames, raised: their room, and one frame more.
 -- Assumes nothing.
-use Rattle.std.specs.Prelude.{ℕ, ◌+◌, ◌*◌, ◌≤◌, ◌≡◌, Bool, true, false, cond, List, [], ◌∷◌, ◌++◌, ◌%◌, map, length, Some, None}
-use Rattle.std.specs.declared.option.Option as rust
+use Rattle.std.specs.Prelude.{ℕ, ◌+◌, ◌*◌, ◌≤◌, ◌≡◌, List, [], ◌∷◌, ◌++◌, map, length}
 use Rattle.std.proofs.Common.{◌∙◌, sym, ap, arith, length-append}
 use Rattle.std.proofs.lemmas.List.{length-map}
 use Rattle.laws.specs.Bytes.{All}
 use Rattle.laws.specs.Copied.{placed}
 use Rattle.laws.proofs.Copies.{placed_more}
 use Rattle.frame.specs.declared.FrameBuilder.{FrameBuilder}
-use Rattle.frame.specs.Frame.{on_given, first_byte, second_byte, has_second, bytes_of}
+use Rattle.frame.specs.Frame.{bytes_of}
+use Rattle.frame.proofs.Built.{few_bytes}
 use Rattle.content.specs.Content.{frames_bytes}
 use Rattle.content.proofs.Admits.{SequenceAdmitted}
 use Rattle.readings.specs.InPlace.{frames_in}
@@ -16,20 +16,9 @@ use Rattle.readings.proofs.InPlace.{frames_few}
 use Rattle.merge.specs.Merged.{raised}
 use Rattle.merge.specs.InPlace.{raised_bytes}
 
--- "one to three bytes"
-third : (q : rust.Option ℕ) → length (on_given q [] (λ f. f % 256 ∷ [])) ≤ 1
-third None = omega arith
-third (Some f) = omega arith
-
-three : (f : FrameBuilder) → length (bytes_of f) ≤ 3
-three f = go (has_second f) where
-  go : (t : Bool) → length (first_byte f ∷ cond t (second_byte f ∷ on_given f.frequency [] (λ f. f % 256 ∷ [])) []) ≤ 3
-  go true = omega (arith, third f.frequency)
-  go false = omega arith
-
 frames_long : (fs : List FrameBuilder) → length (frames_bytes fs) ≤ 3 * length fs
 frames_long [] = omega arith
-frames_long (f ∷ fs) = omega (arith, length-append (bytes_of f) (frames_bytes fs), three f, frames_long fs)
+frames_long (f ∷ fs) = omega (arith, length-append (bytes_of f) (frames_bytes fs), few_bytes f, frames_long fs)
 
 pub raised_few : (count : ℕ) (bytes : List ℕ) → length (raised_bytes count bytes) ≤ 96
 raised_few count bytes = omega (arith, frames_long (map (raised count) (frames_in bytes)), length-map (frames_in bytes) (raised count), frames_few bytes)

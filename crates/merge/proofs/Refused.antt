@@ -7,15 +7,16 @@ use Rattle.laws.specs.Bytes.{All}
 use Rattle.laws.specs.Lists.{joined}
 use Rattle.frame.specs.declared.FrameBuilder.{FrameBuilder}
 use Rattle.content.specs.Content.{Content, image_of}
-use Rattle.merge.specs.Merged.{any, merged}
+use Rattle.std.specs.List.{list_any}
+use Rattle.merge.specs.Merged.{merged}
 use Rattle.merge.specs.Merge.{Refused}
-use Rattle.merge.proofs.Keeping.{any_append}
+use Rattle.std.proofs.lemmas.List.Folds.{list_any-append}
 use Rattle.merge.proofs.FrameKept.{Names}
 use Rattle.merge.proofs.Lengths.{merged_size}
 
 module _ (most : ℕ) where
   abbrev over : List FrameBuilder → Bool
-  over fs = any (λ (f : FrameBuilder). ltb most f.snippet_id) fs
+  over fs = list_any (λ (f : FrameBuilder). ltb most f.snippet_id) fs
 
   none_over : (fs : List FrameBuilder) → (over fs ≡ false) ↔ All (Names most) fs
   none_over [] = (λ e. tt, λ h. refl)
@@ -23,7 +24,7 @@ module _ (most : ℕ) where
 
   pub named : (qs : List (List FrameBuilder)) → (over (joined qs) ≡ false) ↔ All (All (Names most)) qs
   named [] = (λ e. tt, λ h. refl)
-  named (q ∷ qs) = grind (arith, any_append (λ (f : FrameBuilder). ltb most f.snippet_id) q (joined qs), none_over q, named qs)
+  named (q ∷ qs) = grind (arith, list_any-append (λ (f : FrameBuilder). ltb most f.snippet_id) q (joined qs), none_over q, named qs)
 
 pub refused : (c d : Content) → Refused c d
 refused c d =

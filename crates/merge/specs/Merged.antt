@@ -1,5 +1,6 @@
 -- Two images into one: document 02, CR 7. An image stands here as the content that it is read to; what is claimed of the result is in Merge.antt.
-use Rattle.std.specs.Prelude.{ℕ, zero, suc, ◌+◌, Bool, false, cond, ◌||◌, List, [], ◌∷◌, ◌++◌, map, ltb, length}
+use Rattle.std.specs.Prelude.{ℕ, zero, suc, ◌+◌, Bool, cond, ◌||◌, List, ◌++◌, map, ltb, length}
+use Rattle.std.specs.List.{list_any}
 use Rattle.std.proofs.Math.Option.{Option}
 use Rattle.errors.specs.Told.{Told, refuses, told_by}
 use Rattle.laws.specs.Lists.{joined}
@@ -27,13 +28,9 @@ merged c d =
 
 -- ---- the refusals
 
-abbrev pub any : {A : Type 0} → (A → Bool) → List A → Bool
-any p [] = false
-any p (x ∷ xs) = p x || any p xs
-
 -- "A frame .. naming a snippet its own image lacks"; number 0 is silence
 abbrev pub lacks : Content → Bool
-lacks c = any (λ (f : FrameBuilder). ltb (length c.snippets) f.snippet_id) (joined c.sequences)
+lacks c = list_any (λ (f : FrameBuilder). ltb (length c.snippets) f.snippet_id) (joined c.sequences)
 
 -- a frame "of either input" gives 25, and "limits give 6, 7 or 8, tried in that order after the missing snippet"; 0 where nothing is refused. The
 -- other limits stay out of reach: items keep their points and frames, and no sequence of 32 frames is above 96 bytes

@@ -5,6 +5,7 @@
 #![tactic(auto)]
 
 ghost use Rattle.std.specs.Prelude.{◌≡◌, ◌≤◌, ltb, cond, map, take, Ok, IsOkAnd};
+ghost use Rattle.std.specs.List.{list_any};
 ghost use Rattle.errors.specs.Told.{told_number};
 ghost use Rattle.errors.specs.Number.{answer_number};
 ghost use Rattle.laws.specs.Bytes.{All};
@@ -12,7 +13,7 @@ ghost use Rattle.laws.specs.Lists.{joined};
 ghost use Rattle.laws.specs.Whole.{whole, whole_out};
 ghost use Rattle.content.specs.ReadImage.{read_image};
 ghost use Rattle.readings.specs.InPlace.{items_at, frames_in};
-ghost use Rattle.merge.specs.Merged.{raised, any, merged_item};
+ghost use Rattle.merge.specs.Merged.{raised, merged_item};
 ghost use Rattle.merge.specs.InPlace.{Raisable, raised_bytes, Keeps};
 
 use errors::Error;
@@ -46,7 +47,7 @@ pub fn merge(first: &[u8], second: &[u8], image: &mut [u8]) -> Result<(), Error>
 // MissingSnippet where a frame's is above s.
 fn test_numbers(image: &[u8], s: u8, q: u8) -> Result<(), Error>
     ensures { answer_number result
-        ≡ cond (any (λ f. ltb s f.snippet_id) (joined (map frames_in (items_at image.now s q)))) 25 0 }
+        ≡ cond (list_any (λ f. ltb s f.snippet_id) (joined (map frames_in (items_at image.now s q)))) 25 0 }
 {
     for i in 0..usize::from(q) {
         if is_above(readings::item(image, usize::from(s) + i), s) {
@@ -58,7 +59,7 @@ fn test_numbers(image: &[u8], s: u8, q: u8) -> Result<(), Error>
 
 // Whether a number of the frames that the bytes are is above this one.
 fn is_above(bytes: &[u8], s: u8) -> bool
-    ensures { result ≡ any (λ f. ltb s f.snippet_id) (frames_in bytes.now) }
+    ensures { result ≡ list_any (λ f. ltb s f.snippet_id) (frames_in bytes.now) }
 {
     for frame in ReadFrames::new(bytes) {
         if let Ok(frame) = frame {

@@ -1,7 +1,6 @@
 -- Lines placed one behind the other are placed end to end.
 -- Assumes nothing.
-use Rattle.std.proofs.Common.{◌≡◌, ◌+◌, ◌*◌, ◌++◌, ◌∙◌, ℕ, zero, suc, List, [], ◌∷◌, length, set, sym, ap, refl, arith}
-use lib.ListN.{drop_of_length-le}
+use Rattle.std.proofs.Common.{◌≡◌, ◌+◌, ◌*◌, ◌++◌, ◌∙◌, ℕ, suc, List, ◌∷◌, length, set, ap, arith}
 use Rattle.laws.specs.Copied.{placed}
 use Rattle.laws.proofs.Copies.{placed_first, placed_more}
 

@@ -14,7 +14,8 @@ use Rattle.content.proofs.Admits.{SnippetAdmitted, SequenceAdmitted}
 use Rattle.content.proofs.Points.{snippet_codec}
 use Rattle.page.specs.Lines.{characters, blank, newline, digit, two_digits, in_capitals, line, snippet_line, frame_line, frame_lines, numbered, page_lines}
 use Rattle.page.specs.Page.{prints, Line}
-use Rattle.page.proofs.Wide.{length_capitals, few_bytes}
+use Rattle.frame.proofs.Built.{few_bytes}
+use Rattle.page.proofs.Wide.{length_capitals}
 
 abbrev code_of : Bool → ℕ
 code_of true = 1

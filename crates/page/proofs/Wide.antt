@@ -1,6 +1,6 @@
 -- Lines are 37 bytes: what is placed in an empty one.
 -- Assumes nothing.
-use Rattle.std.proofs.Common.{◌≡◌, ◌+◌, ◌*◌, ◌-◌, ◌%◌, ◌≤◌, ◌<◌, ◌++◌, ◌∙◌, ℕ, suc, Bool, true, false, cond, Option, Some, None, List, [], ◌∷◌, map, length, drop, get_or, set, replicate, refl, sym, ap, subst, arith}
+use Rattle.std.proofs.Common.{◌≡◌, ◌+◌, ◌*◌, ◌-◌, ◌≤◌, ◌<◌, ◌++◌, ◌∙◌, ℕ, suc, List, [], ◌∷◌, map, length, drop, get_or, set, replicate, refl, sym, ap, subst, arith}
 use Rattle.std.proofs.lemmas.List.{drop_more, drop-append-le, drop-replicate}
 use mathlib.Core.List.{append_assoc}
 use lib.ListN.{length-append, length-replicate, drop_of_length-le}
@@ -8,7 +8,8 @@ use Rattle.laws.specs.Copied.{copied, placed}
 use Rattle.laws.specs.Lists.{joined}
 use Rattle.laws.proofs.Copies.{copied_fits, placed_more, placed_none}
 use Rattle.frame.specs.declared.FrameBuilder.{FrameBuilder}
-use Rattle.frame.specs.Frame.{bytes_of, has_second, second_byte, on_given}
+use Rattle.frame.proofs.Built.{few_bytes}
+use Rattle.frame.specs.Frame.{bytes_of}
 use Rattle.page.specs.Lines.{characters, blank, newline, two_digits, two_capitals, in_capitals, line, snippet_line, frame_line, numbered}
 use Rattle.page.proofs.Placed.{placed_two}
 
@@ -40,17 +41,6 @@ length_capitals (b ∷ bytes) = ap (λ n. suc (suc n)) (length_capitals bytes) �
 
 pub snippet_wide : (i : ℕ) (bytes : List ℕ) → length bytes ≤ 16 → length (snippet_line i bytes) ≡ 37
 snippet_wide i bytes h = line_length (characters "S" ++ two_digits i ++ characters " " ++ in_capitals bytes) (omega (arith, length_capitals bytes))
-
-third_few : (o : Option ℕ) → length (on_given o [] (λ f. f % 256 ∷ [])) ≤ 1
-third_few None = omega arith
-third_few (Some f) = omega arith
-
-second_few : (b : Bool) (x : ℕ) (t : List ℕ) → length t ≤ 1 → length (cond b (x ∷ t) []) ≤ 2
-second_few true x t h = omega arith
-second_few false x t h = omega arith
-
-pub few_bytes : (f : FrameBuilder) → length (bytes_of f) ≤ 3
-few_bytes f = omega (arith, second_few (has_second f) (second_byte f) (on_given f.frequency [] (λ n. n % 256 ∷ [])) (third_few f.frequency))
 
 pub frame_wide : (i j : ℕ) (f : FrameBuilder) → length (frame_line i j (bytes_of f)) ≡ 37
 frame_wide i j f =

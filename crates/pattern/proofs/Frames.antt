@@ -1,20 +1,15 @@
 -- A frame's builder holds in each field what the last accepted call gave, and is admitted.
 -- Assumes nothing.
-use Rattle.std.specs.Prelude.{Option, Some, None}
 use mathlib.Core.Path.{◌≡◌, refl, ap, ◌∙◌, subst}
-use mathlib.Core.Bool.{Bool, true, false, cond}
-use mathlib.Core.List.{List, [], ◌∷◌, ◌++◌}
+use mathlib.Core.List.{List, [], ◌∷◌}
 use Prim.Native.Nat.{ℕ, ◌≤◌, ◌<◌}
 use native.Mathlib.Decide.{dec_le}
 use native.Mathlib.Omega.{arith}
 use borrow.Author.Tests.{lt-ltb, le-ltb}
-use lib.ListN.{length, take, replicate}
 use Rattle.errors.specs.Told.{Told, gives, refuses}
 use Rattle.frame.specs.declared.FrameBuilder.{FrameBuilder}
 use Rattle.frame.specs.Agreement.{FrameAdmitted}
-use Rattle.frame.proofs.Parts.{third_byte}
 use Rattle.frame.specs.Builder.{frame_with, plain_frame, new_frame, with_loop_count, with_frequency}
-use Rattle.frame.specs.Frame.{first_byte, second_byte, has_second, bytes_of, frame_bytes, built_frame}
 use Rattle.pattern.specs.Calls.{FrameCall, gain, timebase, loop_count, frequency_hz, frame_step, Begin, new, silence, begun_by, FrameCalls, number_of, sets, last_set, frame_from}
 use Rattle.pattern.proofs.Items.{frame_ran}
 

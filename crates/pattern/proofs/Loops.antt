@@ -2,7 +2,7 @@
 -- Assumes nothing.
 use Rattle.std.specs.Prelude.{Option, Some, None}
 use Prim.Native.Nat.{ℕ, ◌%◌, ◌≤◌}
-use mathlib.Core.Path.{◌≡◌, refl, sym, ap, ◌∙◌, subst}
+use mathlib.Core.Path.{◌≡◌, refl, sym, subst}
 use mathlib.Core.Bool.{Bool, true, false}
 use mathlib.Core.List.{List, map}
 use mathlib.Core.Option.{some}
@@ -21,8 +21,7 @@ use Rattle.content.specs.Content.{Content}
 use Rattle.content.proofs.Admits.{SequenceAdmitted}
 use Rattle.content.specs.ReadImage.{read_image}
 use Rattle.laws.proofs.Lists.{all_map}
-use Rattle.content.proofs.Codec.{some_inj}
-use Rattle.content.proofs.Images.{image_codec}
+use Rattle.content.proofs.Images.{image_codec, read_again}
 use Rattle.content.proofs.Sameness.{canonical}
 use Rattle.pattern.specs.Demand.{LoopAsRead}
 
@@ -47,6 +46,4 @@ loops_canonical qs h = all_map (All LoopAsRead) (map canon) (λ fs s. all_map Lo
 pub loops_read : (l : List ℕ) → Bytes l → (c : Content) → read_image l ≡ some c → All (All LoopAsRead) c.sequences
 unfolding canonical
 loops_read l h c e =
-    let (a, w) = image_codec.sound l c h e in
-    let r : canonical c ≡ c = some_inj (sym (image_codec.complete c a) ∙ ap read_image w ∙ e) in
-    subst (λ (d : Content). All (All LoopAsRead) d.sequences) r (loops_canonical c.sequences a.sequences.each)
+    subst (λ (d : Content). All (All LoopAsRead) d.sequences) (read_again l c h e) (loops_canonical c.sequences (image_codec.sound l c h e).0.sequences.each)

@@ -1,8 +1,8 @@
 -- Which calls are accepted, in terms of what the calls before them added: document 01, 'The hundred bytes', "A call is accepted when the
 -- answers above name no fault in it". A call's fault is the number of the first one named in it, and 0 where there is none; the numbers
 -- are those of 'Who can cause which answer'.
-use Rattle.std.specs.Prelude.{ℕ, ◌+◌, ◌≡◌, Bool, false, cond, ◌||◌, List, map, ltb, leb, length}
-use Rattle.errors.specs.Told.{gives, refuses, on_told}
+use Rattle.std.specs.Prelude.{ℕ, ◌+◌, ◌≡◌, Bool, false, cond, ◌||◌, List, ltb, leb, length}
+use Rattle.errors.specs.Told.{gives, refuses}
 use Rattle.frame.specs.declared.FrameBuilder.{FrameBuilder}
 use Rattle.frame.specs.Builder.{plain_frame}
 use Rattle.frame.specs.Frame.{bytes_of}
