@@ -224,7 +224,7 @@ fn heading(opening: Opening<'_>) -> [u8; 17]
 }
 
 // A step more, where there is room for it.
-#[tactic(auto, unfolding(crate::specs::State::pushed))]
+#[tactic(auto, unfolding(crate::specs::State::pushed), using(laws::proofs::Copies::over_fits))]
 pub fn push(session: &mut [u8], step: Step)
     ensures { session.new ≡ pushed session.old step }
 {
@@ -419,6 +419,7 @@ pub fn answer(session: &mut [u8], reply: Reply, buffer: &mut [u8]) -> Turn
 // An exchange more: the session is in this stage then, and a byte that came is the newest of the last three. Inlined, since each caller
 // knows the stage and whether a byte came.
 #[inline]
+#[tactic(auto, using(laws::proofs::Copies::over_fits))]
 fn go_on(session: &mut [u8], stage: Stage, came: Option<u8>)
     requires { going session.old }
     ensures { session.new ≡ moved session.old (stage_code stage) (option_to_list came) }

@@ -2,11 +2,15 @@
 -- Assumes nothing.
 use mathlib.Core.Path.{◌≡◌, refl, ap, sym, ◌∙◌}
 use mathlib.Core.List.{List, [], ◌∷◌, ◌++◌, append_assoc, append-nil}
-use Prim.Native.Nat.{ℕ, zero, suc, ◌+◌, ◌≤◌}
+use Prim.Native.Nat.{ℕ, zero, suc, ◌+◌, ◌-◌, ◌≤◌}
 use native.Mathlib.Omega.{arith}
 use lib.ListN.{length, take, drop, set, length-append, length-take, length-drop, drop_of_length-le}
 use lib.Seq.{take_all, take_at, drop_at, drop-drop}
-use Rattle.laws.specs.Copied.{copied, over, placed}
+use borrow.Author.Tests.{le-leb}
+use borrow.Rule.Slice.PartMut.{mid_of, post_of, put_mid}
+use borrow.Author.Rules.{part_to_end}
+use mathlib.Core.Bool.{Bool, cond}
+use Rattle.laws.specs.Copied.{copied, over, over_or_none, placed}
 
 -- what fits is copied whole, and all of a buffer that is as long
 pub copied_fits : (d xs : List ℕ) → length xs ≤ length d → copied d xs ≡ xs ++ drop (length xs) d
@@ -22,6 +26,24 @@ copied_over d xs at h =
     ap (λ (l : List ℕ). take at d ++ (l ++ drop (length xs) (drop at d))) (take_all (length (drop at d)) xs (simp length-drop (omega arith)))
     ∙ ap (λ (l : List ℕ). take at d ++ (xs ++ l)) (drop-drop (length xs) at d)
     ∙ sym (append_assoc (take at d) xs (drop (at + length xs) d))
+
+-- what fits from an index on is laid over the list
+pub over_fits : (l xs : List ℕ) (at : ℕ) → at + length xs ≤ length l → over_or_none l at xs ≡ over l at xs
+unfolding over_or_none
+over_fits l xs at h = ap (λ (t : Bool). cond t (over l at xs) l) (le-leb _ _ h)
+
+pub over_laid : (l xs : List ℕ) (at : ℕ) {m : List ℕ} → m ≡ over_or_none l at xs → at + length xs ≤ length l → m ≡ over l at xs
+over_laid l xs at e h = e ∙ over_fits l xs at h
+
+-- the same, where the part from the index on was lent to the copying
+pub put_over : (d xs : List ℕ) (at n : ℕ) → length d ≡ n → at + length xs ≤ n → put_mid at (n - at) d (copied (mid_of at (n - at) d) xs) ≡ over d at xs
+put_over d xs at n e h =
+    let m : mid_of at (n - at) d ≡ drop at d = ap (λ (k : ℕ). mid_of at (k - at) d) (sym e) ∙ part_to_end d at in
+    let p : post_of at (n - at) d ≡ [] = drop_of_length-le (drop at d) {i = n - at} (simp length-drop (omega arith)) in
+    ap (λ (l : List ℕ). take at d ++ (copied l xs ++ post_of at (n - at) d)) m
+    ∙ ap (λ (l : List ℕ). take at d ++ (copied (drop at d) xs ++ l)) p
+    ∙ ap (λ (l : List ℕ). take at d ++ l) (append-nil (copied (drop at d) xs))
+    ∙ copied_over d xs at (omega arith)
 
 -- laying bytes over a list keeps its length
 pub length_over : (l xs : List ℕ) (at : ℕ) → at + length xs ≤ length l → length (over l at xs) ≡ length l

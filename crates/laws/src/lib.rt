@@ -4,10 +4,10 @@
 // Proved: they leave and answer what specs/Whole.antt, Copied.antt and Lists.antt say, for any buffer and any bytes; `WholeOrNothing`.
 #![tactic(auto)]
 
-ghost use Rattle.std.specs.Prelude.{◌≡◌, ◌+◌, ◌≤◌, min, length, set, take};
+ghost use Rattle.std.specs.Prelude.{◌≡◌, min, length, set, take};
 ghost use Rattle.errors.specs.Told.{gives};
 ghost use Rattle.errors.specs.Number.{told};
-ghost use Rattle.laws.specs.Copied.{copied, over, placed};
+ghost use Rattle.laws.specs.Copied.{copied, over_or_none, placed};
 ghost use Rattle.laws.specs.Lists.{at};
 ghost use Rattle.laws.specs.Whole.{whole, whole_out, length_of};
 
@@ -43,12 +43,14 @@ pub fn copy_at(buffer: &mut [u8], at: usize, bytes: &[u8])
     }
 }
 
-// Lays bytes over the buffer's from an index on. That they fit is a premise, since no answer is left for bytes that do not; its callers prove it.
+// Lays all bytes over the buffer's from an index on, or none where they do not fit.
+#[tactic(auto, unfolding(crate::specs::Copied::over_or_none))]
 pub fn lay(buffer: &mut [u8], at: usize, bytes: &[u8])
-    requires { at + length bytes.now ≤ length buffer.old }
-    ensures { buffer.new ≡ over buffer.old at bytes.now }
+    ensures { buffer.new ≡ over_or_none buffer.old at bytes.now }
 {
-    buffer[at..at + bytes.len()].copy_from_slice(bytes);
+    if at <= buffer.len() && bytes.len() <= buffer.len() - at {
+        buffer[at..at + bytes.len()].copy_from_slice(bytes);
+    }
 }
 
 // Stores a byte at an index, if the buffer has one.

@@ -5,7 +5,7 @@
 #![tactic(auto)]
 
 ghost use Rattle.std.specs.Prelude.{◌≡◌, ℕ, List, map, ◌+◌, ◌*◌, ◌≤◌, ◌<◌, cond, ltb, leb, length, set, take};
-ghost use Rattle.laws.specs.Copied.{over};
+ghost use Rattle.laws.specs.Copied.{over_or_none};
 ghost use Rattle.laws.specs.Lists.{joined};
 ghost use Rattle.errors.specs.Number.{error_number, answer_number, handed_by, built_by};
 ghost use Rattle.snippet.specs.Snippet.{snippet_bytes};
@@ -262,10 +262,9 @@ trait Item: Copy {
         ensures value { result ≡ length (bytes_of self.now) }
         ensures upper_bound { result ≤ 96 };
 
-    // Lays its bytes over an image's from an index on, where they fit.
+    // Lays its bytes over an image's from an index on, or none where they do not fit.
     fn lay(&self, image: &mut [u8], at: usize)
-        requires { at + length (bytes_of self.now) ≤ length image.old }
-        ensures { image.new ≡ over image.old at (bytes_of self.now) };
+        ensures { image.new ≡ over_or_none image.old at (bytes_of self.now) };
 }
 
 impl Item for Snippet {

@@ -8,14 +8,14 @@ const POINT_SIZE: usize = 3;
 const FRAME_SIZE: usize = 8;
 
 /// Whether the points of all snippets are as told.
-pub fn points<F: Fn(usize, usize) -> u64>(told: &[u8], point: F) -> bool
+pub(crate) fn points<F: Fn(usize, usize) -> u64>(told: &[u8], point: F) -> bool
     requires { F.IsAlwaysCallable point }
 {
     items(told, POINT_SIZE, NO_POINT, point)
 }
 
 /// Whether the frames of all sequences are as told.
-pub fn frames<F: Fn(usize, usize) -> u64>(told: &[u8], frame: F) -> bool
+pub(crate) fn frames<F: Fn(usize, usize) -> u64>(told: &[u8], frame: F) -> bool
     requires { F.IsAlwaysCallable frame }
 {
     items(told, FRAME_SIZE, NO_FRAME, frame)

@@ -4,6 +4,8 @@ use ffi::*;
 use harness::records::COUNT;
 use harness::settings::Settings;
 use harness::{GAINS, TIMEBASES, compared, oracle, pages, raw, text};
+use std::fs;
+use std::path::Path;
 use std::ptr::{null, null_mut};
 use yambelugo::{Call, DrivingMode, OperationMode, PwlPoint};
 
@@ -251,6 +253,30 @@ fn nothing_is_required() {
         }
     }
     compared("contracts of exports", contracts, 50);
+}
+
+/// Nor does any other public function of a crate: one that asks something of its callers is private, or public within its crate.
+#[test]
+fn no_public_function_asks() {
+    let crates = Path::new(env!("CARGO_MANIFEST_DIR")).join("../../crates");
+    let mut functions = 0;
+    for name in fs::read_dir(&crates).unwrap() {
+        for file in fs::read_dir(name.unwrap().path().join("src")).unwrap() {
+            let text = fs::read_to_string(file.unwrap().path()).unwrap();
+            for function in text.split("pub fn ").skip(1) {
+                // the first brace is that of a clause, or the body's where there is none
+                let (head, _) = function.split_once('{').unwrap();
+                let body = function.find("\n{\n").into_iter().chain(function.find("\n    {\n")).min();
+                let clauses = match body {
+                    Some(body) if head.contains("\n") && head.contains(" ensures ") => &function[..body],
+                    _ => head,
+                };
+                assert!(!clauses.contains(" requires "), "{clauses}");
+                functions += 1;
+            }
+        }
+    }
+    assert!(300 < functions, "only {functions} public functions were found");
 }
 
 /// The functions that the wrapper calls.

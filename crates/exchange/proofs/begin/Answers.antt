@@ -5,7 +5,7 @@ use mathlib.Core.List.{append-nil}
 use lib.ListN.{length-append, length-drop, drop_of_length-le}
 use borrow.Author.Tests.{eq-eqb}
 use Rattle.laws.specs.Copied.{over}
-use Rattle.laws.proofs.Copies.{over_behind}
+use Rattle.laws.proofs.Copies.{over_behind, over_laid}
 use Rattle.exchange.specs.State.{begun_with, head_of, begun_bytes, begun_in}
 use Rattle.exchange.proofs.begin.Goals as goal
 
@@ -21,10 +21,10 @@ returns-in-Some c =
     let l = c.in-Some.ensures.cases.long in
     let i : length front ≡ 117 = simp length-append (omega arith) in
     let j : length (front ++ b.«record») ≡ 155 = simp length-append (omega arith) in
-    let p = c.lay.ensures ∙ (λ t. over (c.in-Some.ensures.cases.same t) 0 (c.heading.ensures t)) in
-    let q = c.lay-in-Some.ensures ∙ ap (λ (x : List ℕ). over x 17 b.image) p ∙ over_behind (head_of b 0) (drop 17 st) b.image 17 refl in
-    let r = c.lay-in-Some-2.ensures ∙ ap (λ (x : List ℕ). over x 117 b.«record») q ∙ over_behind front (drop (length b.image) (drop 17 st)) b.«record» 117 i in
-    c.lay-in-Some-3.ensures
+    let p = over_laid _ _ _ c.lay.ensures (omega arith) ∙ (λ t. over (c.in-Some.ensures.cases.same t) 0 (c.heading.ensures t)) in
+    let q = over_laid _ _ _ c.lay-in-Some.ensures (omega arith) ∙ ap (λ (x : List ℕ). over x 17 b.image) p ∙ over_behind (head_of b 0) (drop 17 st) b.image 17 refl in
+    let r = over_laid _ _ _ c.lay-in-Some-2.ensures (omega arith) ∙ ap (λ (x : List ℕ). over x 117 b.«record») q ∙ over_behind front (drop (length b.image) (drop 17 st)) b.«record» 117 i in
+    over_laid _ _ _ c.lay-in-Some-3.ensures (omega arith)
     ∙ ap (λ (x : List ℕ). over x 155 none) r
     ∙ over_behind (front ++ b.«record») behind none 155 j
     ∙ ap (λ (x : List ℕ). front ++ b.«record» ++ none ++ x) (drop_of_length-le behind {i = 125} (simp length-drop (omega arith)))

@@ -1,6 +1,7 @@
 -- The bytes of the length, as std gives them, are those of the definition.
-use Rattle.std.proofs.Common.{◌≡◌, ap, ◌∙◌, ◌/◌, ◌%◌, [], ◌∷◌, slice_set, arith}
+use Rattle.std.proofs.Common.{◌≡◌, ap, ◌∙◌, ◌/◌, ◌%◌, [], ◌∷◌, length, slice_set, arith}
 use Rattle.laws.specs.Copied.{over}
+use Rattle.laws.proofs.Copies.{over_laid}
 use Rattle.exchange.proofs.heading.Goals as goal
 
 pub returns : goal.returns
@@ -16,4 +17,4 @@ returns c =
     let h : n / 72057594037927936 % 256 ≡ n / 256 / 256 / 256 / 256 / 256 / 256 / 256 % 256 = omega arith in
     let m = w ∙ (λ i. n % 256 ∷ n / 256 % 256 ∷ b i ∷ d i ∷ e i ∷ f i ∷ g i ∷ h i ∷ []) in
     ap (λ l. slice_set l 16 o.purpose)
-    (c.lay.ensures ∙ (λ i. over (o.address ∷ c.into.ensures i ∷ 0 ∷ 0 ∷ 0 ∷ 0 ∷ 0 ∷ o.reads ∷ 0 ∷ 0 ∷ 0 ∷ 0 ∷ 0 ∷ 0 ∷ 0 ∷ 0 ∷ 0 ∷ []) 8 (m i)))
+    (over_laid _ _ _ c.lay.ensures (omega (arith, ap length w)) ∙ (λ i. over (o.address ∷ c.into.ensures i ∷ 0 ∷ 0 ∷ 0 ∷ 0 ∷ 0 ∷ o.reads ∷ 0 ∷ 0 ∷ 0 ∷ 0 ∷ 0 ∷ 0 ∷ 0 ∷ 0 ∷ 0 ∷ []) 8 (m i)))

@@ -12,7 +12,7 @@ use lib.ListN.{length, take, get_or, replicate, length-append, length-take, leng
 use Rattle.laws.specs.Copied.{over}
 use Rattle.frame.specs.declared.FrameBuilder.{FrameBuilder}
 use Rattle.frame.specs.Word.{frame_word}
-use Rattle.laws.proofs.Copies.{over_at}
+use Rattle.laws.proofs.Copies.{over_at, over_laid}
 use Rattle.readings.proofs.Words.{word_length, words_length}
 use Rattle.readings.proofs.frame_bytes.Goals as goal
 
@@ -48,4 +48,4 @@ words_more fs d i n l six m h g e k p =
 pub loop-i-preserved : goal.loop-i-preserved
 loop-i-preserved c =
     let six = c.low_bytes-six.ensures ∙ ap (low_bytes 6) c.word.ensures.value in
-    words_more c.args.frames.now _ c.loop-i.i 576 _ _ _ c.loop-i-test.true (omega arith) c.loop-i.invariant six c.lay.ensures
+    words_more c.args.frames.now _ c.loop-i.i 576 _ _ _ c.loop-i-test.true (omega arith) c.loop-i.invariant six (over_laid _ _ _ c.lay.ensures (omega arith))

@@ -9,7 +9,7 @@ use Prim.Native.Nat.{◌≤◌}
 use native.Mathlib.Omega.{arith}
 use lib.ListN.{length, drop, length-append, length-drop, drop_of_length-le}
 use Rattle.laws.specs.Copied.{over}
-use Rattle.laws.proofs.Copies.{over_behind}
+use Rattle.laws.proofs.Copies.{over_behind, over_laid}
 use Rattle.readings.proofs.lay.Goals as goal
 
 laid : (l a b c d m₁ m₂ m₃ m₄ : List ℕ) → length l ≡ 703 → length a ≡ 96 → length b ≡ 15 → length c ≡ 576 → length d ≡ 16
@@ -32,5 +32,5 @@ returns c =
     let s = c.args.lists.now.snippets in
     let q = c.args.lists.now.sequences in
     laid (replicate 703 0) s.items s.ends c.frame_bytes.result q.ends _ _ _ _ refl (search rules) (search rules) (search rules) (search rules)
-    c.lay.ensures c.lay-2.ensures c.lay-3.ensures c.lay-4.ensures
+    (over_laid _ _ _ c.lay.ensures (search rules)) (over_laid _ _ _ c.lay-2.ensures (search rules)) (over_laid _ _ _ c.lay-3.ensures (search rules)) (over_laid _ _ _ c.lay-4.ensures (search rules))
     ∙ ap (λ (x : List ℕ). s.items ++ s.ends ++ x ++ q.ends) (c.frame_bytes.ensures ∙ ap (λ l. padded 576 0 (words_bytes l)) c.as_slice.ensures.value)
