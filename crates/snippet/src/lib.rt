@@ -108,6 +108,14 @@ impl Snippet {
         laws::shown(&self.points, self.len)
     }
 
+    // All that the array holds, in use or not.
+    pub fn all_points(&self) -> [PwlPoint; MAX_POINTS_PER_SNIPPET]
+        ensures { result ≡ self.now.points }
+    {
+        let Snippet { points, .. } = self;
+        *points
+    }
+
     pub fn byte_len(&self) -> usize
         ensures value { result ≡ length (snippet_bytes self.now) }
         ensures upper_bound { result ≤ 16 }
