@@ -73,6 +73,8 @@ fn is_above(bytes: &[u8], s: u8) -> bool
 
 // ---- the items, put behind those that are kept
 
+// Inlined, since only in `merge` it is seen that the pool and the image do not overlap: else the archive needs `memmove`.
+#[inline(always)]
 fn keep_snippets(pool: &mut Pool<MAX_SNIPPETS>, image: &[u8], s: u8) -> Result<(), Error>
     ensures { Keeps 15 6 (items_at image.now 0 s) pool.old (answer_number result) pool.new }
 {
