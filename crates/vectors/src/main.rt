@@ -10,6 +10,7 @@ mod tally;
 use std::io;
 use std::io::{BufRead, BufReader};
 use tally::Tally;
+use vectors_bytes::Fields;
 
 // How many lines that do not agree are told.
 const TOLD: u64 = 10;
@@ -35,9 +36,10 @@ fn run(rt: &(impl Input + Print + AllocGlobal)) -> io::Result<()> {
         kind: None,
         all: Tally::default(),
     };
+    let mut fields = Fields::new(rt.alloc());
     for line in BufReader::new(rt.alloc(), rt.reader())?.split(rt.alloc(), b'\n') {
         let line = line?;
-        replay.read(rt, &line)?;
+        replay.read(rt, &mut fields, &line)?;
     }
     replay.end_kind(rt)?;
     println!(rt; "all: {}", replay.all)
@@ -45,14 +47,14 @@ fn run(rt: &(impl Input + Print + AllocGlobal)) -> io::Result<()> {
 
 impl Replay {
     // A line: nothing, a heading or a case.
-    fn read(&mut self, rt: &(impl Print + AllocGlobal), line: &[u8]) -> io::Result<()> {
+    fn read(&mut self, rt: &impl Print, fields: &mut Fields, line: &[u8]) -> io::Result<()> {
         self.line = self.line.saturating_add(1);
         match line {
             [] | [b'#', ..] => Ok(()),
             [b'=', _, heading @ ..] if line.len() <= LINE => self.begin_kind(rt, heading),
             [b'=', ..] => self.begin_kind(rt, b""),
             _ => {
-                let agrees = line.len() <= LINE && cases::agrees(rt.alloc(), line)?;
+                let agrees = line.len() <= LINE && cases::agrees(fields, line)?;
                 self.judge(rt, agrees)
             }
         }

@@ -1,5 +1,5 @@
 // A line of hexadecimal fields to bytes.
-use std::alloc::{AllocError, Global};
+use std::alloc::{AllocError, AllocFailed, Global};
 
 /// Why a line was not read.
 #[derive(Clone, Copy, Debug, PartialEq, Eq)]
@@ -14,27 +14,73 @@ impl From<AllocError> for ReadError {
     }
 }
 
-/// The fields of a line, which blanks part.
-pub fn read(alloc: Global, line: &[u8]) -> Result<Vec<Vec<u8>>, ReadError> {
-    line.split(|c| *c == b' ')
-        .map(|text| -> Result<Vec<u8>, ReadError> { field(alloc, text) })
-        .try_collect(alloc)
+impl<T: Drop> From<AllocFailed<T>> for ReadError {
+    fn from(_e: AllocFailed<T>) -> ReadError {
+        ReadError::OutOfMemory
+    }
 }
 
-/// The bytes of a field, two digits each; a `-` is passed over, so that `-` alone is a field of none.
-fn field(alloc: Global, text: &[u8]) -> Result<Vec<u8>, ReadError> {
-    let digits: Vec<u8> = text
-        .iter()
-        .filter(|c| **c != b'-')
-        .map(|c| -> Result<u8, ReadError> { digit(*c) })
-        .try_collect(alloc)?;
-    digits.chunks(2).map(byte).try_collect(alloc)
+/// The fields of a line: their bytes, one field behind the other, and where each ends. It is read into for one line after the other, so that
+/// most lines take no memory.
+#[derive(Drop)]
+pub struct Fields {
+    bytes: Vec<u8>,
+    ends: Vec<usize>,
 }
 
-fn byte(digits: &[u8]) -> Result<u8, ReadError> {
-    match digits {
-        [upper, lower] => Ok((upper << 4) | lower),
-        _ => Err(ReadError::NotHexadecimal),
+impl Fields {
+    pub fn new(alloc: Global) -> Fields {
+        Fields {
+            bytes: Vec::new(alloc),
+            ends: Vec::new(alloc),
+        }
+    }
+
+    /// Reads a line's fields, which blanks part, in place of those before.
+    pub fn read(&mut self, line: &[u8]) -> Result<(), ReadError> {
+        self.bytes.clear();
+        self.ends.clear();
+        for text in line.split(|c| *c == b' ') {
+            read_field(text, &mut self.bytes)?;
+            self.ends.push(self.bytes.len())?;
+        }
+        Ok(())
+    }
+
+    pub fn len(&self) -> usize {
+        self.ends.len()
+    }
+
+    /// The k-th field, from 0; no bytes where there is none.
+    pub fn get(&self, k: usize) -> &[u8] {
+        let start = match k.checked_sub(1) {
+            None => 0,
+            Some(before) => self.end(before),
+        };
+        self.bytes.get(start..self.end(k)).unwrap_or(&[])
+    }
+
+    fn end(&self, k: usize) -> usize {
+        self.ends.get(k).copied().unwrap_or(0)
+    }
+}
+
+/// Puts the bytes of a field behind the others, two digits each; a `-` is passed over, so that `-` alone is a field of none.
+fn read_field(text: &[u8], bytes: &mut Vec<u8>) -> Result<(), ReadError> {
+    let mut upper = None;
+    for c in text.iter().filter(|c| **c != b'-') {
+        let digit = digit(*c)?;
+        upper = match upper {
+            None => Some(digit),
+            Some(upper) => {
+                bytes.push((upper << 4) | digit)?;
+                None
+            }
+        };
+    }
+    match upper {
+        None => Ok(()),
+        Some(_) => Err(ReadError::NotHexadecimal),
     }
 }
 

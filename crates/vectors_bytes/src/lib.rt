@@ -4,7 +4,7 @@
 
 mod hex;
 
-pub use hex::{ReadError, read};
+pub use hex::{Fields, ReadError};
 
 /// How a lent byte is filled.
 pub const MARKER: u8 = 0xA5;

@@ -5,10 +5,13 @@
 use chip::Chip;
 use exchange::Exchange;
 use laws::byte_at;
-use vectors_bytes::{MARKER, number};
+use vectors_bytes::{Fields, MARKER, number};
 
 // The number of this kind of case.
 const CUT: u64 = 0x32;
+
+// Where a case's runs begin among its fields.
+const FIRST_RUN: usize = 5;
 
 // How a run ends: with the upload, with a session that is dropped, or with a failure of this code.
 #[derive(Clone, Copy)]
@@ -29,19 +32,16 @@ struct Uploads<'a> {
 }
 
 /// Whether these fields are a case of uploads that are cut, and the chip holds after each run what the case tells.
-pub fn agrees(fields: &[Vec<u8>]) -> bool {
-    let [kind, record, lock_after, image, start, runs @ ..] = fields else {
+pub fn agrees(fields: &Fields) -> bool {
+    if number(fields.get(0)) != CUT || fields.len() <= FIRST_RUN {
         return false;
-    };
-    let Some(mut uploads) = Uploads::told(record, byte_at(lock_after, 0), image, start) else {
-        return false;
-    };
-    for run in runs {
-        if !uploads.agree(run) {
-            return false;
-        }
     }
-    number(kind) == CUT && !runs.is_empty()
+    let lock_after = byte_at(fields.get(2), 0);
+    let Some(mut uploads) = Uploads::told(fields.get(1), lock_after, fields.get(3), fields.get(4))
+    else {
+        return false;
+    };
+    (FIRST_RUN..fields.len()).all(|k| uploads.agree(fields.get(k)))
 }
 
 impl Uploads<'_> {

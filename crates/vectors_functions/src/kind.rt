@@ -33,6 +33,16 @@ pub enum Kind {
     Merge,
 }
 
+impl Kind {
+    /// Whether a case of this kind is also run by value (`vectors_values`), besides `Reads`.
+    pub fn has_values(self) -> bool {
+        match self {
+            Kind::Answers | Kind::Assemble | Kind::AssembleStrict => true,
+            _ => false,
+        }
+    }
+}
+
 impl TryFrom<u8> for Kind {
     type Error = UnknownKind;
 

@@ -9,7 +9,10 @@ mod walk;
 
 use kind::Kind;
 use laws::byte_at;
-use vectors_bytes::{MARKER, number};
+use vectors_bytes::{Fields, MARKER, number};
+
+// Most cases leave no more bytes than these: a longer slice is lent, and filled with the marker, only to the others.
+const SHORT: usize = 128;
 
 // What a case gives and tells: the arguments, the list of calls or the image, the word answered, and what is left in the slice lent.
 // A case of two images merged has the first in the place of the arguments; one of an image read has other fields in all places: `Reads`.
@@ -22,17 +25,17 @@ struct Case<'a> {
 }
 
 /// Whether these fields are a case that drives no chip, and it agrees.
-pub fn agrees(fields: &[Vec<u8>]) -> bool {
-    let [kind, arguments, input, word, out] = fields else {
+pub fn agrees(fields: &Fields) -> bool {
+    if fields.len() != 5 {
         return false;
-    };
+    }
     let case = Case {
-        arguments,
-        input,
-        word,
-        out,
+        arguments: fields.get(1),
+        input: fields.get(2),
+        word: fields.get(3),
+        out: fields.get(4),
     };
-    vectors_bytes::kind(kind).is_some_and(|kind| case.agrees(kind))
+    vectors_bytes::kind(fields.get(0)).is_some_and(|kind| case.agrees(kind))
 }
 
 impl Case<'_> {
@@ -42,7 +45,7 @@ impl Case<'_> {
             Kind::Reads => self.reads().exported() && self.reads().by_value(),
             _ => {
                 self.leaves(|out| self.exported(kind, out))
-                    && self.leaves(|out| self.by_value(kind, out))
+                    && (!kind.has_values() || self.leaves(|out| self.by_value(kind, out)))
             }
         }
     }
@@ -51,7 +54,16 @@ impl Case<'_> {
     fn leaves<F: FnOnce(&mut [u8]) -> u64>(&self, call: F) -> bool
         requires { F.IsAlwaysCallable call }
     {
-        let mut lent = [MARKER; 4096];
+        if self.out.len() <= SHORT {
+            self.leaves_in(&mut [MARKER; SHORT], call)
+        } else {
+            self.leaves_in(&mut [MARKER; 4096], call)
+        }
+    }
+
+    fn leaves_in<F: FnOnce(&mut [u8]) -> u64>(&self, lent: &mut [u8], call: F) -> bool
+        requires { F.IsAlwaysCallable call }
+    {
         let Some(out) = lent.get_mut(..self.out.len()) else {
             return false;
         };
@@ -97,7 +109,7 @@ impl Case<'_> {
         }
     }
 
-    // The same by value, where there is such a way; else once more by the exported function.
+    // The same by value, where there is such a way (`has_values`).
     fn by_value(&self, kind: Kind, out: &mut [u8]) -> u64 {
         match kind {
             Kind::Answers => vectors_values::answers(self.input, out),

@@ -9,7 +9,7 @@ mod told;
 use exchange::Reply;
 use kind::Kind;
 use laws::byte_at;
-use vectors_bytes::{MARKER, number};
+use vectors_bytes::{Fields, MARKER, number};
 
 // More exchanges than a session makes.
 const MOST: u64 = 128;
@@ -30,34 +30,22 @@ struct Case<'a> {
 }
 
 /// Whether these fields are a case that drives the chip, and it agrees.
-pub fn agrees(fields: &[Vec<u8>]) -> bool {
-    let [
-        kind,
-        record,
-        arguments,
-        input,
-        refusal,
-        exchanges,
-        told,
-        buffer,
-        after,
-        result,
-    ] = fields
-    else {
+pub fn agrees(fields: &Fields) -> bool {
+    if fields.len() != 10 {
         return false;
-    };
+    }
     let case = Case {
-        record,
-        arguments,
-        input,
-        refusal,
-        exchanges,
-        told,
-        buffer,
-        after,
-        result,
+        record: fields.get(1),
+        arguments: fields.get(2),
+        input: fields.get(3),
+        refusal: fields.get(4),
+        exchanges: fields.get(5),
+        told: fields.get(6),
+        buffer: fields.get(7),
+        after: fields.get(8),
+        result: fields.get(9),
     };
-    vectors_bytes::kind(kind).is_some_and(|kind| case.agrees(kind))
+    vectors_bytes::kind(fields.get(0)).is_some_and(|kind| case.agrees(kind))
 }
 
 impl Case<'_> {
@@ -67,14 +55,16 @@ impl Case<'_> {
         let mut record = [MARKER; da728x::RECORD_SIZE];
         laws::copy_into(&mut record, self.record);
         let before = record;
-        let after = if self.after.is_empty() {
-            before.as_slice()
-        } else {
-            self.after
+        // one that the case leaves out is the record given, whatever its length, or that of the marker
+        let after = match (self.after, self.record) {
+            ([], []) => before.as_slice(),
+            ([], given) => given,
+            (after, _) => after,
         };
         let mut session = [MARKER; exchange::SESSION_SIZE];
         let refusal = self.begin(kind, &mut record, &mut session);
-        if u64::from(refusal) != number(self.refusal) {
+        // the first byte alone, whatever stands behind it
+        if refusal != byte_at(self.refusal, 0) {
             return false;
         }
         let ended = if refusal == 0 {
