@@ -6,9 +6,9 @@ use vectors_bytes::{Fields, ReadError};
 pub fn agrees(fields: &mut Fields, line: &[u8]) -> Result<bool, AllocError> {
     match fields.read(line) {
         Ok(()) => Ok(
-            vectors_functions::agrees(fields)
-                || vectors_sessions::agrees(fields)
-                || vectors_cuts::agrees(fields),
+            vectors_functions::line_agrees(fields)
+                || vectors_sessions::line_agrees(fields)
+                || vectors_cuts::line_agrees(fields),
         ),
         Err(ReadError::NotHexadecimal) => Ok(false),
         Err(ReadError::OutOfMemory) => Err(AllocError),

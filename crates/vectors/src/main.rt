@@ -6,6 +6,8 @@
 
 mod cases;
 mod tally;
+#[cfg(test)]
+mod tests;
 
 use std::io;
 use std::io::{BufRead, BufReader};

@@ -1,4 +1,7 @@
 // A line of hexadecimal fields to bytes.
+ghost use Rattle.std.specs.Prelude.{◌≡◌, vec_len, length, eqb, IsOk, IfOk};
+ghost use Rattle.std.specs.List.{slice_split};
+
 use std::alloc::{AllocError, AllocFailed, Global};
 
 /// Why a line was not read.
@@ -37,7 +40,9 @@ impl Fields {
     }
 
     /// Reads a line's fields, which blanks part, in place of those before.
-    pub fn read(&mut self, line: &[u8]) -> Result<(), ReadError> {
+    pub fn read(&mut self, line: &[u8]) -> Result<(), ReadError>
+        ensures { IsOk result → vec_len self.new.ends ≡ length (slice_split (λ c. eqb c 32) line.now) }
+    {
         self.bytes.clear();
         self.ends.clear();
         for text in line.split(|c| *c == b' ') {
@@ -47,7 +52,9 @@ impl Fields {
         Ok(())
     }
 
-    pub fn len(&self) -> usize {
+    pub fn len(&self) -> usize
+        ensures { result ≡ vec_len self.now.ends }
+    {
         self.ends.len()
     }
 
@@ -63,6 +70,19 @@ impl Fields {
     fn end(&self, k: usize) -> usize {
         self.ends.get(k).copied().unwrap_or(0)
     }
+}
+
+/// The fields of one line, each by itself.
+pub fn read(alloc: Global, line: &[u8]) -> Result<Vec<Vec<u8>>, ReadError>
+    ensures { IfOk result (λ fields. vec_len fields ≡ length (slice_split (λ c. eqb c 32) line.now)) }
+{
+    let mut fields = Fields::new(alloc);
+    fields.read(line)?;
+    let mut copies = Vec::new(alloc);
+    for k in 0..fields.len() {
+        copies.push(fields.get(k).to_vec(alloc)?)?;
+    }
+    Ok(copies)
 }
 
 /// Puts the bytes of a field behind the others, two digits each; a `-` is passed over, so that `-` alone is a field of none.

@@ -1,10 +1,10 @@
 // What the replay of the stored sample stands on: lines of hexadecimal fields, numbers and kinds in bytes, and how lent bytes are filled.
-// Proved: every function is safe and returns.
+// Proved: every function is safe and returns; a line has as many fields as there are parts between its blanks.
 #![tactic(auto)]
 
 mod hex;
 
-pub use hex::{Fields, ReadError};
+pub use hex::{Fields, ReadError, read};
 
 /// How a lent byte is filled.
 pub const MARKER: u8 = 0xA5;

@@ -1,6 +1,8 @@
 // The cases of the stored sample that upload and are cut, replayed on the proved chip, which is asked what it holds after each run.
-// Proved: every function is safe and returns.
+// Proved: every function is safe and returns; `agrees` finds that only more than five fields do.
 #![tactic(auto)]
+
+ghost use Rattle.std.specs.Prelude.{◌<◌, length, IsTrue};
 
 use chip::Chip;
 use exchange::Exchange;
@@ -32,7 +34,25 @@ struct Uploads<'a> {
 }
 
 /// Whether these fields are a case of uploads that are cut, and the chip holds after each run what the case tells.
-pub fn agrees(fields: &Fields) -> bool {
+pub fn agrees(fields: &[Vec<u8>]) -> bool
+    ensures { IsTrue result → 5 < length fields.now }
+{
+    let [kind, record, lock_after, image, start, runs @ ..] = fields else {
+        return false;
+    };
+    let Some(mut uploads) = Uploads::told(record, byte_at(lock_after, 0), image, start) else {
+        return false;
+    };
+    for run in runs {
+        if !uploads.agree(run) {
+            return false;
+        }
+    }
+    number(kind) == CUT && !runs.is_empty()
+}
+
+/// The same of the fields of a line.
+pub fn line_agrees(fields: &Fields) -> bool {
     if number(fields.get(0)) != CUT || fields.len() <= FIRST_RUN {
         return false;
     }

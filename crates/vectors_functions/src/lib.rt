@@ -1,8 +1,10 @@
 // The cases of the stored sample whose function drives no chip: it is called on what the case gives, and what it answers and leaves is
 // compared with what the case tells. A list of calls that adds to a memory is also run, and an image also read, by value
 // (`vectors_values`): such a case agrees only if both ways do.
-// Proved: every function is safe and returns.
+// Proved: every function is safe and returns; `agrees` finds that only five fields do.
 #![tactic(auto)]
+
+ghost use Rattle.std.specs.Prelude.{◌≡◌, length, IsTrue};
 
 mod kind;
 mod walk;
@@ -25,7 +27,23 @@ struct Case<'a> {
 }
 
 /// Whether these fields are a case that drives no chip, and it agrees.
-pub fn agrees(fields: &Fields) -> bool {
+pub fn agrees(fields: &[Vec<u8>]) -> bool
+    ensures { IsTrue result → length fields.now ≡ 5 }
+{
+    let [kind, arguments, input, word, out] = fields else {
+        return false;
+    };
+    let case = Case {
+        arguments,
+        input,
+        word,
+        out,
+    };
+    vectors_bytes::kind(kind).is_some_and(|kind| case.agrees(kind))
+}
+
+/// The same of the fields of a line.
+pub fn line_agrees(fields: &Fields) -> bool {
     if fields.len() != 5 {
         return false;
     }

@@ -1,7 +1,9 @@
 // The cases of the stored sample that drive the chip: a session is begun, run on the exchanges that the case tells, and asked for what
 // it leaves.
-// Proved: every function is safe and returns.
+// Proved: every function is safe and returns; `agrees` finds that only ten fields do.
 #![tactic(auto)]
+
+ghost use Rattle.std.specs.Prelude.{◌≡◌, length, IsTrue};
 
 mod kind;
 mod told;
@@ -30,7 +32,40 @@ struct Case<'a> {
 }
 
 /// Whether these fields are a case that drives the chip, and it agrees.
-pub fn agrees(fields: &Fields) -> bool {
+pub fn agrees(fields: &[Vec<u8>]) -> bool
+    ensures { IsTrue result → length fields.now ≡ 10 }
+{
+    let [
+        kind,
+        record,
+        arguments,
+        input,
+        refusal,
+        exchanges,
+        told,
+        buffer,
+        after,
+        result,
+    ] = fields
+    else {
+        return false;
+    };
+    let case = Case {
+        record,
+        arguments,
+        input,
+        refusal,
+        exchanges,
+        told,
+        buffer,
+        after,
+        result,
+    };
+    vectors_bytes::kind(kind).is_some_and(|kind| case.agrees(kind))
+}
+
+/// The same of the fields of a line.
+pub fn line_agrees(fields: &Fields) -> bool {
     if fields.len() != 10 {
         return false;
     }
