@@ -71,6 +71,12 @@ fn fields_of_a_line(rt: HostRuntime) -> Result<(), Fail> {
     assert_eq!(rt; fields[2].as_slice(), [0x0A, 0x1B, 0xF0].as_slice());
     assert_eq!(rt; fields[3].as_slice(), [0].as_slice());
     assert_eq!(rt; fields[4].len(), 0);
+    let mut of_line = Fields::new(rt.alloc());
+    let refused = of_line.read(b"AA BB CC-D 00".as_slice());
+    assert_eq!(rt; refused.err(), Some(ReadError::NotHexadecimal));
+    assert_eq!(rt; of_line.len(), 2, "the fields before the faulty one");
+    assert_eq!(rt; of_line.get(1), [0xBB].as_slice());
+    assert_eq!(rt; of_line.get(2).len(), 0);
     Ok(())
 }
 
@@ -95,7 +101,7 @@ fn cases_judged_either_way(rt: HostRuntime) -> Result<(), Fail> {
         (b"2F - 1000 - 000B - - - - -".as_slice(), BY_NONE),
         (b"2F 00 1000 - 0B - - - - -".as_slice(), BY_NONE),
         (CUT, BY_CUTS),
-        // no run
+        // no run: without its last two fields, of 210 digits each
         (&CUT[..CUT.len() - 2 * 211], BY_NONE),
     ] {
         let fields = vectors_bytes::read(rt.alloc(), line)?;

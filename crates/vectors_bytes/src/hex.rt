@@ -1,6 +1,6 @@
 // A line of hexadecimal fields to bytes.
-ghost use Rattle.std.specs.Prelude.{◌≡◌, vec_len, length, eqb, IsOk, IfOk};
-ghost use Rattle.std.specs.List.{slice_split};
+ghost use Rattle.std.specs.Prelude.{◌≡◌, vec_len, length, IsOk, IfOk};
+ghost use Rattle.vectors_bytes.specs.Lines.{parts};
 
 use std::alloc::{AllocError, AllocFailed, Global};
 
@@ -39,9 +39,9 @@ impl Fields {
         }
     }
 
-    /// Reads a line's fields, which blanks part, in place of those before.
+    /// Reads a line's fields, which blanks part, in place of those before. After an error it has the fields that stand before the faulty one.
     pub fn read(&mut self, line: &[u8]) -> Result<(), ReadError>
-        ensures { IsOk result → vec_len self.new.ends ≡ length (slice_split (λ c. eqb c 32) line.now) }
+        ensures { IsOk result → vec_len self.new.ends ≡ length (parts line.now) }
     {
         self.bytes.clear();
         self.ends.clear();
@@ -72,9 +72,9 @@ impl Fields {
     }
 }
 
-/// The fields of one line, each by itself.
+/// The fields of one line, each by itself: as many as blanks part, or none after an error.
 pub fn read(alloc: Global, line: &[u8]) -> Result<Vec<Vec<u8>>, ReadError>
-    ensures { IfOk result (λ fields. vec_len fields ≡ length (slice_split (λ c. eqb c 32) line.now)) }
+    ensures { IfOk result (λ fields. vec_len fields ≡ length (parts line.now)) }
 {
     let mut fields = Fields::new(alloc);
     fields.read(line)?;

@@ -1,5 +1,5 @@
 // What the replay of the stored sample stands on: lines of hexadecimal fields, numbers and kinds in bytes, and how lent bytes are filled.
-// Proved: every function is safe and returns; a line has as many fields as there are parts between its blanks.
+// Proved: every function is safe and returns; of a line that is read there are as many fields as blanks part (specs/Lines.antt).
 #![tactic(auto)]
 
 mod hex;

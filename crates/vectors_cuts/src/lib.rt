@@ -1,5 +1,5 @@
 // The cases of the stored sample that upload and are cut, replayed on the proved chip, which is asked what it holds after each run.
-// Proved: every function is safe and returns; `agrees` finds that only more than five fields do.
+// Proved: every function is safe and returns; `agrees` says yes to more than five fields only.
 #![tactic(auto)]
 
 ghost use Rattle.std.specs.Prelude.{◌<◌, length, IsTrue};
@@ -51,7 +51,7 @@ pub fn agrees(fields: &[Vec<u8>]) -> bool
     number(kind) == CUT && !runs.is_empty()
 }
 
-/// The same of the fields of a line.
+/// Whether the fields of a line are such a case.
 pub fn line_agrees(fields: &Fields) -> bool {
     if number(fields.get(0)) != CUT || fields.len() <= FIRST_RUN {
         return false;

@@ -1,7 +1,7 @@
 // The cases of the stored sample whose function drives no chip: it is called on what the case gives, and what it answers and leaves is
 // compared with what the case tells. A list of calls that adds to a memory is also run, and an image also read, by value
 // (`vectors_values`): such a case agrees only if both ways do.
-// Proved: every function is safe and returns; `agrees` finds that only five fields do.
+// Proved: every function is safe and returns; `agrees` says yes to five fields only.
 #![tactic(auto)]
 
 ghost use Rattle.std.specs.Prelude.{◌≡◌, length, IsTrue};
@@ -42,7 +42,7 @@ pub fn agrees(fields: &[Vec<u8>]) -> bool
     vectors_bytes::kind(kind).is_some_and(|kind| case.agrees(kind))
 }
 
-/// The same of the fields of a line.
+/// Whether the fields of a line are such a case.
 pub fn line_agrees(fields: &Fields) -> bool {
     if fields.len() != 5 {
         return false;

@@ -1,6 +1,6 @@
 // The cases of the stored sample that drive the chip: a session is begun, run on the exchanges that the case tells, and asked for what
 // it leaves.
-// Proved: every function is safe and returns; `agrees` finds that only ten fields do.
+// Proved: every function is safe and returns; `agrees` says yes to ten fields only.
 #![tactic(auto)]
 
 ghost use Rattle.std.specs.Prelude.{◌≡◌, length, IsTrue};
@@ -64,7 +64,7 @@ pub fn agrees(fields: &[Vec<u8>]) -> bool
     vectors_bytes::kind(kind).is_some_and(|kind| case.agrees(kind))
 }
 
-/// The same of the fields of a line.
+/// Whether the fields of a line are such a case.
 pub fn line_agrees(fields: &Fields) -> bool {
     if fields.len() != 10 {
         return false;

@@ -1,0 +1,2 @@
+-- The definition that the contracts of `vectors_bytes` cite.
+pub mod Lines
